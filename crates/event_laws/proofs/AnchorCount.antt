@@ -1,10 +1,5 @@
 -- A forest has no more anchors than tokens.
-use Rattle.std.proofs.Common.{◌≡◌, ℕ, ◌+◌, ◌≤◌, List, [], ◌∷◌, ◌++◌, length, Option, option_map, encode_utf8_all, arith, length-append}
-use Rattle.saphyr_scanner.specs.Grammar.Forest.{Tag, Properties, Forest}
-use Rattle.saphyr_scanner.specs.Grammar.Tokens.{Kind, anchor_token, tag_token}
-use Rattle.saphyr_scanner.specs.Grammar.TokenGrammar.{AreBoth, Yields}
-use Rattle.event_laws.specs.Anchors.{anchor_of, one_more_anchor, anchors}
-use Rattle.event_laws.specs.Preorder.{Part, parts}
+use Rattle.event_laws.proofs.Common.{◌≡◌, ℕ, ◌+◌, ◌≤◌, List, [], ◌∷◌, ◌++◌, length, Option, option_map, encode_utf8_all, arith, length-append, Tag, Properties, Forest, Kind, anchor_token, tag_token, AreBoth, Yields, anchor_of, one_more_anchor, anchors, Part, parts}
 use Rattle.event_laws.proofs.AddsUp.{Collection, opening, closing, opening_part, closing_part, of_forest}
 
 one_more_sum : (o : Option (List ℕ)) (a b : ℕ) → one_more_anchor o (a + b) ≡ one_more_anchor o a + b

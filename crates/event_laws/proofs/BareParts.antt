@@ -1,8 +1,5 @@
 -- Parts without aliases, anchors and tags: whatever comes before them, they have events.
-use Rattle.std.proofs.Common.{◌≡◌, List, [], ◌∷◌, None, refl, arith}
-use Rattle.saphyr_scanner.specs.Grammar.Forest.{no_properties}
-use Rattle.event_laws.specs.Anchors.{anchor_of, anchors}
-use Rattle.event_laws.specs.Preorder.{Part, Reference, Leaf, OpenSequence, OpenMapping}
+use Rattle.event_laws.proofs.Common.{◌≡◌, List, [], ◌∷◌, None, refl, arith, no_properties, anchor_of, anchors, Part, Reference, Leaf, OpenSequence, OpenMapping}
 
 abbrev pub IsBarePart : Part → Type 0
 IsBarePart (Reference _) = ⊥

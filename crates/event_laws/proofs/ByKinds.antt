@@ -1,23 +1,8 @@
 -- The events, but for their spans, are decided by the kinds of the tokens.
-use Rattle.std.specs.Prelude.{is_some}
-use Rattle.std.proofs.Common.{◌≡◌, ◌≢◌, ℕ, zero, suc, ◌<◌, Bool, false, List, [], ◌∷◌, ◌++◌, map, Option, None, Result, Ok, refl, sym, ap, ◌∙◌, arith, ◌⊎◌, inl, inr}
-use Rattle.std.proofs.lemmas.List.{map-append}
-use Rattle.saphyr_scalar.specs.declared.scalar.fault.Refusal.{Refusal}
+use Rattle.event_laws.proofs.Common.{is_some, ◌≡◌, ◌≢◌, ℕ, zero, suc, ◌<◌, Bool, false, List, [], ◌∷◌, ◌++◌, map, Option, None, Result, Ok, refl, sym, ap, ◌∙◌, arith, ◌⊎◌, inl, inr, map-append, Refusal, Kind, Piece, Remaining, State, Happening, DocumentMarker, GivesFirst, events_behind_marker, Machine, Emitted, Answer, answer_of_step, remaining_answer, machine_size, at_start, keeping_tags, to_come, GivesExactly, EmitTheSame, kinds, answer_of_tokens, marker_token, unroll, over, shrinks_at, no_span}
 use Rattle.saphyr_scanner.specs.Grammar.Tokens as tokens
-use Rattle.saphyr_scanner.specs.Grammar.Tokens.{Kind}
-use Rattle.saphyr_scanner.specs.Views.Tokens.{Piece, Remaining}
-use Rattle.saphyr_machine.specs.declared.state.State.{State}
 use Rattle.saphyr_machine.specs.declared.state.State.TheVariants as state
-use Rattle.saphyr_machine.specs.Events.{Happening}
-use Rattle.event_laws.specs.Premises.{DocumentMarker, GivesFirst, events_behind_marker}
-use Rattle.saphyr_machine.specs.Steps.Machine.{Machine, Emitted}
 use Rattle.saphyr_machine.specs.Steps.Expected.{event_step, event_step_at}
-use Rattle.saphyr_machine.specs.Answer.{Answer, answer_of_step, remaining_answer, machine_size}
-use Rattle.saphyr_machine.specs.Cursor.{at_start, keeping_tags, to_come}
-use Rattle.event_laws.specs.Exactly.{GivesExactly, EmitTheSame, kinds, answer_of_tokens}
-use Rattle.event_laws.specs.More.{marker_token}
-use Rattle.saphyr_machine.proofs.Unroll.{unroll, over, shrinks_at}
-use Rattle.event_laws.specs.EventsTaken.{no_span}
 use Rattle.event_laws.proofs.Placeless.{placeless_piece, placeless_state, placeless, Same, steps_same}
 use Rattle.event_laws.proofs.Promises.CommonBeginnings.{ended}
 use Rattle.event_laws.proofs.Promises.ClosedTokens.{closed_tokens}

@@ -1,20 +1,10 @@
 -- Whatever is open can be closed: a shortest completion of each state, whose events depend on nothing before them, and
 -- have its tokens.
-use Rattle.std.proofs.Common.{◌≡◌, ◌≢◌, List, [], ◌∷◌, ◌++◌, Some, refl, inl, inr, arith}
-use Rattle.saphyr_scalar.specs.declared.scalar.position.Span.{Span}
-use Rattle.saphyr_scalar.specs.declared.scalar.style.ScalarStyle.TheVariants.{Plain}
+use Rattle.event_laws.proofs.Common.{◌≡◌, ◌≢◌, List, [], ◌∷◌, ◌++◌, Some, refl, inl, inr, arith, Span, Plain, NoNode, NoPair, Kind, StreamStart, StreamEnd, BlockEnd, BlockEntry, FlowSequenceEnd, FlowMappingEnd, Value, scalar_token, Piece, InFlow, InBlock, InBlockMapping, State, BelongsToNone, IsOf, HaveTokens, no_span, unplaced_events, unplaced_tokens, Part, OpenStream, CloseStream, CloseDocument, Leaf, CloseSequence, CloseMapping, Happening, empty_scalar}
 use Rattle.saphyr_scanner.specs.Grammar.Forest as forest
-use Rattle.saphyr_scanner.specs.Grammar.Forest.{NoNode, NoPair}
-use Rattle.saphyr_scanner.specs.Grammar.Tokens.{Kind, StreamStart, StreamEnd, BlockEnd, BlockEntry, FlowSequenceEnd, FlowMappingEnd, Value, scalar_token}
-use Rattle.saphyr_scanner.specs.Views.Tokens.{Piece}
-use Rattle.saphyr_scanner.specs.Grammar.TokenGrammar.{InFlow, InBlock, InBlockMapping}
-use Rattle.saphyr_machine.specs.declared.state.State.{State}
 use Rattle.saphyr_machine.specs.declared.state.State.TheVariants as state
 use Rattle.event_laws.proofs.BareParts.{AreBare}
-use Rattle.event_laws.specs.EventsTaken.{BelongsToNone, IsOf, HaveTokens, no_span, unplaced_events, unplaced_tokens}
 use Rattle.event_laws.specs.EventsTaken as taking
-use Rattle.event_laws.specs.Preorder.{Part, OpenStream, CloseStream, CloseDocument, Leaf, CloseSequence, CloseMapping}
-use Rattle.saphyr_machine.specs.Events.{Happening, empty_scalar}
 use Rattle.saphyr_machine.specs.Events as events
 use Rattle.event_laws.proofs.Emitted.Emitting.{Memory}
 use Rattle.event_laws.proofs.Remembering.{after, event_in, events_in}

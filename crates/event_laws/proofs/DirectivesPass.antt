@@ -1,14 +1,6 @@
 -- Directives that go together are passed, and the tokens before and after documents.
-use Rattle.std.proofs.Common.{◌≡◌, ◌↔◌, Bool, true, false, List, [], ◌∷◌, ◌++◌, map, encode_utf8_all, Result, Ok, Err, refl, ap, inl, inr}
-use Rattle.std.specs.Prelude.{if◌then◌else◌}
-use Rattle.saphyr_scalar.specs.declared.scalar.position.Marker.{Marker}
-use Rattle.saphyr_scalar.specs.declared.scalar.fault.Refusal.{Refusal}
+use Rattle.event_laws.proofs.Common.{◌≡◌, ◌↔◌, Bool, true, false, List, [], ◌∷◌, ◌++◌, map, encode_utf8_all, Result, Ok, Err, refl, ap, inl, inr, if◌then◌else◌, Marker, Refusal, handle_bytes, Directive, Version, TagPrefix, Reserved, GoesWith, GoesWithAll, AreCompatible, Kind, DocumentStart, directive_token, AreMarks, AreEndsAndMarks, State, Machine, with_meaning, is_listed, with_name}
 use Rattle.saphyr_scalar.specs.declared.scalar.fault.FaultText.TheVariants as fault
-use Rattle.saphyr_scanner.specs.Grammar.Forest.{handle_bytes, Directive, Version, TagPrefix, Reserved, GoesWith, GoesWithAll, AreCompatible}
-use Rattle.saphyr_scanner.specs.Grammar.Tokens.{Kind, DocumentStart, directive_token}
-use Rattle.saphyr_scanner.specs.Grammar.TokenGrammar.{AreMarks, AreEndsAndMarks}
-use Rattle.saphyr_machine.specs.declared.state.State.{State}
-use Rattle.saphyr_machine.specs.Steps.Machine.{Machine, with_meaning, is_listed, with_name}
 use Rattle.saphyr_machine.specs.Steps.Documents.{is_mark, is_end_or_mark, unpassed_token_from, unpassed_token, Declared, none_declared, directives_from, directives}
 use Rattle.event_laws.proofs.Emitted.Emitting.{SpansByKinds, Memory, dressed, at}
 use Rattle.event_laws.proofs.Remembering.{declaring}

@@ -1,8 +1,6 @@
 -- The step by step search for an anchor finds the latest one.
 use Rattle.std.proofs.Common.{◌≡◌, ◌≢◌, ℕ, suc, Bool, true, false, List, [], ◌∷◌, ◌++◌, Option, Some, None, if◌then◌else◌, refl, sym, ap, arith}
-use Rattle.std.proofs.lemmas.Slice.Eq.{bytes_eq-Decides}
-use Rattle.event_laws.specs.Preorder.{Part, opens_document}
-use Rattle.event_laws.specs.Anchors.{anchor_of, anchors, is_named, latest_id, AreWithout, IsLatest}
+use Rattle.event_laws.proofs.Common.{bytes_eq-Decides, Part, opens_document, anchor_of, anchors, is_named, latest_id, AreWithout, IsLatest}
 
 -- a part that opens a document has no anchor
 opens_none : (p : Part) (name : List ℕ) → anchor_of p ≡ Some name → opens_document p ≡ false

@@ -1,3 +1,4 @@
+pub mod Common
 pub mod Promises
 pub mod Emitted
 pub mod Remembering

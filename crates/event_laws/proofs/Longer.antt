@@ -1,20 +1,8 @@
 -- More tokens after those of a machine change nothing of what a step gives.
-use Rattle.std.proofs.Common.{◌≡◌, ◌≢◌, ℕ, ◌+◌, ◌≤◌, List, [], ◌∷◌, ◌++◌, Option, Result, Ok, Err, refl, ap, ◌∙◌, ◌⊎◌, inl, inr, arith}
-use Rattle.saphyr_scalar.specs.declared.scalar.position.Marker.{Marker}
-use Rattle.saphyr_scalar.specs.declared.scalar.fault.Refusal.{Refusal}
+use Rattle.event_laws.proofs.Common.{◌≡◌, ◌≢◌, ℕ, ◌+◌, ◌≤◌, List, [], ◌∷◌, ◌++◌, Option, Result, Ok, Err, refl, ap, ◌∙◌, ◌⊎◌, inl, inr, arith, Marker, Refusal, Kind, Piece, Remaining, State, Happening, DocumentMarker, Starts, Ends, marker_event, Machine, Emitted, ending_refusal, with_pieces, event_step_at, with_more, marker_token, Awaits, IsMarkers, Beside, Behind, Expected, Left, With, EmitsAlike, IsBetweenDocuments, PassedAll, steps_beside}
 use Rattle.saphyr_scanner.specs.Grammar.Tokens as tokens
-use Rattle.saphyr_scanner.specs.Grammar.Tokens.{Kind}
-use Rattle.saphyr_scanner.specs.Views.Tokens.{Piece, Remaining}
-use Rattle.saphyr_machine.specs.declared.state.State.{State}
 use Rattle.saphyr_machine.specs.declared.state.State.TheVariants as state
-use Rattle.saphyr_machine.specs.Events.{Happening}
-use Rattle.event_laws.specs.Premises.{DocumentMarker, Starts, Ends, marker_event}
-use Rattle.saphyr_machine.specs.Steps.Machine.{Machine, Emitted, ending_refusal, with_pieces}
 use Rattle.saphyr_machine.specs.Steps.Documents.{unpassed_token, implicit_start, explicit_start}
-use Rattle.saphyr_machine.specs.Steps.Expected.{event_step_at}
-use Rattle.event_laws.specs.More.{with_more, marker_token}
-use Rattle.saphyr_machine.proofs.Beside.Machines.{Awaits, IsMarkers, Beside, Behind, Expected, Left, With, EmitsAlike}
-use Rattle.saphyr_machine.proofs.Beside.Documents.{IsBetweenDocuments, PassedAll, steps_beside}
 use Rattle.event_laws.proofs.Maps.{no_place, becomes, emits_so, stay, still_expected, leaves}
 
 -- ## More tokens

@@ -1,11 +1,6 @@
 -- Two machines side by side, of which the second is made from the first by putting its places somewhere else.
-use Rattle.std.proofs.Common.{◌≡◌, Bool, List, [], ◌∷◌, map, ℕ, refl, ap, arith}
-use Rattle.saphyr_scalar.specs.declared.scalar.position.Marker.{Marker}
-use Rattle.saphyr_scanner.specs.Views.Tokens.{Remaining}
-use Rattle.saphyr_machine.specs.declared.state.State.{State}
+use Rattle.event_laws.proofs.Common.{◌≡◌, Bool, List, [], ◌∷◌, map, ℕ, refl, ap, arith, Marker, Remaining, State, Machine, Anchors, Names, Emitted, Beside, Expected, AllExpected, With, Alike}
 use Rattle.saphyr_machine.specs.declared.state.State.TheVariants as state
-use Rattle.saphyr_machine.specs.Steps.Machine.{Machine, Anchors, Names, Emitted}
-use Rattle.saphyr_machine.proofs.Beside.Machines.{Beside, Expected, AllExpected, With, Alike}
 
 abbrev pub no_place : Marker
 no_place = record { index = 0; line = 0; col = 0 }

@@ -1,24 +1,10 @@
 -- Which token a node begins with, and which may come after it.
-use Rattle.std.proofs.Common.{◌≡◌, ◌≢◌, ℕ, Bool, true, false, arith, List, [], ◌∷◌, ◌++◌, Option, option_map, refl, ◌∙◌, ◌⊎◌, inl, inr, append_assoc}
+use Rattle.event_laws.proofs.Common.{◌≡◌, ◌≢◌, ℕ, Bool, true, false, arith, List, [], ◌∷◌, ◌++◌, Option, option_map, refl, ◌∙◌, ◌⊎◌, inl, inr, append_assoc, Span, Tag, NonSpecific, HasOne, HasProperty, Properties, Node, Nodes, NoNode, MoreNodes, Kind, alias_token, anchor_token, tag_token, scalar_token, InFlow, InBlock, InBlockMapping, AllowsBlock, IsInBlockMapping, AreBoth, YieldsOptional, YieldsNode, Piece, NodeContext, Flow, Block, BlockMapping, State, End, Part, Leaf, node_parts, Machine, emit, empty_scalar, node_without_content, node_content_at, event_step}
 use lib.Utf8.{encode}
-use Rattle.saphyr_scalar.specs.declared.scalar.position.Span.{Span}
-use Rattle.saphyr_scanner.specs.Grammar.Forest.{Tag, NonSpecific, HasOne, HasProperty, Properties, Node, Nodes, NoNode, MoreNodes}
 use Rattle.saphyr_scanner.specs.Grammar.Forest as forest
 use Rattle.saphyr_scanner.specs.Grammar.Tokens as tokens
-use Rattle.saphyr_scanner.specs.Grammar.Tokens.{Kind, alias_token, anchor_token, tag_token, scalar_token}
 use Rattle.saphyr_scanner.specs.Grammar.TokenGrammar as grammar
-use Rattle.saphyr_scanner.specs.Grammar.TokenGrammar.{InFlow, InBlock, InBlockMapping, AllowsBlock, IsInBlockMapping, AreBoth, YieldsOptional, YieldsNode}
-use Rattle.saphyr_scanner.specs.Views.Tokens.{Piece}
-use Rattle.saphyr_machine.specs.declared.context.NodeContext.{NodeContext}
-use Rattle.saphyr_machine.specs.declared.context.NodeContext.TheVariants.{Flow, Block, BlockMapping}
-use Rattle.saphyr_machine.specs.declared.state.State.{State}
-use Rattle.saphyr_machine.specs.declared.state.State.TheVariants.{End}
-use Rattle.event_laws.specs.Preorder.{Part, Leaf, node_parts}
-use Rattle.saphyr_machine.specs.Steps.Machine.{Machine, emit}
-use Rattle.saphyr_machine.specs.Events.{empty_scalar}
 use Rattle.saphyr_machine.specs.Steps.Nodes as steps
-use Rattle.saphyr_machine.specs.Steps.Nodes.{node_without_content, node_content_at}
-use Rattle.saphyr_machine.specs.Steps.Expected.{event_step}
 use Rattle.event_laws.proofs.Emitted.Emitting.{SpansByKinds, Memory, at}
 use Rattle.event_laws.proofs.Remembering.{after_node, SaysParts, EmitsParts, plainly}
 use Rattle.event_laws.proofs.Emitted.Nodes.{next_node, IsContentKind}

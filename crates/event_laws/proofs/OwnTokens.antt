@@ -1,13 +1,5 @@
 -- The tokens that a step uses: some are passed, and the others are its event's own.
-use Rattle.std.proofs.Common.{◌≡◌, List, [], ◌∷◌, ◌++◌, None, refl, ◌⊎◌, arith}
-use Rattle.saphyr_scalar.specs.declared.scalar.position.Marker.{Marker}
-use Rattle.saphyr_scalar.specs.declared.scalar.position.Span.{Span}
-use Rattle.saphyr_scalar.specs.declared.scalar.style.ScalarStyle.TheVariants.{Plain}
-use Rattle.saphyr_scanner.specs.Grammar.Tokens.{Kind, BlockEntry}
-use Rattle.saphyr_scanner.specs.Views.Tokens.{Piece}
-use Rattle.saphyr_machine.specs.Events.{Happening, Scalar}
-use Rattle.saphyr_machine.specs.Steps.Nodes.{NodeProperties}
-use Rattle.event_laws.specs.EventsTaken.{BelongsToNone, IsAnchorKind, IsTagKind, ArePropertyTokens, SpansAll, AreContentTokens, BeginsEntries, IsOf, HaveTokens}
+use Rattle.event_laws.proofs.Common.{◌≡◌, List, [], ◌∷◌, ◌++◌, None, refl, ◌⊎◌, arith, Marker, Span, Plain, Kind, BlockEntry, Piece, Happening, Scalar, NodeProperties, BelongsToNone, IsAnchorKind, IsTagKind, ArePropertyTokens, SpansAll, AreContentTokens, BeginsEntries, IsOf, HaveTokens}
 use Rattle.event_laws.specs.EventsTaken as taking
 
 abbrev pub ArePassed : List Piece → Type 0

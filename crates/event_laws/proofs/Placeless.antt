@@ -1,17 +1,7 @@
 -- Where tokens are changes nothing of the events but their spans.
-use Rattle.std.proofs.Common.{◌≡◌, ◌≢◌, map, None, Result, Ok, Err, refl, ap, inl, inr, arith}
-use Rattle.saphyr_scalar.specs.declared.scalar.fault.Refusal.{Refusal}
-use Rattle.saphyr_scanner.specs.Views.Tokens.{Piece, Remaining}
-use Rattle.saphyr_machine.specs.declared.state.State.{State}
+use Rattle.event_laws.proofs.Common.{◌≡◌, ◌≢◌, map, None, Result, Ok, Err, refl, ap, inl, inr, arith, Refusal, Piece, Remaining, State, Machine, Emitted, LeavesEnd, Happening, goes_on, no_span, Beside, Left, EmitsAlike, behind_by, steps_alike}
 use Rattle.saphyr_machine.specs.declared.state.State.TheVariants as state
-use Rattle.saphyr_machine.specs.Steps.Machine.{Machine, Emitted}
 use Rattle.saphyr_machine.specs.Steps.Expected.{event_step, event_step_at}
-use Rattle.saphyr_machine.specs.Calls.{LeavesEnd}
-use Rattle.saphyr_machine.specs.Events.{Happening}
-use Rattle.saphyr_machine.proofs.Calls.Handing.{goes_on}
-use Rattle.event_laws.specs.EventsTaken.{no_span}
-use Rattle.saphyr_machine.proofs.Beside.Machines.{Beside, Left, EmitsAlike, behind_by}
-use Rattle.saphyr_machine.proofs.Beside.Documents.{steps_alike}
 use Rattle.event_laws.proofs.Maps.{no_place, placed, expected, puts, becomes, emits_so}
 
 -- ## Machines without places

@@ -1,21 +1,10 @@
 -- A refusal has the place of a token, or is the one that ends the tokens.
-use Rattle.std.proofs.Common.{◌≡◌, ℕ, suc, Bool, false, List, [], ◌∷◌, Option, Some, None, refl, arith, ◌⊎◌, inl, inr}
-use Rattle.saphyr_scalar.specs.declared.scalar.position.Marker.{Marker}
-use Rattle.saphyr_scalar.specs.declared.scalar.fault.Refusal.{Refusal}
+use Rattle.event_laws.proofs.Common.{◌≡◌, ℕ, suc, Bool, false, List, [], ◌∷◌, Option, Some, None, refl, arith, ◌⊎◌, inl, inr, Marker, Refusal, Kind, Piece, Remaining, AreAtPlaces, IsPlaceOf, Machine, ending_refusal, at_start, keeping_tags, to_come, HasPlaceIn, is_end, Walk, between, Resumes, IsFailed, runs}
 use Rattle.saphyr_scalar.specs.Views.Cursor as scalar
 use Rattle.saphyr_scanner.specs.Grammar.Tokens as tokens
-use Rattle.saphyr_scanner.specs.Grammar.Tokens.{Kind}
-use Rattle.saphyr_scanner.specs.Views.Tokens.{Piece, Remaining}
-use Rattle.saphyr_scanner.specs.AtPlaces.{AreAtPlaces}
 use Rattle.saphyr_scanner.specs.TokensTaken as taken
-use Rattle.saphyr_scanner.specs.TokensTaken.{IsPlaceOf}
 use Rattle.saphyr_machine.specs.declared.state.State.TheVariants as state
-use Rattle.saphyr_machine.specs.Steps.Machine.{Machine, ending_refusal}
 use Rattle.saphyr_machine.specs.Answer.{Ending, remaining_answer, machine_size}
-use Rattle.saphyr_machine.specs.Cursor.{at_start, keeping_tags, to_come}
-use Rattle.event_laws.specs.EventsTaken.{HasPlaceIn}
-use Rattle.saphyr_machine.proofs.Beside.Machines.{is_end}
-use Rattle.saphyr_machine.proofs.Walk.{Walk, between, Resumes, IsFailed, runs}
 
 -- a refusal with such a place
 abbrev pub IsRefusedAt : (Marker → Type 0) → Option Refusal → Type 0

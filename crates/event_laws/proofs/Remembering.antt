@@ -1,21 +1,7 @@
 -- The events of parts as a machine tells them that remembers anchors and prefixes.
-use Rattle.std.proofs.Common.{◌≡◌, ◌≢◌, ℕ, List, [], ◌∷◌, Option, Some, None, option_map, encode_utf8_all, codes, sym, ap, ◌∙◌, arith}
-use Rattle.std.specs.Prelude.{if◌then◌else◌}
-use Rattle.std.specs.Option.{option_or}
-use Rattle.saphyr_scalar.specs.declared.scalar.position.Span.{Span}
-use Rattle.saphyr_scanner.specs.Grammar.Forest.{handle_bytes, Tag, NonSpecific, Verbatim, Shorthand, Directive, Version, TagPrefix, Reserved, Node, Nodes, NoNode, MoreNodes, Pairs, NoPair, MorePairs}
+use Rattle.event_laws.proofs.Common.{◌≡◌, ◌≢◌, ℕ, List, [], ◌∷◌, Option, Some, None, option_map, encode_utf8_all, codes, sym, ap, ◌∙◌, arith, if◌then◌else◌, option_or, Span, handle_bytes, Tag, NonSpecific, Verbatim, Shorthand, Directive, Version, TagPrefix, Reserved, Node, Nodes, NoNode, MoreNodes, Pairs, NoPair, MorePairs, Kind, State, End, Part, OpenStream, CloseStream, OpenDocument, CloseDocument, Reference, Leaf, OpenSequence, CloseSequence, OpenMapping, CloseMapping, first_and_others, default_prefix, Names, meaning, with_meaning, without_ids, next_id, with_anchor, Machine, emit, event_step, remaining_answer, GivesExactly}
 use Rattle.saphyr_scanner.specs.Grammar.Forest as forest
-use Rattle.saphyr_scanner.specs.Grammar.Tokens.{Kind}
-use Rattle.saphyr_machine.specs.declared.state.State.{State}
-use Rattle.saphyr_machine.specs.declared.state.State.TheVariants.{End}
-use Rattle.event_laws.specs.Preorder.{Part, OpenStream, CloseStream, OpenDocument, CloseDocument, Reference, Leaf, OpenSequence, CloseSequence, OpenMapping, CloseMapping}
 use Rattle.saphyr_machine.specs.Events.{Happening, ResolvedTag, StreamStart, StreamEnd, DocumentStart, DocumentEnd, Alias, Scalar, SequenceStart, SequenceEnd, MappingStart, MappingEnd}
-use Rattle.event_laws.specs.ForestEvents.{first_and_others}
-use Rattle.event_laws.specs.TagResolution.{default_prefix}
-use Rattle.saphyr_machine.specs.Steps.Machine.{Names, meaning, with_meaning, without_ids, next_id, with_anchor, Machine, emit}
-use Rattle.saphyr_machine.specs.Steps.Expected.{event_step}
-use Rattle.saphyr_machine.specs.Answer.{remaining_answer}
-use Rattle.event_laws.specs.Exactly.{GivesExactly}
 use Rattle.event_laws.proofs.Emitted.Emitting.{SpansByKinds, Memory, at, emits}
 
 -- ## What is remembered

@@ -1,22 +1,11 @@
 -- Whether prefixes of tags are kept counts at the end of a document alone: every other step leaves the same with
 -- each value.
-use Rattle.std.proofs.Common.{◌≡◌, ◌≢◌, Bool, Option, Result, Ok, Err, refl, ap, ◌∙◌, inl, inr, arith}
-use Rattle.saphyr_scalar.specs.declared.scalar.position.Span.{Span}
-use Rattle.saphyr_scalar.specs.declared.scalar.fault.Refusal.{Refusal}
-use Rattle.saphyr_scanner.specs.Grammar.Tokens.{Kind}
-use Rattle.saphyr_scanner.specs.Views.Tokens.{Piece, Remaining}
-use Rattle.saphyr_machine.specs.declared.state.State.{State}
+use Rattle.event_laws.proofs.Common.{◌≡◌, ◌≢◌, Bool, Option, Result, Ok, Err, refl, ap, ◌∙◌, inl, inr, arith, Span, Refusal, Kind, Piece, Remaining, State, Happening, ◌>>=◌, Machine, Emitted, ending_refusal, EventCursor, Kept, keeping_tags, Advances, Beside, Left, EmitsAlike, behind_by, steps_alike}
 use Rattle.saphyr_machine.specs.declared.state.State.TheVariants as state
 use Rattle.saphyr_machine.specs.Events as events
-use Rattle.saphyr_machine.specs.Events.{Happening}
-use Rattle.saphyr_machine.specs.Steps.Machine.{◌>>=◌, Machine, Emitted, ending_refusal}
 use Rattle.saphyr_machine.specs.Steps.Documents as document
 use Rattle.saphyr_machine.specs.Steps.Expected.{event_step, event_step_at}
-use Rattle.saphyr_machine.specs.Cursor.{EventCursor, Kept, keeping_tags}
-use Rattle.saphyr_machine.specs.Calls.{Advances}
 use Rattle.event_laws.specs.Settings.{with_keep_tags, with_setting}
-use Rattle.saphyr_machine.proofs.Beside.Machines.{Beside, Left, EmitsAlike, behind_by}
-use Rattle.saphyr_machine.proofs.Beside.Documents.{steps_alike}
 use Rattle.event_laws.proofs.Maps.{no_place, becomes, emits_so, stay, still_expected, leaves}
 
 -- ## All steps

@@ -1,27 +1,13 @@
 -- The events of any tokens are a beginning of some forest's.
-use Rattle.event_laws.specs.EventsTaken.{BeginsSomeForest, HaveTokens, IsAllUnless, IsCut, unplaced_events, unplaced_tokens}
+use Rattle.event_laws.proofs.Common.{BeginsSomeForest, HaveTokens, IsAllUnless, IsCut, unplaced_events, unplaced_tokens, ◌≡◌, ◌≢◌, ℕ, zero, suc, ◌+◌, ◌<◌, ◌≤◌, ◌^◌, Bool, List, [], ◌∷◌, ◌++◌, length, Option, Some, Result, Ok, Err, refl, sym, ap, ◌∙◌, inl, inr, append_assoc, append-nil, arith, length-append, Refusal, Kind, Piece, Remaining, State, one_more_anchor, anchor_of, anchors, Part, Happening, kinds, Machine, Emitted, Answer, empty_answer, with_first_event, ending_of, fault_alone, answer_of_step, remaining_answer, machine_size, at_start, keeping_tags, to_come, AreWellFormed, unroll, over, shrinks_at}
 use Rattle.event_laws.specs.EventsTaken as taking
 use Rattle.event_laws.proofs.OwnTokens.{own_more}
-use Rattle.std.proofs.Common.{◌≡◌, ◌≢◌, ℕ, zero, suc, ◌+◌, ◌<◌, ◌≤◌, ◌^◌, Bool, List, [], ◌∷◌, ◌++◌, length, Option, Some, Result, Ok, Err, refl, sym, ap, ◌∙◌, inl, inr, append_assoc, append-nil, arith, length-append}
-use Rattle.saphyr_scalar.specs.declared.scalar.fault.Refusal.{Refusal}
-use Rattle.saphyr_scanner.specs.Grammar.Tokens.{Kind}
-use Rattle.saphyr_scanner.specs.Views.Tokens.{Piece, Remaining}
-use Rattle.saphyr_machine.specs.declared.state.State.{State}
 use Rattle.saphyr_machine.specs.declared.state.State.TheVariants as state
-use Rattle.event_laws.specs.Anchors.{one_more_anchor, anchor_of, anchors}
-use Rattle.event_laws.specs.Preorder.{Part}
-use Rattle.saphyr_machine.specs.Events.{Happening}
-use Rattle.event_laws.specs.Exactly.{kinds}
-use Rattle.saphyr_machine.specs.Steps.Machine.{Machine, Emitted}
 use Rattle.saphyr_machine.specs.Steps.Expected.{event_step, event_step_at}
-use Rattle.saphyr_machine.specs.Answer.{Answer, empty_answer, with_first_event, ending_of, fault_alone, answer_of_step, remaining_answer, machine_size}
-use Rattle.saphyr_machine.specs.Cursor.{at_start, keeping_tags, to_come}
-use Rattle.event_laws.specs.WellFormed.{AreWellFormed}
 use Rattle.event_laws.proofs.Emitted.Emitting.{Memory}
 use Rattle.event_laws.proofs.Remembering.{after, event_in, events_in}
 use Rattle.event_laws.proofs.MemoryFits.{same_events}
 use Rattle.event_laws.proofs.Promises.Forests.{documents_within, all_compatible, at_first, fits_start}
-use Rattle.saphyr_machine.proofs.Unroll.{unroll, over, shrinks_at}
 use Rattle.event_laws.proofs.Turned.Following.{Behind, Outside, IsAlive, IsOutside, IsInsideDocument}
 use Rattle.event_laws.proofs.Turned.Turning.{machine, memory, Goes, weaker, kinds_append}
 use Rattle.event_laws.proofs.Turned.Entries.{Wanted, WantedIn, Turns}

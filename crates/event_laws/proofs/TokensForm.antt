@@ -1,20 +1,11 @@
 -- Tokens that are taken from a text are well formed: what they hold is in UTF-8, and handles are handles.
-use Rattle.std.proofs.Common.{◌≡◌, ℕ, List, [], ◌∷◌, Option, sym, ap, ◌∙◌, ◌⊎◌, inl, inr, arith}
+use Rattle.event_laws.proofs.Common.{◌≡◌, ℕ, List, [], ◌∷◌, Option, sym, ap, ◌∙◌, ◌⊎◌, inl, inr, arith, Marker, Span, Refusal, ScalarStyle, Handle, Primary, Named, handle_text, handle_bytes, Tag, NonSpecific, Verbatim, Shorthand, Kind, tag_token, Piece, Collections, Surroundings, surroundings_in, IsScalarToken, IsToken, open_behind, AreTokens, IsEncoded, IsWellFormed, MayStandBefore, AreWellFormed}
 use Rattle.std.specs.Prelude.{codes, encode_utf8_all}
-use Rattle.saphyr_scalar.specs.declared.scalar.position.Marker.{Marker}
-use Rattle.saphyr_scalar.specs.declared.scalar.position.Span.{Span}
-use Rattle.saphyr_scalar.specs.declared.scalar.fault.Refusal.{Refusal}
-use Rattle.saphyr_scalar.specs.declared.scalar.style.ScalarStyle.{ScalarStyle}
 use Rattle.saphyr_scalar.specs.declared.scalar.style.ScalarStyle.TheVariants as style
 use Rattle.saphyr_scalar.specs.Views.Cursor.{Cursor}
 use Rattle.saphyr_scalar.specs.Spelling.Tag.{IsHandleText, IsTagText}
-use Rattle.saphyr_scanner.specs.Grammar.Forest.{Handle, Primary, Named, handle_text, handle_bytes, Tag, NonSpecific, Verbatim, Shorthand}
 use Rattle.saphyr_scanner.specs.Grammar.Tokens as tokens
-use Rattle.saphyr_scanner.specs.Grammar.Tokens.{Kind, tag_token}
-use Rattle.saphyr_scanner.specs.Views.Tokens.{Piece}
-use Rattle.saphyr_scanner.specs.TokensTaken.{Collections, Surroundings, surroundings_in, IsScalarToken, IsToken, open_behind, AreTokens}
 use Rattle.event_laws.proofs.Refusing.{IsLastOr, AreEnded}
-use Rattle.event_laws.specs.WellFormed.{IsEncoded, IsWellFormed, MayStandBefore, AreWellFormed}
 use Rattle.saphyr_scalar.proofs.Properties.TagsRead.{mark_bytes}
 
 -- ## Handles and tags

@@ -1,6 +1,5 @@
 -- The first character of a text, and sets that all characters of a text are in.
-use Rattle.std.proofs.Common.{◌≡◌, ℕ, Bool, List, [], ◌∷◌, ◌++◌, sym, ap, slice_index}
-use Rattle.saphyr_scalar.specs.Spelling.Tag.{AreIn}
+use Rattle.scalar_laws.proofs.Common.{◌≡◌, ℕ, Bool, List, [], ◌∷◌, ◌++◌, sym, ap, slice_index, AreIn}
 
 abbrev pub behind_first : List ℕ → List ℕ
 behind_first [] = []

@@ -1,3 +1,4 @@
+pub mod Common
 pub mod Beginnings
 pub mod Directives
 pub mod Breaks

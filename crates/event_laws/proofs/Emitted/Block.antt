@@ -1,14 +1,7 @@
 -- The entries of block collections are told.
-use Rattle.std.proofs.Common.{◌≡◌, List, ◌∷◌, ◌++◌, refl, subst, sym, inl, inr, arith}
-use Rattle.saphyr_scanner.specs.Grammar.Forest.{Node}
+use Rattle.event_laws.proofs.Common.{◌≡◌, List, ◌∷◌, ◌++◌, refl, subst, sym, inl, inr, arith, Node, Kind, BlockEntry, Key, Value, InBlockMapping, YieldsMarkedKey, YieldsMarkedValue, YieldsBlockPair, BeginsWithValue, YieldsNode, State, Part, node_parts, emit, empty_scalar}
 use Rattle.saphyr_scanner.specs.Grammar.Forest as forest
-use Rattle.saphyr_scanner.specs.Grammar.Tokens.{Kind, BlockEntry, Key, Value}
-use Rattle.saphyr_scanner.specs.Grammar.TokenGrammar.{InBlockMapping, YieldsMarkedKey, YieldsMarkedValue, YieldsBlockPair, BeginsWithValue, YieldsNode}
-use Rattle.saphyr_machine.specs.declared.state.State.{State}
 use Rattle.saphyr_machine.specs.declared.state.State.TheVariants as state
-use Rattle.event_laws.specs.Preorder.{Part, node_parts}
-use Rattle.saphyr_machine.specs.Steps.Machine.{emit}
-use Rattle.saphyr_machine.specs.Events.{empty_scalar}
 use Rattle.saphyr_machine.specs.Steps.Block.{block_sequence_entry, indentless_sequence_entry, block_mapping_key, block_mapping_value}
 use Rattle.saphyr_machine.specs.Steps.Nodes.{node_behind, node_here}
 use Rattle.saphyr_machine.specs.Steps.Expected.{event_step}

@@ -1,18 +1,8 @@
 -- Collections are told, where their entries are.
-use Rattle.std.proofs.Common.{◌≡◌, ◌≢◌, ℕ, Option, List, [], ◌∷◌, ◌++◌, refl, ap, ◌∙◌, inl, inr, append_assoc, arith}
-use Rattle.saphyr_scanner.specs.Grammar.Forest.{Node, Nodes, NoNode, MoreNodes, Pairs, NoPair, MorePairs}
+use Rattle.event_laws.proofs.Common.{◌≡◌, ◌≢◌, ℕ, Option, List, [], ◌∷◌, ◌++◌, refl, ap, ◌∙◌, inl, inr, append_assoc, arith, Node, Nodes, NoNode, MoreNodes, Pairs, NoPair, MorePairs, Kind, BlockSequenceStart, BlockMappingStart, BlockEnd, FlowSequenceStart, FlowSequenceEnd, FlowMappingStart, FlowMappingEnd, BlockEntry, FlowEntry, InFlow, InBlock, InBlockMapping, BeginsWithValue, YieldsNode, YieldFlowEntries, YieldOtherFlowEntries, YieldFlowPairs, YieldOtherFlowPairs, YieldBlockEntries, YieldBlockPairs, State, Part, OpenSequence, CloseSequence, OpenMapping, CloseMapping, entry_parts, pair_parts, Happening, ResolvedTag, SequenceStart, MappingStart, NodeContext, Machine, emit, event_step, NodeProperties, span_up_to, node_content_at}
 use Rattle.saphyr_scanner.specs.Grammar.Forest as forest
-use Rattle.saphyr_scanner.specs.Grammar.Tokens.{Kind, BlockSequenceStart, BlockMappingStart, BlockEnd, FlowSequenceStart, FlowSequenceEnd, FlowMappingStart, FlowMappingEnd, BlockEntry, FlowEntry}
 use Rattle.saphyr_scanner.specs.Grammar.TokenGrammar as grammar
-use Rattle.saphyr_scanner.specs.Grammar.TokenGrammar.{InFlow, InBlock, InBlockMapping, BeginsWithValue, YieldsNode, YieldFlowEntries, YieldOtherFlowEntries, YieldFlowPairs, YieldOtherFlowPairs, YieldBlockEntries, YieldBlockPairs}
-use Rattle.saphyr_machine.specs.declared.state.State.{State}
 use Rattle.saphyr_machine.specs.declared.state.State.TheVariants as state
-use Rattle.event_laws.specs.Preorder.{Part, OpenSequence, CloseSequence, OpenMapping, CloseMapping, entry_parts, pair_parts}
-use Rattle.saphyr_machine.specs.Events.{Happening, ResolvedTag, SequenceStart, MappingStart}
-use Rattle.saphyr_machine.specs.declared.context.NodeContext.{NodeContext}
-use Rattle.saphyr_machine.specs.Steps.Machine.{Machine, emit}
-use Rattle.saphyr_machine.specs.Steps.Expected.{event_step}
-use Rattle.saphyr_machine.specs.Steps.Nodes.{NodeProperties, span_up_to, node_content_at}
 use Rattle.event_laws.proofs.Emitted.Emitting.{SpansByKinds, Memory, at}
 use Rattle.event_laws.proofs.Remembering.{noted, after, after_nodes, after_pairs, with_properties, event_in, SaysParts, EmitsParts}
 use Rattle.event_laws.proofs.Emitted.Nodes.{next_node, node_opens, IsContentKind}

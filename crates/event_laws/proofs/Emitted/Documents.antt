@@ -1,18 +1,7 @@
 -- Documents and streams are told.
-use Rattle.std.proofs.Common.{◌≡◌, ◌≢◌, true, false, List, [], ◌∷◌, ◌++◌, map, Some, Result, refl, ap, ◌∙◌, ◌⊎◌, inl, inr, arith}
-use Rattle.std.specs.Prelude.{IsTrue}
-use Rattle.saphyr_scalar.specs.declared.scalar.fault.Refusal.{Refusal}
-use Rattle.saphyr_scanner.specs.Grammar.Forest.{Node, Directive, Version, TagPrefix, Reserved, Document, Forest, AreCompatible}
-use Rattle.saphyr_scanner.specs.Grammar.Tokens.{Kind, VersionDirective, StreamEnd, DocumentStart, DocumentEnd, ByteOrderMark, directive_token}
-use Rattle.saphyr_scanner.specs.Grammar.TokenGrammar.{InBlock, YieldsOptional, YieldsNode, YieldsExplicitDocument, YieldsDocument, AreMarks, AreEndsAndMarks, YieldsBehindDocument, YieldDocuments}
-use Rattle.saphyr_scanner.specs.Views.Tokens.{Piece}
-use Rattle.saphyr_machine.specs.declared.context.NodeContext.TheVariants.{Block}
-use Rattle.saphyr_machine.specs.declared.state.State.{State}
+use Rattle.event_laws.proofs.Common.{◌≡◌, ◌≢◌, true, false, List, [], ◌∷◌, ◌++◌, map, Some, Result, refl, ap, ◌∙◌, ◌⊎◌, inl, inr, arith, IsTrue, Refusal, Node, Directive, Version, TagPrefix, Reserved, Document, Forest, AreCompatible, Kind, VersionDirective, StreamEnd, DocumentStart, DocumentEnd, ByteOrderMark, directive_token, InBlock, YieldsOptional, YieldsNode, YieldsExplicitDocument, YieldsDocument, AreMarks, AreEndsAndMarks, YieldsBehindDocument, YieldDocuments, Piece, Block, State, Part, CloseStream, OpenDocument, node_parts, empty_scalar, ◌>>=◌, Machine, Emitted, emit}
 use Rattle.saphyr_machine.specs.declared.state.State.TheVariants as state
-use Rattle.event_laws.specs.Preorder.{Part, CloseStream, OpenDocument, node_parts}
 use Rattle.saphyr_machine.specs.Events as events
-use Rattle.saphyr_machine.specs.Events.{empty_scalar}
-use Rattle.saphyr_machine.specs.Steps.Machine.{◌>>=◌, Machine, Emitted, emit}
 use Rattle.saphyr_machine.specs.Steps.Documents.{is_end_or_mark, directives, none_declared, explicit_document_at, explicit_document, bare_document, implicit_start_at, implicit_start, explicit_start_at, explicit_start, document_content}
 use Rattle.saphyr_machine.specs.Steps.Block.{block_node}
 use Rattle.saphyr_machine.specs.Steps.Expected.{event_step}

@@ -1,19 +1,7 @@
 -- Machines before tokens whose spans are told by the tokens after them, and the events that they give.
-use Rattle.std.proofs.Common.{◌≡◌, ◌≢◌, ℕ, ◌<◌, ◌≤◌, Bool, false, List, [], ◌∷◌, length, None, Ok, refl, sym, ap, ◌∙◌, arith}
-use Rattle.std.specs.Prelude.{if◌then◌else◌}
+use Rattle.event_laws.proofs.Common.{◌≡◌, ◌≢◌, ℕ, ◌<◌, ◌≤◌, Bool, false, List, [], ◌∷◌, length, None, Ok, refl, sym, ap, ◌∙◌, arith, if◌then◌else◌, Span, Kind, Piece, State, End, Happening, Names, Anchors, Machine, Emitted, event_step, remaining_answer, GivesExactly, kinds, unroll, over}
 use Rattle.std.proofs.Math.Dec.{eqb}
 use Rattle.std.proofs.lemmas.Bool.{eq-eqb, ne_eqb}
-use Rattle.saphyr_scalar.specs.declared.scalar.position.Span.{Span}
-use Rattle.saphyr_scanner.specs.Grammar.Tokens.{Kind}
-use Rattle.saphyr_scanner.specs.Views.Tokens.{Piece}
-use Rattle.saphyr_machine.specs.declared.state.State.{State}
-use Rattle.saphyr_machine.specs.declared.state.State.TheVariants.{End}
-use Rattle.saphyr_machine.specs.Events.{Happening}
-use Rattle.saphyr_machine.specs.Steps.Machine.{Names, Anchors, Machine, Emitted}
-use Rattle.saphyr_machine.specs.Steps.Expected.{event_step}
-use Rattle.saphyr_machine.specs.Answer.{remaining_answer}
-use Rattle.event_laws.specs.Exactly.{GivesExactly, kinds}
-use Rattle.saphyr_machine.proofs.Unroll.{unroll, over}
 
 -- ## Tokens by their kinds
 

@@ -1,12 +1,6 @@
 -- Collections' entries are told, one after the other.
-use Rattle.std.proofs.Common.{◌≡◌, List, [], ◌∷◌, ◌++◌, refl, subst, sym, ◌⊎◌, inl, inr, append_assoc, arith}
-use Rattle.saphyr_scanner.specs.Grammar.Forest.{no_properties, Properties, Node, Map, Nodes, NoNode, MoreNodes, Pairs, NoPair, MorePairs}
-use Rattle.saphyr_scanner.specs.Grammar.Tokens.{Kind, BlockEnd, FlowSequenceEnd, FlowMappingEnd, BlockEntry, FlowEntry, Key, Value}
-use Rattle.saphyr_scanner.specs.Grammar.TokenGrammar.{InFlow, InBlock, InBlockMapping, YieldsOptional, IsListEnd, YieldsSinglePair, YieldsFlowPair, YieldsBlockPair, YieldsNode, YieldsPairEntry, YieldOtherFlowEntries, YieldOtherFlowPairs, YieldBlockEntries, YieldBlockPairs}
-use Rattle.saphyr_machine.specs.declared.state.State.{State}
+use Rattle.event_laws.proofs.Common.{◌≡◌, List, [], ◌∷◌, ◌++◌, refl, subst, sym, ◌⊎◌, inl, inr, append_assoc, arith, no_properties, Properties, Node, Map, Nodes, NoNode, MoreNodes, Pairs, NoPair, MorePairs, Kind, BlockEnd, FlowSequenceEnd, FlowMappingEnd, BlockEntry, FlowEntry, Key, Value, InFlow, InBlock, InBlockMapping, YieldsOptional, IsListEnd, YieldsSinglePair, YieldsFlowPair, YieldsBlockPair, YieldsNode, YieldsPairEntry, YieldOtherFlowEntries, YieldOtherFlowPairs, YieldBlockEntries, YieldBlockPairs, State, Part, OpenMapping, CloseSequence, CloseMapping, node_parts, entry_parts, pair_parts, SequenceEnd, MappingEnd}
 use Rattle.saphyr_machine.specs.declared.state.State.TheVariants as state
-use Rattle.event_laws.specs.Preorder.{Part, OpenMapping, CloseSequence, CloseMapping, node_parts, entry_parts, pair_parts}
-use Rattle.saphyr_machine.specs.Events.{SequenceEnd, MappingEnd}
 use Rattle.saphyr_machine.specs.Steps.Flow.{flow_sequence_first_entry, flow_sequence_entry, flow_mapping_first_key, flow_mapping_pair_behind_comma, flow_mapping_key}
 use Rattle.saphyr_machine.specs.Steps.Block.{block_sequence_entry, indentless_sequence_entry, block_mapping_key}
 use Rattle.saphyr_machine.specs.Steps.Expected.{event_step}

@@ -1,18 +1,7 @@
 -- The entries of braces are told.
-use Rattle.std.proofs.Common.{◌≡◌, ◌≢◌, List, ◌∷◌, ◌++◌, refl, subst, sym, ◌∙◌, ◌⊎◌, inl, inr, arith}
-use Rattle.saphyr_scalar.specs.declared.scalar.position.Span.{Span}
-use Rattle.saphyr_scanner.specs.Grammar.Forest.{Node}
+use Rattle.event_laws.proofs.Common.{◌≡◌, ◌≢◌, List, ◌∷◌, ◌++◌, refl, subst, sym, ◌∙◌, ◌⊎◌, inl, inr, arith, Span, Node, Kind, Key, Value, InFlow, YieldsOptional, YieldsMarkedKey, YieldsMarkedValue, YieldsFlowPair, YieldsNode, Piece, Flow, State, Part, node_parts, Machine, emit, empty_scalar, node_inside}
 use Rattle.saphyr_scanner.specs.Grammar.Forest as forest
-use Rattle.saphyr_scanner.specs.Grammar.Tokens.{Kind, Key, Value}
-use Rattle.saphyr_scanner.specs.Grammar.TokenGrammar.{InFlow, YieldsOptional, YieldsMarkedKey, YieldsMarkedValue, YieldsFlowPair, YieldsNode}
-use Rattle.saphyr_scanner.specs.Views.Tokens.{Piece}
-use Rattle.saphyr_machine.specs.declared.context.NodeContext.TheVariants.{Flow}
-use Rattle.saphyr_machine.specs.declared.state.State.{State}
 use Rattle.saphyr_machine.specs.declared.state.State.TheVariants as state
-use Rattle.event_laws.specs.Preorder.{Part, node_parts}
-use Rattle.saphyr_machine.specs.Steps.Machine.{Machine, emit}
-use Rattle.saphyr_machine.specs.Events.{empty_scalar}
-use Rattle.saphyr_machine.specs.Steps.Nodes.{node_inside}
 use Rattle.saphyr_machine.specs.Steps.Flow.{flow_mapping_pair_at, flow_mapping_value, flow_mapping_empty_value}
 use Rattle.saphyr_machine.specs.Steps.Nodes.{node_behind, node_here}
 use Rattle.saphyr_machine.specs.Steps.Expected.{event_step}

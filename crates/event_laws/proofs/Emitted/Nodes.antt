@@ -1,26 +1,11 @@
 -- Nodes, after their properties, are told.
-use Rattle.std.proofs.Common.{◌≡◌, ◌≢◌, ℕ, ◌<◌, List, [], ◌∷◌, ◌++◌, length, Option, Some, None, option_map, encode_utf8_all, codes, Result, Ok, refl, sym, ◌∙◌, inl, inr, arith}
+use Rattle.event_laws.proofs.Common.{◌≡◌, ◌≢◌, ℕ, ◌<◌, List, [], ◌∷◌, ◌++◌, length, Option, Some, None, option_map, encode_utf8_all, codes, Result, Ok, refl, sym, ◌∙◌, inl, inr, arith, option_or, Marker, Span, Refusal, Handle, handle_bytes, Tag, NonSpecific, Verbatim, Shorthand, Kind, anchor_token, tag_token, AreBoth, YieldProperties, Piece, NodeContext, State, Part, Happening, ResolvedTag, ◌>>=◌, Names, meaning, next_id, Machine, Emitted, emit, taken_token, default_prefix, event_step}
 use lib.Utf8.{encode}
-use Rattle.std.specs.Option.{option_or}
-use Rattle.saphyr_scalar.specs.declared.scalar.position.Marker.{Marker}
-use Rattle.saphyr_scalar.specs.declared.scalar.position.Span.{Span}
-use Rattle.saphyr_scalar.specs.declared.scalar.fault.Refusal.{Refusal}
-use Rattle.saphyr_scanner.specs.Grammar.Forest.{Handle, handle_bytes, Tag, NonSpecific, Verbatim, Shorthand}
 use Rattle.saphyr_scanner.specs.Grammar.Forest as forest
 use Rattle.saphyr_scanner.specs.Grammar.Tokens as tokens
-use Rattle.saphyr_scanner.specs.Grammar.Tokens.{Kind, anchor_token, tag_token}
-use Rattle.saphyr_scanner.specs.Grammar.TokenGrammar.{AreBoth, YieldProperties}
-use Rattle.saphyr_scanner.specs.Views.Tokens.{Piece}
-use Rattle.saphyr_machine.specs.declared.context.NodeContext.{NodeContext}
-use Rattle.saphyr_machine.specs.declared.state.State.{State}
 use Rattle.saphyr_machine.specs.declared.state.State.TheVariants as state
-use Rattle.event_laws.specs.Preorder.{Part}
-use Rattle.saphyr_machine.specs.Events.{Happening, ResolvedTag}
-use Rattle.saphyr_machine.specs.Steps.Machine.{◌>>=◌, Names, meaning, next_id, Machine, Emitted, emit, taken_token}
 use Rattle.saphyr_machine.specs.Steps.Tags.{declared_prefix, resolved_tag_at, declared_prefix_or, undeclared_prefix}
-use Rattle.event_laws.specs.TagResolution.{default_prefix}
 use Rattle.saphyr_machine.specs.Steps.Nodes.{NodeProperties, no_node_properties, node_content_at, node_content, next_content, node_behind_anchor_at, node_behind_anchor, node_behind_tag_at, node_behind_tag, node_at, node}
-use Rattle.saphyr_machine.specs.Steps.Expected.{event_step}
 use Rattle.event_laws.proofs.Emitted.Emitting.{SpansByKinds, Memory, at}
 use Rattle.event_laws.proofs.Remembering.{noted, after, own_id_in, resolve, resolve_any, with_properties, event_in, SaysParts, says}
 

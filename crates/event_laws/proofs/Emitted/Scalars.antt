@@ -1,15 +1,8 @@
 -- Scalars are told.
-use Rattle.std.proofs.Common.{◌≡◌, ℕ, true, List, [], ◌∷◌, ◌++◌, Option, Some, option_map, encode_utf8_all, refl, ◌∙◌, arith, append_assoc}
-use Rattle.saphyr_scalar.specs.declared.scalar.position.Span.{Span}
-use Rattle.saphyr_scanner.specs.Grammar.Forest.{Style, Tag, HasOne, HasProperty}
+use Rattle.event_laws.proofs.Common.{◌≡◌, ℕ, true, List, [], ◌∷◌, ◌++◌, Option, Some, option_map, encode_utf8_all, refl, ◌∙◌, arith, append_assoc, Span, Style, Tag, HasOne, HasProperty, Kind, scalar_token, YieldsNode, Piece, Reference, Leaf, Machine, emit, pop, put_back, meaning}
 use Rattle.saphyr_scanner.specs.Grammar.Forest as forest
-use Rattle.saphyr_scanner.specs.Grammar.Tokens.{Kind, scalar_token}
 use Rattle.saphyr_scanner.specs.Grammar.TokenGrammar as grammar
-use Rattle.saphyr_scanner.specs.Grammar.TokenGrammar.{YieldsNode}
-use Rattle.saphyr_scanner.specs.Views.Tokens.{Piece}
-use Rattle.event_laws.specs.Preorder.{Reference, Leaf}
 use Rattle.saphyr_machine.specs.Events.{Happening, Alias, Scalar}
-use Rattle.saphyr_machine.specs.Steps.Machine.{Machine, emit, pop, put_back, meaning}
 use Rattle.saphyr_machine.specs.Steps.Nodes.{NodeProperties, has_property, span_up_to, node_without_content, alias_of, alias_node, node}
 use Rattle.event_laws.proofs.Emitted.Emitting.{Memory, at}
 use Rattle.event_laws.proofs.Remembering.{noted, says}

@@ -1,17 +1,7 @@
 -- The entries of brackets, of which a pair of a key and a value may be one, are told.
-use Rattle.std.proofs.Common.{◌≡◌, ◌≢◌, List, ◌∷◌, ◌++◌, None, refl, subst, sym, ◌∙◌, inl, inr, arith}
-use Rattle.saphyr_scalar.specs.declared.scalar.position.Marker.{Marker}
-use Rattle.saphyr_scanner.specs.Grammar.Forest.{no_properties, Node}
+use Rattle.event_laws.proofs.Common.{◌≡◌, ◌≢◌, List, ◌∷◌, ◌++◌, None, refl, subst, sym, ◌∙◌, inl, inr, arith, Marker, no_properties, Node, Kind, FlowSequenceEnd, FlowEntry, Key, Value, InFlow, YieldsOptional, YieldsMarkedKey, YieldsSinglePair, YieldsNode, Piece, Flow, State, Part, OpenMapping, CloseMapping, node_parts, MappingStart, MappingEnd, empty_scalar, Machine, emit}
 use Rattle.saphyr_scanner.specs.Grammar.Forest as forest
-use Rattle.saphyr_scanner.specs.Grammar.Tokens.{Kind, FlowSequenceEnd, FlowEntry, Key, Value}
-use Rattle.saphyr_scanner.specs.Grammar.TokenGrammar.{InFlow, YieldsOptional, YieldsMarkedKey, YieldsSinglePair, YieldsNode}
-use Rattle.saphyr_scanner.specs.Views.Tokens.{Piece}
-use Rattle.saphyr_machine.specs.declared.context.NodeContext.TheVariants.{Flow}
-use Rattle.saphyr_machine.specs.declared.state.State.{State}
 use Rattle.saphyr_machine.specs.declared.state.State.TheVariants as state
-use Rattle.event_laws.specs.Preorder.{Part, OpenMapping, CloseMapping, node_parts}
-use Rattle.saphyr_machine.specs.Events.{MappingStart, MappingEnd, empty_scalar}
-use Rattle.saphyr_machine.specs.Steps.Machine.{Machine, emit}
 use Rattle.saphyr_machine.specs.Steps.Nodes.{node_here, node_inside}
 use Rattle.saphyr_machine.specs.Steps.Flow.{flow_sequence_first_entry_at, flow_sequence_entry_mapping_key, flow_sequence_entry_mapping_value, flow_sequence_entry_mapping_node, flow_sequence_entry_mapping_end}
 use Rattle.saphyr_machine.specs.Steps.Expected.{event_step}

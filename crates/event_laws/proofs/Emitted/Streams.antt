@@ -1,11 +1,6 @@
 -- Streams of documents are told.
-use Rattle.std.proofs.Common.{◌≡◌, Bool, true, false, List, [], ◌∷◌, ◌++◌, map, Ok, refl, subst, sym, ap, ◌∙◌, ◌⊎◌, inl, inr, append_assoc, arith}
-use Rattle.saphyr_scalar.specs.declared.scalar.position.Span.{Span}
-use Rattle.saphyr_scanner.specs.Grammar.Forest.{Directive, Document, Forest}
-use Rattle.saphyr_scanner.specs.Grammar.Tokens.{Kind, StreamStart, StreamEnd, DocumentStart, DocumentEnd, ByteOrderMark, directive_token}
-use Rattle.saphyr_scanner.specs.Grammar.TokenGrammar.{YieldsBareDocument, YieldsExplicitDocument, YieldsDocument, AreMarks, AreEndsAndMarks, YieldsBehindDocument, YieldDocuments, Yields}
+use Rattle.event_laws.proofs.Common.{◌≡◌, Bool, true, false, List, [], ◌∷◌, ◌++◌, map, Ok, refl, subst, sym, ap, ◌∙◌, ◌⊎◌, inl, inr, append_assoc, arith, Span, Directive, Document, Forest, Kind, StreamStart, StreamEnd, DocumentStart, DocumentEnd, ByteOrderMark, directive_token, YieldsBareDocument, YieldsExplicitDocument, YieldsDocument, AreMarks, AreEndsAndMarks, YieldsBehindDocument, YieldDocuments, Yields, Part, OpenStream, OpenDocument, CloseDocument, node_parts, document_parts, parts}
 use Rattle.saphyr_machine.specs.declared.state.State.TheVariants as state
-use Rattle.event_laws.specs.Preorder.{Part, OpenStream, OpenDocument, CloseDocument, node_parts, document_parts, parts}
 use Rattle.saphyr_machine.specs.Events as events
 use Rattle.saphyr_machine.specs.Steps.Documents.{is_mark, stream_start, token_behind_marks_at, token_behind_marks, token_behind_document, document_end_at, document_end}
 use Rattle.saphyr_machine.specs.Steps.Expected.{event_step}

@@ -1,8 +1,6 @@
 -- Every node is told, by recursion on the tree.
-use Rattle.std.proofs.Common.{List, sym, subst}
+use Rattle.event_laws.proofs.Common.{List, sym, subst, Kind, Context, InFlow, InBlock, InBlockMapping, YieldsNode, YieldsPairEntry, YieldFlowEntries, YieldOtherFlowEntries, YieldFlowPairs, YieldOtherFlowPairs, YieldBlockEntries, YieldBlockPairs}
 use Rattle.saphyr_scanner.specs.Grammar.Forest.{Node, Alias, Scalar, Seq, Map, Nodes, NoNode, MoreNodes, Pairs, NoPair, MorePairs}
-use Rattle.saphyr_scanner.specs.Grammar.Tokens.{Kind}
-use Rattle.saphyr_scanner.specs.Grammar.TokenGrammar.{Context, InFlow, InBlock, InBlockMapping, YieldsNode, YieldsPairEntry, YieldFlowEntries, YieldOtherFlowEntries, YieldFlowPairs, YieldOtherFlowPairs, YieldBlockEntries, YieldBlockPairs}
 use Rattle.event_laws.proofs.NodeStarts.{NodeSays}
 use Rattle.event_laws.proofs.Emitted.Scalars.{alias_says, scalar_says}
 use Rattle.event_laws.proofs.Emitted.Collections.{OtherEntriesSay, OtherPairsSay, FlowEntriesSay, FlowPairsSay, BlockEntriesSay, IndentlessSay, BlockPairsSay, sequence_says, mapping_says}

@@ -1,26 +1,12 @@
 -- Tokens up to a document marker's give the events up to and including its own, whatever follows.
-use Rattle.std.proofs.Common.{◌≡◌, ◌≢◌, Bool, List, [], ◌∷◌, ◌++◌, Option, None, ap, ◌∙◌, ◌⊎◌, inl, inr, arith}
+use Rattle.event_laws.proofs.Common.{◌≡◌, ◌≢◌, Bool, List, [], ◌∷◌, ◌++◌, Option, None, ap, ◌∙◌, ◌⊎◌, inl, inr, arith, Span, Refusal, Piece, State, Happening, empty_scalar, DocumentMarker, Ends, events_behind_marker, GivesFirst, Machine, fresh_machine, emit, with_state, with_pieces, Answer, remaining_answer, at_start, keeping_tags, to_come, GivesExactly, answer_of_tokens, marker_token, unroll, over, IsBetweenDocuments, Awaits}
 use Rattle.std.proofs.lemmas.List.{append_assoc, append_cancel_right, append-nil, map-append}
-use Rattle.saphyr_scalar.specs.declared.scalar.position.Span.{Span}
-use Rattle.saphyr_scalar.specs.declared.scalar.fault.Refusal.{Refusal}
 use Rattle.saphyr_scanner.specs.Grammar.Tokens as tokens
-use Rattle.saphyr_scanner.specs.Views.Tokens.{Piece}
-use Rattle.saphyr_machine.specs.declared.state.State.{State}
 use Rattle.saphyr_machine.specs.declared.state.State.TheVariants as state
 use Rattle.saphyr_machine.specs.Events as events
-use Rattle.saphyr_machine.specs.Events.{Happening, empty_scalar}
-use Rattle.event_laws.specs.Premises.{DocumentMarker, Ends, events_behind_marker, GivesFirst}
-use Rattle.saphyr_machine.specs.Steps.Machine.{Machine, fresh_machine, emit, with_state, with_pieces}
 use Rattle.saphyr_machine.specs.Steps.Documents.{unpassed_token, implicit_start, explicit_start, document_content, document_end, token_behind_document, without_prefixes}
 use Rattle.saphyr_machine.specs.Steps.Expected.{event_step, event_step_at}
-use Rattle.saphyr_machine.specs.Answer.{Answer, remaining_answer}
-use Rattle.saphyr_machine.specs.Cursor.{at_start, keeping_tags, to_come}
-use Rattle.event_laws.specs.Exactly.{GivesExactly, answer_of_tokens}
-use Rattle.event_laws.specs.More.{marker_token}
-use Rattle.saphyr_machine.proofs.Unroll.{unroll, over}
 use Rattle.event_laws.proofs.Longer.{More, longer, IsLastOr, End}
-use Rattle.saphyr_machine.proofs.Beside.Documents.{IsBetweenDocuments}
-use Rattle.saphyr_machine.proofs.Beside.Machines.{Awaits}
 use Rattle.event_laws.proofs.Promises.CommonBeginnings.{or_last, IsStopped, GoesOn, goes_on}
 use Rattle.event_laws.proofs.Happenings.{happenings_of}
 

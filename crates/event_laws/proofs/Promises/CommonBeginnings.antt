@@ -1,22 +1,9 @@
 -- Tokens with a common beginning give the same events, as long as no step looks past it.
-use Rattle.std.proofs.Common.{◌≡◌, ◌≢◌, ℕ, zero, suc, ◌<◌, List, [], ◌∷◌, ◌++◌, Option, Some, Result, Ok, Err, refl, sym, ap, ◌∙◌, arith, ◌⊎◌, inl, inr}
-use Rattle.saphyr_scalar.specs.declared.scalar.position.Span.{Span}
-use Rattle.saphyr_scalar.specs.declared.scalar.fault.Refusal.{Refusal}
-use Rattle.saphyr_scanner.specs.Grammar.Tokens.{Kind}
-use Rattle.saphyr_scanner.specs.Views.Tokens.{Piece}
-use Rattle.saphyr_machine.specs.declared.state.State.{State}
+use Rattle.event_laws.proofs.Common.{◌≡◌, ◌≢◌, ℕ, zero, suc, ◌<◌, List, [], ◌∷◌, ◌++◌, Option, Some, Result, Ok, Err, refl, sym, ap, ◌∙◌, arith, ◌⊎◌, inl, inr, Span, Refusal, Kind, Piece, State, Happening, DocumentMarker, Starts, Ends, marker_event, Machine, Emitted, ending_refusal, with_pieces, Answer, with_first_event, answer_of_step, fault_alone, ending_of, remaining_answer, machine_size, with_more, BeginsAs, marker_token, unroll, over, shrinks_at, IsBetweenDocuments, Awaits}
 use Rattle.saphyr_machine.specs.declared.state.State.TheVariants as state
-use Rattle.saphyr_machine.specs.Events.{Happening}
-use Rattle.event_laws.specs.Premises.{DocumentMarker, Starts, Ends, marker_event}
-use Rattle.saphyr_machine.specs.Steps.Machine.{Machine, Emitted, ending_refusal, with_pieces}
 use Rattle.saphyr_machine.specs.Steps.Documents.{unpassed_token, implicit_start, document_content}
 use Rattle.saphyr_machine.specs.Steps.Expected.{event_step, event_step_at}
-use Rattle.saphyr_machine.specs.Answer.{Answer, with_first_event, answer_of_step, fault_alone, ending_of, remaining_answer, machine_size}
-use Rattle.event_laws.specs.More.{with_more, BeginsAs, marker_token}
-use Rattle.saphyr_machine.proofs.Unroll.{unroll, over, shrinks_at}
 use Rattle.event_laws.proofs.Longer.{More, longer, IsLastOr, End, IsLeft, IsLeftBehind, left_behind, AgreesOrEndsEarly, PassesAll, steps_agree}
-use Rattle.saphyr_machine.proofs.Beside.Documents.{IsBetweenDocuments}
-use Rattle.saphyr_machine.proofs.Beside.Machines.{Awaits}
 
 -- ## One step
 

@@ -1,15 +1,5 @@
 -- The events of tokens are a beginning of those of each forest whose tokens begin with them.
-use Rattle.std.proofs.Common.{◌≡◌, Bool, List, ◌++◌, None, refl, ap, ◌∙◌, append-nil, arith}
-use Rattle.std.proofs.lemmas.List.{map-append}
-use Rattle.saphyr_scalar.specs.declared.scalar.fault.Refusal.{Refusal}
-use Rattle.saphyr_scanner.specs.Views.Tokens.{Piece, Remaining}
-use Rattle.saphyr_machine.specs.Answer.{Answer}
-use Rattle.saphyr_machine.specs.Cursor.{at_start, keeping_tags, to_come}
-use Rattle.saphyr_machine.specs.Events.{Happening}
-use Rattle.saphyr_machine.specs.Steps.Machine.{ending_refusal}
-use Rattle.event_laws.specs.EventsTaken.{Continue, BeginsEachForest, unplaced_tokens}
-use Rattle.event_laws.specs.Exactly.{GivesExactly, kinds}
-use Rattle.event_laws.specs.More.{BeginsAs}
+use Rattle.event_laws.proofs.Common.{◌≡◌, Bool, List, ◌++◌, None, refl, ap, ◌∙◌, append-nil, arith, map-append, Refusal, Piece, Remaining, Answer, at_start, keeping_tags, to_come, Happening, ending_refusal, Continue, BeginsEachForest, unplaced_tokens, GivesExactly, kinds, BeginsAs}
 use Rattle.event_laws.proofs.ByKinds.{kinds_of}
 use Rattle.event_laws.proofs.Promises.CommonBeginnings.{begins_as}
 use Rattle.event_laws.proofs.Promises.Forests.{each_parsed}

@@ -1,18 +1,6 @@
 -- The tokens of a forest give its events.
-use Rattle.std.proofs.Common.{◌≡◌, ◌<◌, ◌^◌, ℕ, Bool, true, false, List, [], ◌∷◌, ◌++◌, Some, None, refl, ◌∙◌, ◌⊎◌, append_assoc, arith}
+use Rattle.event_laws.proofs.Common.{◌≡◌, ◌<◌, ◌^◌, ℕ, Bool, true, false, List, [], ◌∷◌, ◌++◌, Some, None, refl, ◌∙◌, ◌⊎◌, append_assoc, arith, Node, Document, AreCompatible, Forest, Kind, DocumentEnd, YieldsDocument, AreEndsAndMarks, YieldDocuments, Yields, Piece, Remaining, anchors, no_span, Part, CloseDocument, node_parts, document_parts, parts, Happening, events, no_anchors, at_start, keeping_tags, to_come, GivesExactly, kinds, answer_of_tokens}
 use Rattle.std.specs.Prelude.{if◌then◌else◌, Option}
-use Rattle.saphyr_scanner.specs.Grammar.Forest.{Node, Document, AreCompatible, Forest}
-use Rattle.saphyr_scanner.specs.Grammar.Tokens.{Kind, DocumentEnd}
-use Rattle.saphyr_scanner.specs.Grammar.TokenGrammar.{YieldsDocument, AreEndsAndMarks, YieldDocuments, Yields}
-use Rattle.saphyr_scanner.specs.Views.Tokens.{Piece, Remaining}
-use Rattle.event_laws.specs.Anchors.{anchors}
-use Rattle.event_laws.specs.EventsTaken.{no_span}
-use Rattle.event_laws.specs.Preorder.{Part, CloseDocument, node_parts, document_parts, parts}
-use Rattle.saphyr_machine.specs.Events.{Happening}
-use Rattle.event_laws.specs.ForestEvents.{events}
-use Rattle.saphyr_machine.specs.Steps.Machine.{no_anchors}
-use Rattle.saphyr_machine.specs.Cursor.{at_start, keeping_tags, to_come}
-use Rattle.event_laws.specs.Exactly.{GivesExactly, kinds, answer_of_tokens}
 use Rattle.event_laws.proofs.Emitted.Emitting.{SpansByKinds, Memory, dressed, dress}
 use Rattle.event_laws.proofs.AddsUp.{IsInNode, of_node}
 use Rattle.event_laws.proofs.Emitted.Streams.{stream_says}

@@ -1,26 +1,12 @@
 -- The promise on spans: those of all events are at places of the text, if those of the tokens are, in order.
-use Rattle.std.proofs.Common.{◌≡◌, ℕ, suc, ◌≤◌, Bool, List, [], ◌∷◌, length, Option, Some, None, inl, refl, arith}
-use Rattle.std.specs.Prelude.{if◌then◌else◌}
+use Rattle.event_laws.proofs.Common.{◌≡◌, ℕ, suc, ◌≤◌, Bool, List, [], ◌∷◌, length, Option, Some, None, inl, refl, arith, if◌then◌else◌, Marker, Span, Piece, Remaining, AreAtPlaces, IsPlaceOf, Happening, Machine, emit, event_step, EventCursor, Kept, at_start, answer_behind, with_event_ahead, AdvancesFrom, FailsFrom, LooksFrom, ReadsAhead, KeepsSpans, Walk, HoldsBetween, between, Resumes, step, runs, goes_on}
 use Rattle.std.proofs.lemmas.List.Elements.{All-cons}
-use Rattle.saphyr_scalar.specs.declared.scalar.position.Marker.{Marker}
-use Rattle.saphyr_scalar.specs.declared.scalar.position.Span.{Span}
 use Rattle.saphyr_scalar.specs.Views.Cursor as scalar
-use Rattle.saphyr_scanner.specs.Views.Tokens.{Piece, Remaining}
 use Rattle.saphyr_scanner.specs.SpansInOrder.{AreInOrder}
-use Rattle.saphyr_scanner.specs.AtPlaces.{AreAtPlaces}
 use Rattle.saphyr_scanner.specs.TokensTaken as taken
-use Rattle.saphyr_scanner.specs.TokensTaken.{IsPlaceOf}
 use Rattle.saphyr_machine.specs.declared.fault.Fault.{Fault}
-use Rattle.saphyr_machine.specs.Events.{Happening}
-use Rattle.saphyr_machine.specs.Steps.Machine.{Machine, emit}
-use Rattle.saphyr_machine.specs.Steps.Expected.{event_step}
 use Rattle.saphyr_machine.specs.Answer.{Answer, empty_answer, fault_alone, remaining_answer, machine_size}
-use Rattle.saphyr_machine.specs.Cursor.{EventCursor, Kept, at_start, answer_behind, with_event_ahead}
-use Rattle.saphyr_machine.specs.Calls.{AdvancesFrom, FailsFrom, LooksFrom, ReadsAhead}
-use Rattle.event_laws.specs.Promises.{KeepsSpans}
 use Rattle.event_laws.specs.SpansWithin.{IsIn, HasSpansIn, IsLater, itself, advanced, failed, looked, set}
-use Rattle.saphyr_machine.proofs.Walk.{Walk, HoldsBetween, between, Resumes, step, runs}
-use Rattle.saphyr_machine.proofs.Calls.Handing.{goes_on}
 
 lower_pieces : (n low high : ℕ) (ps : List Piece) → low ≤ high → AreInOrder n high ps → AreInOrder n low ps
 lower_pieces n low high [] l h = omega (arith, l, h)

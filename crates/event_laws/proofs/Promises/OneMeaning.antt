@@ -1,7 +1,5 @@
 -- A text that a parser reads has one meaning: the parser's one list is the events of each of its forests.
-use Rattle.std.proofs.Common.{◌≤◌, ℕ, List, length, sym, ◌∙◌}
-use Rattle.saphyr_machine.specs.Cursor.{EventCursor}
-use Rattle.event_laws.specs.Premises.{Grammar, MeanTheSame, ReadsEach}
+use Rattle.event_laws.proofs.Common.{◌≤◌, ℕ, List, length, sym, ◌∙◌, EventCursor, Grammar, MeanTheSame, ReadsEach}
 
 pub mean_the_same : (G H : Grammar) (limit : ℕ) (text : List ℕ) (parser : EventCursor) → length text ≤ limit
     → ReadsEach G limit text parser → ReadsEach H limit text parser → MeanTheSame G H text

@@ -1,27 +1,10 @@
 -- The promise on closed beginnings, since the scanner's tokens begin with those of a closed beginning.
-use Rattle.std.specs.Prelude.{◌==◌, slice_index}
-use Rattle.std.proofs.Common.{◌≡◌, ℕ, ◌+◌, ◌*◌, ◌^◌, ◌<◌, ◌≤◌, Bool, true, false, List, [], ◌∷◌, ◌++◌, map, length, Some, None, refl, sym, ap, ◌∙◌, arith}
+use Rattle.event_laws.proofs.Common.{◌==◌, slice_index, ◌≡◌, ℕ, ◌+◌, ◌*◌, ◌^◌, ◌<◌, ◌≤◌, Bool, true, false, List, [], ◌∷◌, ◌++◌, map, length, Some, None, refl, sym, ap, ◌∙◌, arith, normalized, Forest, most_open, scan, Piece, Kind, IsYamlText, anchors, parts, Happening, events, EventCursor, at_start, keeping_tags, to_come, kinds, marker_token, ReadsClosedYaml, Grammar, DocumentMarker, EndsWithMarker, GivesFirst, ReadsClosed, events_behind_marker}
 use Rattle.std.proofs.lemmas.List.{length-append, length-map}
 use Rattle.saphyr_input.specs.Classes.{carriage_return, line_feed}
-use Rattle.saphyr_input.specs.Breaks.{normalized}
 use Rattle.scalar_laws.specs.Spelling.Spaces.{IsLineRest}
-use Rattle.saphyr_scanner.specs.Grammar.Forest.{Forest}
-use Rattle.saphyr_scanner.specs.Limits.{most_open}
-use Rattle.saphyr_scanner.specs.Steps.Remaining.{scan}
-use Rattle.saphyr_scanner.specs.Views.Tokens.{Piece}
 use Rattle.saphyr_scanner.specs.Grammar.Tokens as tokens
-use Rattle.saphyr_scanner.specs.Grammar.Tokens.{Kind}
 use Rattle.yaml_laws.specs.Grammar.ClosedTexts.{HandsOut}
-use Rattle.yaml_laws.specs.Grammar.Yaml.{IsYamlText}
-use Rattle.event_laws.specs.Anchors.{anchors}
-use Rattle.event_laws.specs.Preorder.{parts}
-use Rattle.saphyr_machine.specs.Events.{Happening}
-use Rattle.event_laws.specs.ForestEvents.{events}
-use Rattle.saphyr_machine.specs.Cursor.{EventCursor, at_start, keeping_tags, to_come}
-use Rattle.event_laws.specs.Exactly.{kinds}
-use Rattle.event_laws.specs.More.{marker_token}
-use Rattle.event_laws.specs.Promises.{ReadsClosedYaml}
-use Rattle.event_laws.specs.Premises.{Grammar, DocumentMarker, EndsWithMarker, GivesFirst, ReadsClosed, events_behind_marker}
 use Rattle.event_laws.proofs.AnchorCount.{forest_count}
 use Rattle.event_laws.proofs.ByKinds.{piece_of, kinds_of, closed_kinds}
 use Rattle.event_laws.proofs.Promises.Forests.{each_parsed}

@@ -1,15 +1,5 @@
 -- A parser gives exactly the events of a text of any grammar whose tokens are those of its forests.
-use Rattle.std.proofs.Common.{◌≡◌, ◌+◌, ◌*◌, ◌≤◌, ◌<◌, ◌^◌, ℕ, List, length, arith}
-use Rattle.std.proofs.lemmas.List.{length-map}
-use Rattle.saphyr_scanner.specs.Grammar.Forest.{Forest}
-use Rattle.saphyr_scanner.specs.Steps.Remaining.{Scans, scan}
-use Rattle.saphyr_scanner.specs.Grammar.TokenGrammar.{Yields}
-use Rattle.saphyr_scanner.specs.Grammar.Tokens.{Kind}
-use Rattle.event_laws.specs.Anchors.{anchors}
-use Rattle.event_laws.specs.Preorder.{parts}
-use Rattle.saphyr_machine.specs.Cursor.{EventCursor, at_start}
-use Rattle.event_laws.specs.Exactly.{kinds}
-use Rattle.event_laws.specs.Premises.{Grammar, ReadsEach}
+use Rattle.event_laws.proofs.Common.{◌≡◌, ◌+◌, ◌*◌, ◌≤◌, ◌<◌, ◌^◌, ℕ, List, length, arith, length-map, Forest, Scans, scan, Yields, Kind, anchors, parts, EventCursor, at_start, kinds, Grammar, ReadsEach}
 use Rattle.event_laws.proofs.AnchorCount.{forest_count}
 use Rattle.event_laws.proofs.Promises.Forests.{each_parsed}
 

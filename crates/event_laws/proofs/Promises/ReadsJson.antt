@@ -1,16 +1,6 @@
 -- The promise on texts of JSON: each is a text of YAML's grammar, so a parser that is at the start of its tokens
 -- gives exactly its forest's events. Its forest has no anchors, so no limit is asked for.
-use Rattle.std.proofs.Common.{◌≡◌, ◌≤◌, ◌<◌, ◌^◌, ℕ, List, length, arith, sym, subst}
-use Rattle.saphyr_scanner.specs.Grammar.Forest.{Forest, open_in_forest}
-use Rattle.saphyr_scanner.specs.Grammar.TokenGrammar.{Yields}
-use Rattle.saphyr_scanner.specs.Limits.{most_open}
-use Rattle.saphyr_scanner.specs.Steps.Remaining.{scan}
-use Rattle.yaml_laws.specs.Grammar.Json.{IsJson}
-use Rattle.yaml_laws.specs.Grammar.Yaml.{IsYamlText}
-use Rattle.saphyr_machine.specs.Cursor.{EventCursor, at_start}
-use Rattle.event_laws.specs.Anchors.{anchors}
-use Rattle.event_laws.specs.Preorder.{parts}
-use Rattle.event_laws.specs.Promises.{ReadsJson}
+use Rattle.event_laws.proofs.Common.{◌≡◌, ◌≤◌, ◌<◌, ◌^◌, ℕ, List, length, arith, sym, subst, Forest, open_in_forest, Yields, most_open, scan, IsJson, IsYamlText, EventCursor, at_start, anchors, parts, ReadsJson}
 use Rattle.event_laws.proofs.Promises.Forests.{each_parsed}
 use Rattle.event_laws.proofs.Promises.JsonEvents.{json_has_no_anchors}
 use Rattle.event_laws.proofs.Promises.ReadsYaml.{ScansYaml}

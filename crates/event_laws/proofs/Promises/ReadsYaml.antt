@@ -1,14 +1,6 @@
 -- The promise on texts of YAML's grammar: a parser that is at the start of one's tokens gives exactly its
 -- forest's events.
-use Rattle.std.proofs.Common.{◌≡◌, ◌+◌, ◌*◌, ◌≤◌, ◌<◌, ◌^◌, ℕ, List, length, arith}
-use Rattle.saphyr_scanner.specs.Grammar.Forest.{Forest}
-use Rattle.saphyr_scanner.specs.Limits.{most_open}
-use Rattle.saphyr_scanner.specs.Grammar.TokenGrammar.{Yields}
-use Rattle.saphyr_scanner.specs.Grammar.Tokens.{Kind}
-use Rattle.saphyr_scanner.specs.Steps.Remaining.{Scans, scan}
-use Rattle.saphyr_machine.specs.Cursor.{EventCursor, at_start}
-use Rattle.yaml_laws.specs.Grammar.Yaml.{IsYamlText}
-use Rattle.event_laws.specs.Promises.{ReadsYaml}
+use Rattle.event_laws.proofs.Common.{◌≡◌, ◌+◌, ◌*◌, ◌≤◌, ◌<◌, ◌^◌, ℕ, List, length, arith, Forest, most_open, Yields, Kind, Scans, scan, EventCursor, at_start, IsYamlText, ReadsYaml}
 use Rattle.event_laws.proofs.Promises.ReadsEach.{reads_each}
 
 -- each text of YAML's grammar gives tokens of its forest

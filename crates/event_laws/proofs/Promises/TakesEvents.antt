@@ -1,17 +1,8 @@
 -- The promise on every text: the events of tokens that are taken from a text are taken from it.
-use Rattle.std.proofs.Common.{◌≡◌, ℕ, ◌+◌, ◌*◌, ◌<◌, ◌≤◌, ◌^◌, List, [], ◌∷◌, ◌++◌, length, Option, Some, refl, inl, inr, arith}
-use Rattle.saphyr_scalar.specs.declared.scalar.position.Marker.{Marker}
-use Rattle.saphyr_scalar.specs.declared.scalar.fault.Refusal.{Refusal}
+use Rattle.event_laws.proofs.Common.{◌≡◌, ℕ, ◌+◌, ◌*◌, ◌<◌, ◌≤◌, ◌^◌, List, [], ◌∷◌, ◌++◌, length, Option, Some, refl, inl, inr, arith, Marker, Refusal, Kind, Piece, Remaining, scan, IsPlaceOf, AreTakenFrom, no_collections, AreAtPlaces, EventCursor, at_start, TakesEvents}
 use Rattle.saphyr_scalar.specs.Views.Cursor as scalar
 use Rattle.saphyr_scanner.specs.Grammar.Tokens as tokens
-use Rattle.saphyr_scanner.specs.Grammar.Tokens.{Kind}
-use Rattle.saphyr_scanner.specs.Views.Tokens.{Piece, Remaining}
-use Rattle.saphyr_scanner.specs.Steps.Remaining.{scan}
 use Rattle.saphyr_scanner.specs.Ends.{HasNoEnd, EndsWithStream}
-use Rattle.saphyr_scanner.specs.TokensTaken.{IsPlaceOf, AreTakenFrom, no_collections}
-use Rattle.saphyr_scanner.specs.AtPlaces.{AreAtPlaces}
-use Rattle.saphyr_machine.specs.Cursor.{EventCursor, at_start}
-use Rattle.event_laws.specs.Promises.{TakesEvents}
 use Rattle.event_laws.proofs.Refusing.{IsRefusedAt, IsLastOr, AreEnded, refused_at}
 use Rattle.event_laws.proofs.Promises.EachForest.{begins_each}
 use Rattle.event_laws.proofs.Sound.{begins}

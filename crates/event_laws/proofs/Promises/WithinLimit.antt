@@ -1,9 +1,5 @@
 -- A text within the limit is read as a whole, though no more items than a bound are taken.
-use Rattle.std.proofs.Common.{◌≡◌, ℕ, ◌≤◌, List, take, subst, arith}
-use Rattle.std.proofs.lemmas.List.{take_all}
-use Rattle.saphyr_machine.specs.Cursor.{EventCursor}
-use Rattle.event_laws.specs.Premises.{Grammar, ReadsEach}
-use Rattle.event_laws.specs.Promises.{ReadsClosedYaml}
+use Rattle.event_laws.proofs.Common.{◌≡◌, ℕ, ◌≤◌, List, take, subst, arith, take_all, EventCursor, Grammar, ReadsEach, ReadsClosedYaml}
 
 pub reads_whole : (G : Grammar) (limit bound : ℕ) (text : List ℕ) (parser : EventCursor) → limit ≤ bound
     → ReadsEach G limit (take bound text) parser → ReadsEach G limit text parser

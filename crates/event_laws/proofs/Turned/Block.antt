@@ -1,16 +1,9 @@
 -- The steps inside block collections are turned.
 use Rattle.event_laws.proofs.OwnTokens.{whole}
-use Rattle.std.proofs.Common.{◌≡◌, List, [], ◌∷◌, ◌++◌, refl, ◌∙◌, inl, inr, append_assoc, arith}
-use Rattle.saphyr_scalar.specs.declared.scalar.style.ScalarStyle.TheVariants.{Plain}
-use Rattle.saphyr_scanner.specs.Grammar.Forest.{Node, NoNode, MoreNodes, NoPair, MorePairs}
+use Rattle.event_laws.proofs.Common.{◌≡◌, List, [], ◌∷◌, ◌++◌, refl, ◌∙◌, inl, inr, append_assoc, arith, Plain, Node, NoNode, MoreNodes, NoPair, MorePairs, Kind, BlockEnd, BlockEntry, Key, Value, InBlock, InBlockMapping, BeginsWithValue, YieldsNode, YieldsMarkedPair, Part, Leaf, CloseSequence, CloseMapping, node_parts, pair_parts, SequenceEnd, MappingEnd, node_behind, node_here}
 use Rattle.saphyr_scanner.specs.Grammar.Forest as forest
-use Rattle.saphyr_scanner.specs.Grammar.Tokens.{Kind, BlockEnd, BlockEntry, Key, Value}
-use Rattle.saphyr_scanner.specs.Grammar.TokenGrammar.{InBlock, InBlockMapping, BeginsWithValue, YieldsNode, YieldsMarkedPair}
 use Rattle.saphyr_machine.specs.declared.state.State.TheVariants as state
-use Rattle.event_laws.specs.Preorder.{Part, Leaf, CloseSequence, CloseMapping, node_parts, pair_parts}
-use Rattle.saphyr_machine.specs.Events.{SequenceEnd, MappingEnd}
 use Rattle.saphyr_machine.specs.Steps.Block.{block_sequence_entry_at, block_sequence_entry, indentless_sequence_entry_at, indentless_sequence_entry, block_mapping_key_at, block_mapping_key, block_mapping_value_at, block_mapping_value}
-use Rattle.saphyr_machine.specs.Steps.Nodes.{node_behind, node_here}
 use Rattle.event_laws.proofs.Turned.Following.{Claim, Then, Exactly, IsOptionalOf, IsSkipped, IsValueOf, BlockEntries, BlockPairs, InBlockPairs, AtBlockValue, FollowsStates}
 use Rattle.event_laws.proofs.Turned.Turning.{regroup, join_behind, put, both_parts}
 use Rattle.event_laws.proofs.Turned.Entries.{WantedIn, Turns, TurnsAt, by_token, passes, leaves_out, behind_turned, here_turned, marked_value, collection_ends, closes}

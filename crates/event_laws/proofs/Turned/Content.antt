@@ -1,28 +1,10 @@
 -- The content of a node is turned, after its properties.
 use Rattle.event_laws.proofs.OwnTokens.{HasOwn, whole, Shape, StartsAt, content_spans, content_is, alone_is}
-use Rattle.event_laws.specs.EventsTaken.{AreContentTokens, SpansAll, IsOf}
-use Rattle.std.proofs.Common.{◌≡◌, ◌≤◌, ℕ, Bool, true, false, List, [], ◌∷◌, ◌++◌, length, Option, Some, option_map, encode_utf8_all, Ok, Err, refl, sym, ◌∙◌, inr, append_assoc, arith, length-append}
-use Rattle.std.specs.Prelude.{if◌then◌else◌}
-use Rattle.saphyr_scalar.specs.declared.scalar.position.Span.{Span}
-use Rattle.saphyr_scalar.specs.declared.scalar.style.ScalarStyle.{ScalarStyle}
-use Rattle.saphyr_scalar.specs.declared.scalar.style.ScalarStyle.TheVariants.{Plain}
-use Rattle.saphyr_scalar.specs.declared.scalar.fault.Refusal.{Refusal}
+use Rattle.event_laws.proofs.Common.{AreContentTokens, SpansAll, IsOf, ◌≡◌, ◌≤◌, ℕ, Bool, true, false, List, [], ◌∷◌, ◌++◌, length, Option, Some, option_map, encode_utf8_all, Ok, Err, refl, sym, ◌∙◌, inr, append_assoc, arith, length-append, if◌then◌else◌, Span, ScalarStyle, Plain, Refusal, HasOne, Tag, Node, Pairs, NoPair, MorePairs, Kind, Piece, YieldProperties, YieldsScalar, YieldsBlockPair, YieldBlockPairs, NodeContext, BlockMapping, State, one_more_anchor, anchors, Part, Leaf, Happening, ResolvedTag, Scalar, kinds, NodeProperties, span_up_to, has_property, node_without_content}
 use Rattle.saphyr_scalar.specs.declared.scalar.fault.FaultText.TheVariants as fault
-use Rattle.saphyr_scanner.specs.Grammar.Forest.{HasOne, Tag, Node, Pairs, NoPair, MorePairs}
 use Rattle.saphyr_scanner.specs.Grammar.Forest as forest
-use Rattle.saphyr_scanner.specs.Grammar.Tokens.{Kind}
-use Rattle.saphyr_scanner.specs.Views.Tokens.{Piece}
 use Rattle.saphyr_scanner.specs.Grammar.TokenGrammar as grammar
-use Rattle.saphyr_scanner.specs.Grammar.TokenGrammar.{YieldProperties, YieldsScalar, YieldsBlockPair, YieldBlockPairs}
-use Rattle.saphyr_machine.specs.declared.context.NodeContext.{NodeContext}
-use Rattle.saphyr_machine.specs.declared.context.NodeContext.TheVariants.{BlockMapping}
-use Rattle.saphyr_machine.specs.declared.state.State.{State}
 use Rattle.saphyr_machine.specs.declared.state.State.TheVariants as state
-use Rattle.event_laws.specs.Anchors.{one_more_anchor, anchors}
-use Rattle.event_laws.specs.Preorder.{Part, Leaf}
-use Rattle.saphyr_machine.specs.Events.{Happening, ResolvedTag, Scalar}
-use Rattle.event_laws.specs.Exactly.{kinds}
-use Rattle.saphyr_machine.specs.Steps.Nodes.{NodeProperties, span_up_to, has_property, node_without_content}
 use Rattle.event_laws.proofs.Emitted.Emitting.{Memory}
 use Rattle.event_laws.proofs.Remembering.{after, event_in, noted, with_properties}
 use Rattle.event_laws.proofs.Emitted.Nodes.{Has}

@@ -1,17 +1,7 @@
 -- Directives that were passed go together, and what they declare is remembered.
-use Rattle.std.proofs.Common.{◌≡◌, ℕ, Bool, true, false, List, [], ◌∷◌, ◌++◌, map, encode_utf8_all, Result, Ok, Err, refl, ap, ◌∙◌}
-use Rattle.std.specs.Prelude.{if◌then◌else◌}
-use Rattle.saphyr_scalar.specs.declared.scalar.position.Span.{Span}
-use Rattle.saphyr_scalar.specs.declared.scalar.fault.Refusal.{Refusal}
+use Rattle.event_laws.proofs.Common.{◌≡◌, ℕ, Bool, true, false, List, [], ◌∷◌, ◌++◌, map, encode_utf8_all, Result, Ok, Err, refl, ap, ◌∙◌, if◌then◌else◌, Span, Refusal, Handle, handle_bytes, Directive, Version, TagPrefix, Reserved, GoesWithAll, AreCompatible, Kind, directive_token, Piece, kinds, ◌>>=◌, Machine, with_meaning, is_listed, with_name, with_pieces, Declared, is_directive, directive_at, directives_from, IsWellFormed, AreWellFormed}
 use Rattle.saphyr_scalar.specs.declared.scalar.fault.FaultText.TheVariants as fault
-use Rattle.saphyr_scanner.specs.Grammar.Forest.{Handle, handle_bytes, Directive, Version, TagPrefix, Reserved, GoesWithAll, AreCompatible}
 use Rattle.saphyr_scanner.specs.Grammar.Tokens as tokens
-use Rattle.saphyr_scanner.specs.Grammar.Tokens.{Kind, directive_token}
-use Rattle.saphyr_scanner.specs.Views.Tokens.{Piece}
-use Rattle.event_laws.specs.Exactly.{kinds}
-use Rattle.saphyr_machine.specs.Steps.Machine.{◌>>=◌, Machine, with_meaning, is_listed, with_name, with_pieces}
-use Rattle.saphyr_machine.specs.Steps.Documents.{Declared, is_directive, directive_at, directives_from}
-use Rattle.event_laws.specs.WellFormed.{IsWellFormed, AreWellFormed}
 use Rattle.event_laws.proofs.Remembering.{declaring}
 use Rattle.event_laws.proofs.DirectivesPass.{IsFree, AreFree, declared_by, all_free_behind}
 

@@ -1,23 +1,8 @@
 -- The steps at the content and the end of documents are turned.
 use Rattle.event_laws.proofs.OwnTokens.{ArePassed}
-use Rattle.event_laws.specs.EventsTaken.{BelongsToNone}
-use Rattle.std.proofs.Common.{◌≡◌, Bool, true, false, List, [], ◌∷◌, ◌++◌, map, Option, Result, Ok, Err, refl, sym, ap, ◌∙◌, ◌⊎◌, inl, inr, append_assoc, append-nil, arith}
-use Rattle.std.specs.Prelude.{if◌then◌else◌}
-use Rattle.saphyr_scalar.specs.declared.scalar.position.Marker.{Marker}
-use Rattle.saphyr_scalar.specs.declared.scalar.position.Span.{Span}
-use Rattle.saphyr_scalar.specs.declared.scalar.fault.Refusal.{Refusal}
-use Rattle.saphyr_scanner.specs.Grammar.Forest.{Directive, Version, TagPrefix, Reserved, Forest}
+use Rattle.event_laws.proofs.Common.{BelongsToNone, ◌≡◌, Bool, true, false, List, [], ◌∷◌, ◌++◌, map, Option, Result, Ok, Err, refl, sym, ap, ◌∙◌, ◌⊎◌, inl, inr, append_assoc, append-nil, arith, if◌then◌else◌, Marker, Span, Refusal, Directive, Version, TagPrefix, Reserved, Forest, Kind, directive_token, Piece, InBlock, AreMarks, AreEndsAndMarks, YieldDocuments, Block, State, Part, CloseDocument, kinds, ◌>>=◌, Machine, with_pieces, node}
 use Rattle.saphyr_scanner.specs.Grammar.Tokens as tokens
-use Rattle.saphyr_scanner.specs.Grammar.Tokens.{Kind, directive_token}
-use Rattle.saphyr_scanner.specs.Views.Tokens.{Piece}
-use Rattle.saphyr_scanner.specs.Grammar.TokenGrammar.{InBlock, AreMarks, AreEndsAndMarks, YieldDocuments}
-use Rattle.saphyr_machine.specs.declared.context.NodeContext.TheVariants.{Block}
-use Rattle.saphyr_machine.specs.declared.state.State.{State}
 use Rattle.saphyr_machine.specs.declared.state.State.TheVariants as state
-use Rattle.event_laws.specs.Preorder.{Part, CloseDocument}
-use Rattle.event_laws.specs.Exactly.{kinds}
-use Rattle.saphyr_machine.specs.Steps.Machine.{◌>>=◌, Machine, with_pieces}
-use Rattle.saphyr_machine.specs.Steps.Nodes.{node}
 use Rattle.saphyr_machine.specs.Steps.Block.{block_node}
 use Rattle.saphyr_machine.specs.Steps.Documents.{is_mark, unpassed_token_from, unpassed_token, no_content, document_content_at, document_content, token_behind_marks_at, token_behind_marks, token_behind_document_at, token_behind_document, without_prefixes, document_end_at, document_end}
 use Rattle.event_laws.proofs.Emitted.Emitting.{Memory}

@@ -1,24 +1,10 @@
 -- The steps at the beginnings of the stream and of documents are turned.
 use Rattle.event_laws.proofs.OwnTokens.{ArePassed, HasOwn, whole, passed_one, behind_own}
-use Rattle.event_laws.specs.EventsTaken.{BelongsToNone}
-use Rattle.std.proofs.Common.{◌≡◌, ◌≤◌, Bool, true, false, List, [], ◌∷◌, ◌++◌, length, map, Option, Some, Result, Ok, Err, refl, ap, ◌∙◌, ◌⊎◌, inl, inr, append_assoc, arith}
-use Rattle.std.specs.Prelude.{if◌then◌else◌}
-use Rattle.saphyr_scalar.specs.declared.scalar.position.Span.{Span}
-use Rattle.saphyr_scalar.specs.declared.scalar.fault.Refusal.{Refusal}
-use Rattle.saphyr_scanner.specs.Grammar.Forest.{Directive, AreCompatible, Document, Forest}
+use Rattle.event_laws.proofs.Common.{BelongsToNone, ◌≡◌, ◌≤◌, Bool, true, false, List, [], ◌∷◌, ◌++◌, length, map, Option, Some, Result, Ok, Err, refl, ap, ◌∙◌, ◌⊎◌, inl, inr, append_assoc, arith, if◌then◌else◌, Span, Refusal, Directive, AreCompatible, Document, Forest, Kind, directive_token, Piece, InBlock, YieldDocuments, State, anchors, Part, OpenStream, CloseStream, OpenDocument, document_parts, kinds, ◌>>=◌, Machine, Emitted, with_pieces, AreWellFormed}
 use Rattle.saphyr_scanner.specs.Grammar.Tokens as tokens
-use Rattle.saphyr_scanner.specs.Grammar.Tokens.{Kind, directive_token}
-use Rattle.saphyr_scanner.specs.Views.Tokens.{Piece}
-use Rattle.saphyr_scanner.specs.Grammar.TokenGrammar.{InBlock, YieldDocuments}
-use Rattle.saphyr_machine.specs.declared.state.State.{State}
 use Rattle.saphyr_machine.specs.declared.state.State.TheVariants as state
-use Rattle.event_laws.specs.Anchors.{anchors}
-use Rattle.event_laws.specs.Preorder.{Part, OpenStream, CloseStream, OpenDocument, document_parts}
 use Rattle.saphyr_machine.specs.Events as events
-use Rattle.event_laws.specs.Exactly.{kinds}
-use Rattle.saphyr_machine.specs.Steps.Machine.{◌>>=◌, Machine, Emitted, with_pieces}
 use Rattle.saphyr_machine.specs.Steps.Documents.{is_end_or_mark, unpassed_token_from, unpassed_token, none_declared, directives, stream_start_at, stream_start, explicit_document_at, explicit_document, bare_document, implicit_start_at, implicit_start, explicit_start_at, explicit_start}
-use Rattle.event_laws.specs.WellFormed.{AreWellFormed}
 use Rattle.event_laws.proofs.Emitted.Emitting.{Memory}
 use Rattle.event_laws.proofs.Remembering.{event_in}
 use Rattle.event_laws.proofs.Turned.Following.{Claim, Then, IsNodeOf, IsOptionalOf, AreExplicit, Outside, BeginsFreely}

@@ -1,23 +1,9 @@
 -- Entries of collections are turned: nodes, nodes that are left out, and the ends of collections.
 use Rattle.event_laws.proofs.OwnTokens.{whole}
-use Rattle.event_laws.specs.EventsTaken.{BelongsToNone, IsOf}
-use Rattle.std.proofs.Common.{◌≡◌, Bool, true, false, List, [], ◌∷◌, ◌++◌, Option, Result, refl, sym, inl, inr, arith}
-use Rattle.saphyr_scalar.specs.declared.scalar.position.Span.{Span}
-use Rattle.saphyr_scalar.specs.declared.scalar.style.ScalarStyle.TheVariants.{Plain}
-use Rattle.saphyr_scalar.specs.declared.scalar.fault.Refusal.{Refusal}
+use Rattle.event_laws.proofs.Common.{BelongsToNone, IsOf, ◌≡◌, Bool, true, false, List, [], ◌∷◌, ◌++◌, Option, Result, refl, sym, inl, inr, arith, Span, Plain, Refusal, Kind, Value, Piece, NodeContext, State, anchors, Part, Leaf, node_parts, kinds, Happening, ◌>>=◌, Machine, Emitted, taken_token, emit, left_out_event, pop, AreWellFormed}
 use Rattle.saphyr_scanner.specs.Grammar.Forest as forest
-use Rattle.saphyr_scanner.specs.Grammar.Tokens.{Kind, Value}
-use Rattle.saphyr_scanner.specs.Views.Tokens.{Piece}
 use Rattle.saphyr_scanner.specs.Grammar.TokenGrammar as grammar
-use Rattle.saphyr_machine.specs.declared.context.NodeContext.{NodeContext}
-use Rattle.saphyr_machine.specs.declared.state.State.{State}
-use Rattle.event_laws.specs.Anchors.{anchors}
-use Rattle.event_laws.specs.Preorder.{Part, Leaf, node_parts}
-use Rattle.event_laws.specs.Exactly.{kinds}
-use Rattle.saphyr_machine.specs.Events.{Happening}
-use Rattle.saphyr_machine.specs.Steps.Machine.{◌>>=◌, Machine, Emitted, taken_token, emit, left_out_event, pop}
 use Rattle.saphyr_machine.specs.Steps.Nodes.{context_before, is_left_out, node_behind, node_here, node_inside, node_or_nothing_at}
-use Rattle.event_laws.specs.WellFormed.{AreWellFormed}
 use Rattle.event_laws.proofs.Emitted.Emitting.{Memory}
 use Rattle.event_laws.proofs.Remembering.{after, event_in}
 use Rattle.event_laws.proofs.Turned.Following.{Claim, Then, Exactly, IsNodeOf, IsOptionalOf, IsValueOf, IsAnyValueOf, Behind, FollowsStates, IsInsideDocument, IsAlive, Starts}

@@ -1,14 +1,9 @@
 -- What may still follow in a state of the machine: the tokens, and the parts of a forest that they stand for.
-use Rattle.std.proofs.Common.{◌≡◌, ◌⊎◌, true, List, [], ◌∷◌, ◌++◌}
-use Rattle.saphyr_scanner.specs.Grammar.Forest.{Node, Nodes, Pairs, Forest}
+use Rattle.event_laws.proofs.Common.{◌≡◌, ◌⊎◌, true, List, [], ◌∷◌, ◌++◌, Node, Nodes, Pairs, Forest, Kind, InFlow, InBlock, InBlockMapping, BeginsWithValue, YieldsNode, YieldsOptional, YieldsMarkedValue, YieldFlowEntries, YieldOtherFlowEntries, YieldFlowPairs, YieldOtherFlowPairs, YieldBlockEntries, YieldBlockPairs, AreEndsAndMarks, YieldDocuments, YieldsExplicitDocument, YieldsBehindDocument, Yields, State, Part, CloseDocument, CloseSequence, CloseMapping, node_parts, entry_parts, pair_parts, document_parts, parts}
 use Rattle.saphyr_scanner.specs.Grammar.Forest as forest
 use Rattle.saphyr_scanner.specs.Grammar.Tokens as tokens
-use Rattle.saphyr_scanner.specs.Grammar.Tokens.{Kind}
 use Rattle.saphyr_scanner.specs.Grammar.TokenGrammar as grammar
-use Rattle.saphyr_scanner.specs.Grammar.TokenGrammar.{InFlow, InBlock, InBlockMapping, BeginsWithValue, YieldsNode, YieldsOptional, YieldsMarkedValue, YieldFlowEntries, YieldOtherFlowEntries, YieldFlowPairs, YieldOtherFlowPairs, YieldBlockEntries, YieldBlockPairs, AreEndsAndMarks, YieldDocuments, YieldsExplicitDocument, YieldsBehindDocument, Yields}
-use Rattle.saphyr_machine.specs.declared.state.State.{State}
 use Rattle.saphyr_machine.specs.declared.state.State.TheVariants as state
-use Rattle.event_laws.specs.Preorder.{Part, CloseDocument, CloseSequence, CloseMapping, node_parts, entry_parts, pair_parts, document_parts, parts}
 
 -- ## Tokens with their parts
 

@@ -1,19 +1,8 @@
 -- The steps inside flow mappings are turned.
-use Rattle.std.proofs.Common.{◌≡◌, List, [], ◌∷◌, ◌++◌, refl, ap, ◌∙◌, inl, inr, append_assoc, append-nil, arith}
-use Rattle.saphyr_scalar.specs.declared.scalar.position.Span.{Span}
-use Rattle.saphyr_scalar.specs.declared.scalar.style.ScalarStyle.TheVariants.{Plain}
-use Rattle.saphyr_scanner.specs.Grammar.Forest.{Node, Pairs, NoPair, MorePairs}
+use Rattle.event_laws.proofs.Common.{◌≡◌, List, [], ◌∷◌, ◌++◌, refl, ap, ◌∙◌, inl, inr, append_assoc, append-nil, arith, Span, Plain, Node, Pairs, NoPair, MorePairs, Kind, FlowMappingEnd, FlowEntry, Key, Value, Piece, InFlow, BeginsWithValue, YieldsNode, YieldsFlowPair, YieldFlowPairs, YieldOtherFlowPairs, Flow, Part, Leaf, CloseMapping, node_parts, pair_parts, MappingEnd, left_out_event, node_behind, node_here}
 use Rattle.saphyr_scanner.specs.Grammar.Forest as forest
-use Rattle.saphyr_scanner.specs.Grammar.Tokens.{Kind, FlowMappingEnd, FlowEntry, Key, Value}
-use Rattle.saphyr_scanner.specs.Views.Tokens.{Piece}
-use Rattle.saphyr_scanner.specs.Grammar.TokenGrammar.{InFlow, BeginsWithValue, YieldsNode, YieldsFlowPair, YieldFlowPairs, YieldOtherFlowPairs}
-use Rattle.saphyr_machine.specs.declared.context.NodeContext.TheVariants.{Flow}
 use Rattle.saphyr_machine.specs.declared.state.State.TheVariants as state
-use Rattle.event_laws.specs.Preorder.{Part, Leaf, CloseMapping, node_parts, pair_parts}
-use Rattle.saphyr_machine.specs.Events.{MappingEnd}
-use Rattle.saphyr_machine.specs.Steps.Machine.{left_out_event}
 use Rattle.saphyr_machine.specs.Steps.Flow.{flow_mapping_pair_at, flow_mapping_first_key, flow_mapping_pair_behind_comma, flow_mapping_key_at, flow_mapping_key, flow_mapping_value_at, flow_mapping_value, flow_mapping_empty_value}
-use Rattle.saphyr_machine.specs.Steps.Nodes.{node_behind, node_here}
 use Rattle.event_laws.proofs.Turned.Following.{Claim, Then, Exactly, IsNodeOf, IsOptionalOf, IsSkipped, IsAnyValueOf, FirstPairs, OtherPairs, InMapping}
 use Rattle.event_laws.proofs.Turned.Turning.{regroup, replace, join_behind, put, both_parts}
 use Rattle.event_laws.proofs.Turned.Entries.{WantedIn, Turns, TurnsAt, by_token, passes, leaves_out, enters, behind_turned, here_turned, marked_value, any_value, closes}

@@ -1,31 +1,13 @@
 -- A node is turned, with its properties.
 use Rattle.event_laws.proofs.OwnTokens.{HasOwn, whole, StartsAt, content_spans, content_is, no_opening}
-use Rattle.event_laws.specs.EventsTaken.{IsTagKind}
-use Rattle.std.proofs.Common.{◌≡◌, ℕ, List, [], ◌∷◌, ◌++◌, Option, Some, None, option_map, encode_utf8_all, Result, Ok, Err, refl, sym, ap, subst, ◌⊎◌, inl, inr, append_assoc, arith}
-use Rattle.saphyr_scalar.specs.declared.scalar.position.Marker.{Marker}
-use Rattle.saphyr_scalar.specs.declared.scalar.position.Span.{Span}
-use Rattle.saphyr_scalar.specs.declared.scalar.style.ScalarStyle.{ScalarStyle}
-use Rattle.saphyr_scalar.specs.declared.scalar.fault.Refusal.{Refusal}
-use Rattle.saphyr_scanner.specs.Grammar.Forest.{Tag, Nodes}
+use Rattle.event_laws.proofs.Common.{IsTagKind, ◌≡◌, ℕ, List, [], ◌∷◌, ◌++◌, Option, Some, None, option_map, encode_utf8_all, Result, Ok, Err, refl, sym, ap, subst, ◌⊎◌, inl, inr, append_assoc, arith, Marker, Span, ScalarStyle, Refusal, Tag, Nodes, Kind, tag_token, Piece, InBlockMapping, YieldBlockEntries, HasNode, NodeContext, BlockMapping, State, Part, Reference, OpenSequence, CloseSequence, OpenMapping, CloseMapping, entry_parts, kinds, ◌>>=◌, Machine, Emitted, taken_token, meaning, next_id, if◌then◌else◌, resolved_tag_at, IsWellFormed, AreWellFormed}
 use Rattle.saphyr_scanner.specs.Grammar.Forest as forest
 use Rattle.saphyr_scanner.specs.Grammar.Tokens as tokens
-use Rattle.saphyr_scanner.specs.Grammar.Tokens.{Kind, tag_token}
-use Rattle.saphyr_scanner.specs.Views.Tokens.{Piece}
 use Rattle.saphyr_scanner.specs.Grammar.TokenGrammar as grammar
-use Rattle.saphyr_scanner.specs.Grammar.TokenGrammar.{InBlockMapping, YieldBlockEntries, HasNode}
-use Rattle.saphyr_machine.specs.declared.context.NodeContext.{NodeContext}
-use Rattle.saphyr_machine.specs.declared.context.NodeContext.TheVariants.{BlockMapping}
-use Rattle.saphyr_machine.specs.declared.state.State.{State}
 use Rattle.saphyr_machine.specs.declared.state.State.TheVariants as state
-use Rattle.event_laws.specs.Preorder.{Part, Reference, OpenSequence, CloseSequence, OpenMapping, CloseMapping, entry_parts}
 use Rattle.saphyr_machine.specs.Events.{ResolvedTag, Alias, SequenceStart, MappingStart}
-use Rattle.event_laws.specs.Exactly.{kinds}
-use Rattle.saphyr_machine.specs.Steps.Machine.{◌>>=◌, Machine, Emitted, taken_token, meaning, next_id}
-use Rattle.std.specs.Prelude.{if◌then◌else◌}
 use Rattle.saphyr_machine.specs.Steps.Contexts.{allows_block}
-use Rattle.saphyr_machine.specs.Steps.Tags.{resolved_tag_at}
 use Rattle.saphyr_machine.specs.Steps.Nodes.{NodeProperties, no_node_properties, node_content_at, node_content, next_content, alias_of, alias_node, node_behind_anchor_at, node_behind_anchor, node_behind_tag_at, node_behind_tag, node_at, node}
-use Rattle.event_laws.specs.WellFormed.{IsWellFormed, AreWellFormed}
 use Rattle.event_laws.proofs.Emitted.Emitting.{Memory}
 use Rattle.event_laws.proofs.Remembering.{noted, resolve}
 use Rattle.event_laws.proofs.Turned.Following.{Claim, Then, Exactly, IsNodeOf, FirstEntries, FirstPairs, BlockEntries, BlockPairs, FollowsStates, IsAlive, BeginsWithEntry}

@@ -1,18 +1,9 @@
 -- The steps inside flow sequences are turned.
 use Rattle.event_laws.proofs.OwnTokens.{whole}
-use Rattle.std.proofs.Common.{◌≡◌, List, [], ◌∷◌, ◌++◌, refl, ap, ◌∙◌, ◌⊎◌, inl, inr, append-nil, arith}
-use Rattle.saphyr_scalar.specs.declared.scalar.position.Marker.{Marker}
-use Rattle.saphyr_scanner.specs.Grammar.Forest.{Node, Map, Nodes, NoNode, MoreNodes, NoPair, MorePairs}
+use Rattle.event_laws.proofs.Common.{◌≡◌, List, [], ◌∷◌, ◌++◌, refl, ap, ◌∙◌, ◌⊎◌, inl, inr, append-nil, arith, Marker, Node, Map, Nodes, NoNode, MoreNodes, NoPair, MorePairs, Kind, FlowSequenceEnd, FlowEntry, Key, Value, InFlow, YieldsNode, YieldsPairEntry, YieldsSinglePair, YieldFlowEntries, YieldOtherFlowEntries, Flow, State, Part, CloseSequence, OpenMapping, CloseMapping, node_parts, SequenceEnd, is_left_out, node_or_nothing_at}
 use Rattle.saphyr_scanner.specs.Grammar.Forest as forest
-use Rattle.saphyr_scanner.specs.Grammar.Tokens.{Kind, FlowSequenceEnd, FlowEntry, Key, Value}
-use Rattle.saphyr_scanner.specs.Grammar.TokenGrammar.{InFlow, YieldsNode, YieldsPairEntry, YieldsSinglePair, YieldFlowEntries, YieldOtherFlowEntries}
-use Rattle.saphyr_machine.specs.declared.context.NodeContext.TheVariants.{Flow}
-use Rattle.saphyr_machine.specs.declared.state.State.{State}
 use Rattle.saphyr_machine.specs.declared.state.State.TheVariants as state
-use Rattle.event_laws.specs.Preorder.{Part, CloseSequence, OpenMapping, CloseMapping, node_parts}
-use Rattle.saphyr_machine.specs.Events.{SequenceEnd}
 use Rattle.saphyr_machine.specs.Steps.Flow.{flow_sequence_first_entry_at, flow_sequence_first_entry, flow_sequence_entry_at, flow_sequence_entry, flow_sequence_entry_mapping_key, flow_sequence_entry_mapping_node, flow_sequence_entry_mapping_value_at, flow_sequence_entry_mapping_value, flow_sequence_entry_mapping_end}
-use Rattle.saphyr_machine.specs.Steps.Nodes.{is_left_out, node_or_nothing_at}
 use Rattle.event_laws.proofs.Turned.Following.{Claim, Then, Exactly, IsNodeOf, IsOptionalOf, IsAnyValueOf, FirstEntries, OtherEntries, InSequence, AtPairEnd, AtPairValue, FollowsStates}
 use Rattle.event_laws.proofs.Turned.Turning.{regroup, replace, join_behind, put, both_parts}
 use Rattle.event_laws.proofs.Turned.Entries.{Turns, TurnsAt, by_token, passes, leaves_out, optional_turned, here_turned, enters, marked_value, any_value, closes}

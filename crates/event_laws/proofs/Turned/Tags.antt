@@ -1,24 +1,11 @@
 -- The tag that a machine resolves is one that the token may stand for.
-use Rattle.std.proofs.Common.{◌≡◌, ℕ, ◌-◌, Bool, true, false, List, [], ◌∷◌, ◌++◌, length, Option, Some, option_map, encode_utf8_all, codes, Result, Ok, refl, sym, ap, ◌∙◌, subst, arith, length-append}
+use Rattle.event_laws.proofs.Common.{◌≡◌, ℕ, ◌-◌, Bool, true, false, List, [], ◌∷◌, ◌++◌, length, Option, Some, option_map, encode_utf8_all, codes, Result, Ok, refl, sym, ap, ◌∙◌, subst, arith, length-append, slice_index, option_or, bytes_eq, eq-eqb, le-leb, bytes_eq-Decides, Marker, Refusal, Handle, Primary, Secondary, Named, handle_bytes, Tag, NonSpecific, Verbatim, Shorthand, tag_token, ResolvedTag, ◌>>=◌, Names, meaning, default_prefix}
 use lib.Utf8.{encode}
-use Rattle.std.specs.Prelude.{slice_index}
-use Rattle.std.specs.Option.{option_or}
-use Rattle.std.specs.Str.{bytes_eq}
-use Rattle.std.proofs.Common.{eq-eqb}
 use Rattle.std.proofs.Math.Seq.{get_or-append_seam}
-use Rattle.std.proofs.lemmas.Bool.{le-leb}
-use Rattle.std.proofs.lemmas.Slice.Eq.{bytes_eq-Decides}
 use Rattle.saphyr_input.specs.Indicators.{exclamation_mark}
-use Rattle.saphyr_scalar.specs.declared.scalar.position.Marker.{Marker}
-use Rattle.saphyr_scalar.specs.declared.scalar.fault.Refusal.{Refusal}
 use Rattle.saphyr_scalar.proofs.Properties.TagsRead as scalar
-use Rattle.saphyr_scanner.specs.Grammar.Forest.{Handle, Primary, Secondary, Named, handle_bytes, Tag, NonSpecific, Verbatim, Shorthand}
 use Rattle.saphyr_scanner.specs.Grammar.Tokens as tokens
-use Rattle.saphyr_scanner.specs.Grammar.Tokens.{tag_token}
-use Rattle.saphyr_machine.specs.Events.{ResolvedTag}
-use Rattle.saphyr_machine.specs.Steps.Machine.{◌>>=◌, Names, meaning}
 use Rattle.saphyr_machine.specs.Steps.Tags.{is_named_handle, undeclared_prefix, declared_prefix_or, declared_prefix, resolved_tag_at}
-use Rattle.event_laws.specs.TagResolution.{default_prefix}
 use Rattle.event_laws.proofs.Emitted.Nodes.{handle_is_some, has_handle}
 use Rattle.event_laws.proofs.Remembering.{resolve}
 

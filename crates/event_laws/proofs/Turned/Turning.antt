@@ -1,16 +1,6 @@
 -- What a step of the machine makes of what may follow.
 use Rattle.event_laws.proofs.OwnTokens.{HasOwn, behind_own}
-use Rattle.event_laws.specs.EventsTaken.{BelongsToNone}
-use Rattle.std.proofs.Common.{◌≡◌, ◌≤◌, List, [], ◌∷◌, ◌++◌, length, Option, Some, Result, Ok, Err, refl, ap, append_assoc, arith}
-use Rattle.saphyr_scalar.specs.declared.scalar.position.Span.{Span}
-use Rattle.saphyr_scalar.specs.declared.scalar.fault.Refusal.{Refusal}
-use Rattle.saphyr_scanner.specs.Grammar.Tokens.{Kind}
-use Rattle.saphyr_scanner.specs.Views.Tokens.{Piece}
-use Rattle.saphyr_machine.specs.declared.state.State.{State}
-use Rattle.event_laws.specs.Anchors.{anchors}
-use Rattle.event_laws.specs.Preorder.{Part}
-use Rattle.event_laws.specs.Exactly.{kinds}
-use Rattle.saphyr_machine.specs.Steps.Machine.{Machine, Emitted}
+use Rattle.event_laws.proofs.Common.{BelongsToNone, ◌≡◌, ◌≤◌, List, [], ◌∷◌, ◌++◌, length, Option, Some, Result, Ok, Err, refl, ap, append_assoc, arith, Span, Refusal, Kind, Piece, State, anchors, Part, kinds, Machine, Emitted}
 use Rattle.event_laws.proofs.Emitted.Emitting.{Memory}
 use Rattle.event_laws.proofs.Remembering.{after, event_in}
 use Rattle.event_laws.proofs.Turned.Following.{Claim, Then, Exactly, FollowsStates, IsAlive, Starts}

@@ -1,5 +1,4 @@
-use Rattle.saphyr_scanner.specs.Steps.Remaining.{scan}
-use Rattle.saphyr_input.specs.Breaks.{normalized}
+use Rattle.event_laws.proofs.Common.{scan, normalized}
 use Rattle.event_laws.proofs.ByKinds.{emits_too}
 use Rattle.event_laws.proofs.emits_breaks_alike.Goals as goal
 

@@ -1,9 +1,4 @@
-use Rattle.std.proofs.Common.{refl, arith}
-use Rattle.saphyr_scanner.specs.Limits.{most_open}
-use Rattle.saphyr_scanner.specs.Steps.Remaining.{scan}
-use Rattle.yaml_laws.specs.Grammar.Yaml.{IsYamlText}
-use Rattle.event_laws.specs.Promises.{IsShallowJson}
-use Rattle.saphyr_machine.specs.Cursor.{at_start}
+use Rattle.event_laws.proofs.Common.{refl, arith, most_open, scan, IsYamlText, IsShallowJson, at_start}
 use Rattle.event_laws.proofs.Promises.OneMeaning.{mean_the_same}
 use Rattle.event_laws.proofs.Promises.ReadsJson.{reads_each_json}
 use Rattle.event_laws.proofs.Promises.ReadsYaml.{reads_yaml}

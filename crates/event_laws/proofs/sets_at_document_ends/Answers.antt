@@ -1,5 +1,4 @@
-use Rattle.saphyr_machine.specs.Cursor.{keeping_tags}
-use Rattle.saphyr_machine.proofs.Calls.Handing.{advances}
+use Rattle.event_laws.proofs.Common.{keeping_tags, advances}
 use Rattle.event_laws.proofs.Settings.{sets, sets_behind}
 use Rattle.event_laws.proofs.sets_at_document_ends.Goals as goal
 

@@ -1,27 +1,14 @@
 -- Where a block scalar is spelled, it is read.
 use Rattle.std.proofs.Common.{◌≡◌, ◌≢◌, ℕ, zero, suc, ◌+◌, ◌<◌, ◌≤◌, Bool, true, false, List, [], ◌∷◌, ◌++◌, length, slice_index, max, Ok, refl, sym, ap, inl, inr, ◌∙◌, arith, subst, nat_eq, nat_lt, nat_le, encode_utf8_all}
-use Rattle.std.specs.Prelude.{◌&&◌, ◌==◌, Option, Some, None, unwrap_or, ◌⊎◌}
-use Rattle.std.proofs.lemmas.Bool.Decides.{nat_tests}
-use Rattle.saphyr_input.specs.Classes.{is_break, is_z, is_yaml_non_break}
-use Rattle.saphyr_input.specs.Places.{is_document_indicator}
-use Rattle.saphyr_scalar.specs.declared.values.BlockStyle.{BlockStyle}
-use Rattle.saphyr_scalar.specs.declared.values.Chomping.{Chomping}
-use Rattle.saphyr_scalar.specs.declared.scalar.position.Marker.{Marker}
+use Rattle.scalar_laws.proofs.Common.{◌&&◌, ◌==◌, Option, Some, None, unwrap_or, ◌⊎◌, nat_tests, is_break, is_z, is_yaml_non_break, is_document_indicator, BlockStyle, Chomping, Marker, Cursor, along, spaces, IsIndentation, IsBehind, IsBody, leading, first, first_and_last, AreEmptyLines, no_empty_lines, empty_line, empty_line_and_spaces, IsEmptyBody, empty_lines, spaces_alone, IsBlockScalar, IsTaken, Line, Empty, has_content, chomped_alone, lines_value, line_feeds, no_line_at, and_false, clash, by_test}
 use Rattle.saphyr_scalar.specs.declared.scalar.position.Span.{Span}
 use Rattle.saphyr_scalar.specs.Steps.Block.{BlockHeaderRead, EmptyLinesRead, pass_empty_lines, pass_empty_lines_at, between_at, tail, tail_alone, is_unfinished, is_indentation, line_starts, line_cursor, with_column, lines_ended, chomped_lines, content, behind_leading_lines, behind_header, block_scalar, header, no_lines, given_indentation, BlockScalarRead}
-use Rattle.saphyr_scalar.specs.Views.Cursor.{Cursor, along}
-use Rattle.saphyr_scalar.specs.Reading.BlockLines.{spaces}
-use Rattle.scalar_laws.specs.Spelling.Block.{IsIndentation, IsBehind, IsBody, leading, first, first_and_last, AreEmptyLines, no_empty_lines, empty_line, empty_line_and_spaces, IsEmptyBody, empty_lines, spaces_alone, IsBlockScalar, IsTaken}
-use Rattle.saphyr_scalar.specs.Values.Block.{Line, Empty, has_content, chomped_alone, lines_value}
-use Rattle.saphyr_scalar.specs.Values.Folding.{line_feeds}
 use Rattle.saphyr_scalar.proofs.Block.Reads.{same_gift}
 use Rattle.saphyr_scalar.proofs.Block.Law.{values_of_lines}
-use Rattle.saphyr_scalar.proofs.Block.Turns.{no_line_at}
 use Rattle.scalar_laws.proofs.Block.PlacedValues.{Left, none_starts, no_break_at, nothing_behind, Value}
 use Rattle.scalar_laws.proofs.Block.EmptyBodies.{Passed, no_space_behind, no_indentation, empty_passed, spaces_passed, empty_lines_alone}
 use Rattle.scalar_laws.proofs.Block.LeadingLines.{IsLimit, Led, led_on}
 use Rattle.scalar_laws.proofs.Block.Headers.{header_read}
-use Rattle.saphyr_input.proofs.Basics.Booleans.{and_false, clash, by_test}
 
 -- the indentation's limit is that of the header
 pub limit_of : (indent i d : ℕ) (is_given : Bool) → IsIndentation indent i d is_given

@@ -1,15 +1,5 @@
 -- Where a block scalar has no content, its empty lines are taken off, and no more.
-use Rattle.std.proofs.Common.{◌≡◌, ◌≢◌, ℕ, ◌+◌, ◌≤◌, Bool, true, false, List, [], ◌∷◌, ◌++◌, length, slice_index, refl, sym, ◌∙◌, arith, subst, inr}
-use Rattle.std.specs.Prelude.{max, Option, ◌⊎◌}
-use Rattle.std.proofs.lemmas.List.{append-nil}
-use Rattle.saphyr_input.specs.Classes.{is_break}
-use Rattle.saphyr_scalar.specs.declared.scalar.position.Marker.{Marker}
-use Rattle.saphyr_scalar.specs.Steps.Block.{EmptyLinesRead, line_cursor, is_indentation, with_column, with_empty_line, pass_empty_lines}
-use Rattle.saphyr_scalar.specs.Views.Cursor.{Cursor, along, next_line}
-use Rattle.saphyr_scalar.specs.Reading.BlockLines.{spaces}
-use Rattle.saphyr_scalar.proofs.Block.Lines.{stops}
-use Rattle.saphyr_scalar.specs.Values.Block.{Line, Empty, has_content}
-use Rattle.scalar_laws.specs.Spelling.Block.{AreEmptyLines, no_empty_lines, empty_line, empty_line_and_spaces, IsBehind}
+use Rattle.scalar_laws.proofs.Common.{◌≡◌, ◌≢◌, ℕ, ◌+◌, ◌≤◌, Bool, true, false, List, [], ◌∷◌, ◌++◌, length, slice_index, refl, sym, ◌∙◌, arith, subst, inr, max, Option, ◌⊎◌, append-nil, is_break, Marker, EmptyLinesRead, line_cursor, is_indentation, with_column, with_empty_line, pass_empty_lines, Cursor, along, next_line, spaces, stops, Line, Empty, has_content, AreEmptyLines, no_empty_lines, empty_line, empty_line_and_spaces, IsBehind}
 use Rattle.scalar_laws.proofs.Block.PlacedValues.{nothing_behind, no_break_at}
 use Rattle.scalar_laws.proofs.Block.LeadingLines.{IsLimit, e_spaces, e_feed}
 

@@ -1,21 +1,8 @@
 -- Where the header of a block scalar is, it is taken off.
-use Rattle.std.proofs.Common.{◌≡◌, ◌≢◌, ℕ, suc, ◌+◌, ◌≤◌, true, false, List, [], ◌∷◌, ◌++◌, length, drop, slice_index, Ok, refl, ap, arith, add-zero, nat_eq, inl, inr}
-use Rattle.std.specs.Prelude.{◌⊎◌, Option, Some, None, unwrap_or}
-use Rattle.std.specs.List.{prefix_len}
-use Rattle.std.proofs.lemmas.Bool.Decides.{nat_tests}
-use Rattle.std.proofs.Math.Seq.{drop-append_seam, drop-append-add}
-use Rattle.saphyr_input.specs.Indicators.{hyphen, plus_sign}
-use Rattle.saphyr_input.specs.Classes.{is_blank, is_bom, is_digit, is_yaml_non_break, line_feed}
-use Rattle.saphyr_input.specs.Separation.{blank_len, comment_len, separation_len, is_bare_comment}
+use Rattle.scalar_laws.proofs.Common.{◌≡◌, ◌≢◌, ℕ, suc, ◌+◌, ◌≤◌, true, false, List, [], ◌∷◌, ◌++◌, length, drop, slice_index, Ok, refl, ap, arith, add-zero, nat_eq, inl, inr, ◌⊎◌, Option, Some, None, unwrap_or, prefix_len, nat_tests, drop-append_seam, drop-append-add, hyphen, plus_sign, is_blank, is_bom, is_digit, is_yaml_non_break, line_feed, blank_len, comment_len, separation_len, is_bare_comment, Chomping, Strip, Clip, Keep, AreIn, Marker, IsIndicator, no_digit, digit, IsChomping, strip, clip, keep, IsHeaderEnd, no_comment, comment, no_comment_at_end, comment_at_end, IsHeader, digit_first, chomping_first, nothing_refused}
 use Rattle.saphyr_input.specs.declared.input.SkipTabs.TheVariants.{Yes}
-use Rattle.saphyr_scalar.specs.declared.values.Chomping.{Chomping}
-use Rattle.saphyr_scalar.specs.declared.values.Chomping.TheVariants.{Strip, Clip, Keep}
-use Rattle.saphyr_scalar.specs.Spelling.Tag.{AreIn}
-use Rattle.saphyr_scalar.specs.declared.scalar.position.Marker.{Marker}
 use Rattle.saphyr_scalar.specs.Views.Cursor.{Cursor, pass, pass_blanks, pass_line, separation}
 use Rattle.saphyr_scalar.specs.Steps.Block.{chomping, indicator, header_break, header_end, last_chomping, header_behind, header}
-use Rattle.scalar_laws.specs.Spelling.Block.{IsIndicator, no_digit, digit, IsChomping, strip, clip, keep, IsHeaderEnd, no_comment, comment, no_comment_at_end, comment_at_end, IsHeader, digit_first, chomping_first}
-use Rattle.saphyr_scalar.proofs.Directives.TailsRead.{nothing_refused}
 use Rattle.saphyr_input.proofs.Basics.Numbers.{one_and}
 
 break_read : (start : Marker) (v : Cursor) (x : List ℕ) → v.rest ≡ line_feed ∷ x → slice_index x 0 ≢ 9

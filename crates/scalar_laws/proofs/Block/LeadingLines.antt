@@ -1,21 +1,8 @@
 -- Where the leading empty lines of a block scalar are, they are taken off, with the indentation of its first content
 -- line.
-use Rattle.std.proofs.Common.{◌≡◌, ◌≢◌, ℕ, zero, suc, ◌+◌, ◌<◌, ◌≤◌, Bool, true, false, List, [], ◌∷◌, ◌++◌, slice_index, refl, sym, ap, ◌∙◌, arith, subst, append_assoc}
-use Rattle.std.specs.Prelude.{max, Option, Some, None}
-use Rattle.saphyr_input.specs.Classes.{is_blank, is_yaml_non_break, line_feed, space}
-use Rattle.saphyr_scalar.specs.declared.values.BlockStyle.{BlockStyle}
-use Rattle.saphyr_scalar.specs.declared.scalar.position.Marker.{Marker}
+use Rattle.scalar_laws.proofs.Common.{◌≡◌, ◌≢◌, ℕ, zero, suc, ◌+◌, ◌<◌, ◌≤◌, Bool, true, false, List, [], ◌∷◌, ◌++◌, slice_index, refl, sym, ap, ◌∙◌, arith, subst, append_assoc, max, Option, Some, None, is_blank, is_yaml_non_break, line_feed, space, BlockStyle, Marker, Cursor, along, next_line, spaces, along_none, along_more, stops, IsBehind, IsBody, leading, first, first_and_last, Chomping, Line, Empty, Content, contents, contents_behind, empty_at_end, has_content, line_feeds, non_break_no_break}
 use Rattle.saphyr_scalar.specs.Steps.Block.{EmptyLinesRead, line_cursor, is_indentation, with_column, with_empty_line, pass_empty_lines, between}
-use Rattle.saphyr_scalar.specs.Views.Cursor.{Cursor, along, next_line}
-use Rattle.saphyr_scalar.specs.Reading.BlockLines.{spaces}
-use Rattle.saphyr_scalar.proofs.Moving.{along_none, along_more}
-use Rattle.saphyr_scalar.proofs.Block.Lines.{stops}
-use Rattle.scalar_laws.specs.Spelling.Block.{IsBehind, IsBody, leading, first, first_and_last}
-use Rattle.saphyr_scalar.specs.declared.values.Chomping.{Chomping}
 use Rattle.saphyr_scalar.specs.Values.Block as reading
-use Rattle.saphyr_scalar.specs.Values.Block.{Line, Empty, Content, contents, contents_behind, empty_at_end, has_content}
-use Rattle.saphyr_scalar.specs.Values.Folding.{line_feeds}
-use Rattle.saphyr_input.proofs.Basics.Characters.{non_break_no_break}
 use Rattle.scalar_laws.proofs.Block.PlacedValues.{Left, nothing_behind, content_left, last_left, lines_left, Value, content_value, last_value, lines_value_left}
 
 -- the indentation that is given, or is to be found

@@ -1,25 +1,10 @@
 -- Where the lines of a block scalar are, what is read has their value, with the breaks at their end.
 use Rattle.std.proofs.Common.{◌≡◌, ℕ, suc, ◌+◌, ◌<◌, ◌≤◌, Bool, true, false, List, [], ◌∷◌, ◌++◌, length, slice_index, refl, sym, ap, ◌∙◌, arith, append_assoc, ◌≢◌, zero, nat_eq, nat_lt, inl, inr}
-use Rattle.std.specs.Prelude.{◌&&◌, Option, Some, not, is_some, ◌⊎◌}
-use Rattle.std.proofs.lemmas.Bool.Decides.{nat_tests}
-use Rattle.std.proofs.lemmas.List.{append-nil}
-use Rattle.saphyr_input.specs.Classes.{is_blank, line_feed, is_z, is_break, is_yaml_non_break, carriage_return}
-use Rattle.saphyr_scalar.specs.declared.values.BlockStyle.{BlockStyle}
-use Rattle.saphyr_scalar.specs.declared.scalar.position.Marker.{Marker}
-use Rattle.saphyr_scalar.specs.Views.Cursor.{Cursor, along, next_line}
+use Rattle.scalar_laws.proofs.Common.{◌&&◌, Option, Some, not, is_some, ◌⊎◌, nat_tests, append-nil, is_blank, line_feed, is_z, is_break, is_yaml_non_break, carriage_return, BlockStyle, Marker, Cursor, along, next_line, spaces, Chomping, Line, is_more_indented, contents_behind, empty_at_end, is_document_indicator, AreIn, along_none, along_more, line_begins, line_on, no_line_at, and_false, ne_eqb}
 use Rattle.saphyr_scalar.specs.Steps.Block.{line_cursor, break_before, LinesRead, lines_behind_text, between, tail, is_unfinished, is_indentation, line_starts, lines_ended, line}
-use Rattle.saphyr_scalar.specs.Reading.BlockLines.{spaces}
 use Rattle.saphyr_scalar.proofs.Block.Values.{cut_tail, same_break}
 use Rattle.scalar_laws.specs.Spelling.Block.{IsContent, AreLines, no_lines, empty, content, last, last_empty, left_of, IsBehind}
-use Rattle.saphyr_scalar.specs.declared.values.Chomping.{Chomping}
 use Rattle.saphyr_scalar.specs.Values.Block as reading
-use Rattle.saphyr_scalar.specs.Values.Block.{Line, is_more_indented, contents_behind, empty_at_end}
-use Rattle.saphyr_input.specs.Places.{is_document_indicator}
-use Rattle.saphyr_scalar.specs.Spelling.Tag.{AreIn}
-use Rattle.saphyr_scalar.proofs.Moving.{along_none, along_more}
-use Rattle.saphyr_scalar.proofs.Block.Turns.{line_begins, line_on, no_line_at}
-use Rattle.saphyr_input.proofs.Basics.Booleans.{and_false}
-use Rattle.std.proofs.lemmas.Bool.{ne_eqb}
 
 -- the spaces of an indentation
 pub space_left : (i col : ℕ) → col < i → is_indentation (Some i) col 32 ≡ true

@@ -1,21 +1,10 @@
 -- Block scalars are read alike.
-use Rattle.std.proofs.Common.{◌≡◌, ℕ, ◌+◌, Bool, true, false, List, [], ◌∷◌, ◌++◌, slice_index, refl, ap, cond, arith}
-use Rattle.std.specs.Prelude.{◌==◌, not, Option, Some, None}
-use Rattle.saphyr_input.specs.Classes.{is_breakz, is_blank, is_z, is_digit, is_yaml_non_break, tab, space}
+use Rattle.scalar_laws.proofs.Common.{◌≡◌, ℕ, ◌+◌, Bool, true, false, List, [], ◌∷◌, ◌++◌, slice_index, refl, ap, cond, arith, ◌==◌, not, Option, Some, None, is_breakz, is_blank, is_z, is_digit, is_yaml_non_break, tab, space, BlockStyle, Chomping, Strip, Clip, Keep, Marker, Cursor, along, next_line, pass, both_by, AreAlike, AreSame, AreBlocksAlike, not-false, no_return}
 use Rattle.saphyr_input.specs.declared.input.SkipTabs.TheVariants as skip
-use Rattle.saphyr_scalar.specs.declared.values.BlockStyle.{BlockStyle}
-use Rattle.saphyr_scalar.specs.declared.values.Chomping.{Chomping}
-use Rattle.saphyr_scalar.specs.declared.values.Chomping.TheVariants.{Strip, Clip, Keep}
-use Rattle.saphyr_scalar.specs.declared.scalar.position.Marker.{Marker}
 use Rattle.saphyr_scalar.specs.Steps.Block.{EmptyLinesRead, chomping, indicator, header_break, header_end, last_chomping, header_behind, header, is_indentation, inside_break, with_empty_line, pass_empty_lines, line_starts, break_before, LinesRead, lines_behind_text, between, line, is_unfinished, tail_alone, given_indentation, chomped_lines, content, behind_leading_lines, no_lines, behind_header, block_scalar}
-use Rattle.saphyr_scalar.specs.Views.Cursor.{Cursor, along, next_line, pass}
-use Rattle.saphyr_scalar.proofs.Choices.{both_by}
-use Rattle.scalar_laws.specs.Alike.{AreAlike, AreSame, AreBlocksAlike}
 use Rattle.scalar_laws.proofs.Breaks.Sides.{Normal, nothing, character, feed, return, pair, no_feed, first_in, first_same, Places, over_pair, moved_along, moved_down, marks_alike, alike, normal_of, places_of, NoBreak, no_break_in, one_passed}
 use Rattle.scalar_laws.proofs.Breaks.Results.{Both, gives, refused, choose_first, and_then, and_same}
 use Rattle.scalar_laws.proofs.Breaks.Separations.{indicator_alike, break_alike, separation_alike}
-use Rattle.std.proofs.lemmas.Bool.{not-false}
-use Rattle.saphyr_input.proofs.Basics.Characters.{no_return}
 
 -- ## Headers
 

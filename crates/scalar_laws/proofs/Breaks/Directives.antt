@@ -1,13 +1,8 @@
 -- Directives are read alike.
 use Rattle.std.proofs.Common.{ℕ, suc, ◌+◌, ◌-◌, ◌*◌, false, List, [], length, refl, encode_utf8, codes}
-use Rattle.std.specs.Prelude.{◌||◌, ◌==◌, nat_lt, bytes_eq}
-use Rattle.std.specs.List.{prefix_len}
-use Rattle.saphyr_input.specs.Classes.{is_blank, is_breakz, is_blank_or_breakz, is_digit, is_alpha, is_tag_char, is_yaml_non_space}
+use Rattle.scalar_laws.proofs.Common.{◌||◌, ◌==◌, nat_lt, bytes_eq, prefix_len, is_blank, is_breakz, is_blank_or_breakz, is_digit, is_alpha, is_tag_char, is_yaml_non_space, Marker, Cursor, along, pass_all_blanks, AreAlike, AreSame, AreDirectivesAlike}
 use Rattle.saphyr_input.specs.declared.input.SkipTabs.TheVariants as skip
-use Rattle.saphyr_scalar.specs.declared.scalar.position.Marker.{Marker}
-use Rattle.saphyr_scalar.specs.Views.Cursor.{Cursor, along, pass_all_blanks}
 use Rattle.saphyr_scalar.specs.Steps.Directive.{directive_name_of, name, number_end, number_from, number, behind_major, version_directive, handle_behind_word, handle, prefix, behind_prefix, tag_directive, value, line_end, directive}
-use Rattle.scalar_laws.specs.Alike.{AreAlike, AreSame, AreDirectivesAlike}
 use Rattle.scalar_laws.proofs.Breaks.Sides.{Normal, nothing, character, feed, return, pair, run_same, Places, moved_along, marks_alike, alike, normal_of, places_of, NoBreak, no_break_in, part_of, passed_blanks, one_passed}
 use Rattle.scalar_laws.proofs.Breaks.Results.{Both, gives, refused, choose, choose_first, choose_in, and_then, with_same, and_same}
 use Rattle.scalar_laws.proofs.Breaks.Separations.{break_alike, comment_alike, separation_alike}

@@ -1,21 +1,10 @@
 -- Anchors and tags are read alike.
-use Rattle.std.proofs.Common.{◌≡◌, ℕ, zero, suc, ◌-◌, ◌<◌, Bool, true, false, List, [], ◌++◌, length, drop, slice_index, refl, sym, ap, ◌∙◌, encode_utf8, encode_utf8_all}
-use Rattle.std.specs.Prelude.{◌&&◌, ◌||◌, ◌==◌}
-use Rattle.std.specs.List.{prefix_len}
-use Rattle.saphyr_input.specs.Indicators.{less_than, percent_sign}
-use Rattle.saphyr_input.specs.Classes.{is_hex, is_flow, is_alpha, is_blank_or_breakz, is_anchor_char, is_uri_char, is_tag_char}
-use Rattle.saphyr_scalar.specs.declared.scalar.position.Marker.{Marker}
-use Rattle.saphyr_scalar.specs.Views.Cursor.{Cursor, pass}
-use Rattle.saphyr_scalar.specs.Steps.Quoted.{mid_line, with_run, with_front, TextRead}
+use Rattle.scalar_laws.proofs.Common.{◌≡◌, ℕ, zero, suc, ◌-◌, ◌<◌, Bool, true, false, List, [], ◌++◌, length, drop, slice_index, refl, sym, ap, ◌∙◌, encode_utf8, encode_utf8_all, ◌&&◌, ◌||◌, ◌==◌, prefix_len, less_than, percent_sign, is_hex, is_flow, is_alpha, is_blank_or_breakz, is_anchor_char, is_uri_char, is_tag_char, Marker, Cursor, pass, mid_line, with_run, with_front, TextRead, both_by, AreAlike, AreSame, AreTagsAlike, and_true_left, and_true_right, second_is, third_is}
 use Rattle.saphyr_scalar.specs.Steps.Anchor.{anchor, anchor_name_of}
 use Rattle.saphyr_scalar.specs.Steps.Tag.{CharacterSet, is_in_set, byte_value, shows_byte, escaped_byte, utf8_width, leading_bits, is_trailing, trailing_byte, trailing_bytes, is_encoded, encoded_character, behind_leading_byte, percent_escape, uri_character, decoded_at, verbatim_end, verbatim_tag, named_tag, named_tail, primary_tag, tag_behind_word, shorthand_tag, tag_end, tag}
 use Rattle.saphyr_scalar.proofs.Properties.PercentEscapes.{by_set, decoded_one_more, ends_at, character_shorter, has_left}
-use Rattle.saphyr_scalar.proofs.Choices.{both_by}
-use Rattle.scalar_laws.specs.Alike.{AreAlike, AreSame, AreTagsAlike}
 use Rattle.scalar_laws.proofs.Breaks.Sides.{Normal, first_in, first_same, past_first, behind_first, second_in, run_same, alike, normal_of, places_of, NoBreak, no_break_in, PartsAlike, part_of, first_part, both_parts, passed_alike, one_passed, two_passed}
 use Rattle.scalar_laws.proofs.Breaks.Results.{Both, gives, refused, choose_same, choose, choose_first, choose_in, and_known, and_then, with_same, and_same, by_ends}
-use Rattle.saphyr_input.proofs.Basics.Booleans.{and_true_left, and_true_right}
-use Rattle.saphyr_input.proofs.Basics.Lists.{second_is, third_is}
 
 -- ## Anchors
 

@@ -1,25 +1,11 @@
 -- Plain scalars are read alike.
-use Rattle.std.proofs.Common.{◌≡◌, ℕ, ◌<◌, Bool, true, false, List, [], ◌∷◌, ◌++◌, length, slice_index, refl, sym, ◌∙◌, arith, encode_utf8}
-use Rattle.std.specs.Prelude.{◌&&◌, ◌||◌, ◌==◌, not, nat_lt}
-use Rattle.saphyr_input.specs.Indicators.{hyphen}
-use Rattle.saphyr_input.specs.Classes.{is_break, is_blank, is_blank_or_breakz, is_z, is_bom, is_flow, tab}
-use Rattle.saphyr_input.specs.Places.{is_document_indicator}
-use Rattle.saphyr_input.specs.Places.{is_blank_or_break}
-use Rattle.saphyr_scalar.specs.declared.scalar.position.Marker.{Marker}
-use Rattle.saphyr_scalar.specs.Views.Cursor.{Cursor, along, next_line}
-use Rattle.saphyr_scalar.specs.Steps.Quoted.{mid_line}
+use Rattle.scalar_laws.proofs.Common.{◌≡◌, ℕ, ◌<◌, Bool, true, false, List, [], ◌∷◌, ◌++◌, length, slice_index, refl, sym, ◌∙◌, arith, encode_utf8, ◌&&◌, ◌||◌, ◌==◌, not, nat_lt, hyphen, is_break, is_blank, is_blank_or_breakz, is_z, is_bom, is_flow, tab, is_document_indicator, is_blank_or_break, Marker, Cursor, along, next_line, mid_line, goes_says, word_on, word_over, word_behind, both_by, AreAlike, AreSame, AreNoted, ArePlainAlike, second_is, no_return}
 use Rattle.saphyr_scalar.specs.Steps.Plain.{is_in_word, word_starts, PlainGap, content_behind_tab, reached_gap, line_front, lines, gap_from, gap, next_word_starts, comment_of, PlainScalarRead, with_text, word, plain}
 use Rattle.saphyr_scalar.proofs.Plain.Gaps.{gap_end}
-use Rattle.saphyr_scalar.proofs.Plain.Pieces.{goes_says, word_on, word_over}
-use Rattle.saphyr_scalar.proofs.Plain.Pieces.{word_behind}
-use Rattle.saphyr_scalar.proofs.Choices.{both_by}
-use Rattle.scalar_laws.specs.Alike.{AreAlike, AreSame, AreNoted, ArePlainAlike}
 use Rattle.scalar_laws.proofs.Breaks.Sides.{Normal, nothing, character, feed, return, pair, no_feed, first_in, behind_first, Places, over_pair, moved_along, moved_down, marks_alike, alike, normal_of, places_of}
 use Rattle.scalar_laws.proofs.Breaks.Results.{Both, gives, refused, choose_same, choose, choose_first, and_known, and_then, and_same, by_ends}
 use Rattle.scalar_laws.proofs.Breaks.Separations.{indicator_alike, break_alike}
 use Rattle.scalar_laws.proofs.Breaks.Names.{all_three, run_alike}
-use Rattle.saphyr_input.proofs.Basics.Lists.{second_is}
-use Rattle.saphyr_input.proofs.Basics.Characters.{no_return}
 
 -- ## Words
 

@@ -1,30 +1,14 @@
 -- Quoted scalars are read alike.
-use Rattle.std.proofs.Common.{◌≡◌, ℕ, zero, suc, ◌+◌, ◌<◌, false, List, ◌∷◌, length, drop, slice_index, refl, sym, ap, ◌∙◌, arith, Result, Ok, Err, encode_utf8}
-use Rattle.std.specs.Prelude.{◌&&◌, ◌==◌, not, Option, Some, None}
-use Rattle.saphyr_input.specs.Classes.{is_break, is_blank, is_z, is_hex}
-use Rattle.saphyr_input.specs.Places.{next_2_are, is_document_indicator}
-use Rattle.std.proofs.lemmas.List.{length-drop}
-use Rattle.saphyr_scalar.specs.declared.values.Quote.{Quote}
-use Rattle.saphyr_scalar.specs.declared.values.Quote.TheVariants.{Single, Double}
+use Rattle.scalar_laws.proofs.Common.{◌≡◌, ℕ, zero, suc, ◌+◌, ◌<◌, false, List, ◌∷◌, length, drop, slice_index, refl, sym, ap, ◌∙◌, arith, Result, Ok, Err, encode_utf8, ◌&&◌, ◌==◌, not, Option, Some, None, is_break, is_blank, is_z, is_hex, next_2_are, is_document_indicator, length-drop, Quote, Single, Double, Marker, Refusal, Cursor, ◌>>=◌, along, next_line, pass, passed_over, word_from, AreAlike, AreSame, and_true_left, and_true_right, by_test, not-true, backslash, second_is, no_return}
 use Rattle.saphyr_scalar.specs.Values.Escapes.{digit_count, is_scalar_value, short_escape}
-use Rattle.saphyr_scalar.specs.declared.scalar.position.Marker.{Marker}
-use Rattle.saphyr_scalar.specs.declared.scalar.fault.Refusal.{Refusal}
 use Rattle.saphyr_scalar.specs.Values.Flow as flow
-use Rattle.saphyr_scalar.specs.Views.Cursor.{Cursor, ◌>>=◌, along, next_line, pass}
 use Rattle.saphyr_scalar.specs.Steps.Quoted.{is_literal, hex_digit_count, digits, escape_by_number, escape_of, escaped_character, TextRead, mid_line, special, special_len, QuotedGap, on_line, over_lines, no_gap, is_left, blank_in, break_in, quoted_line, end_gap, escaped_gap, break_len, if_some, inner_text, inner_text_at, quoted, TextRead}
 use Rattle.saphyr_scalar.specs.Steps.Quoted as quotes
-use Rattle.saphyr_scalar.proofs.Quoted.Inside.{passed_over, word_from}
 use Rattle.saphyr_scalar.proofs.Quoted.Escapes.{escape_place}
-use Rattle.scalar_laws.specs.Alike.{AreAlike, AreSame}
 use Rattle.scalar_laws.proofs.Breaks.Sides.{Normal, nothing, character, feed, return, pair, first_in, first_same, past_first, behind_first, Places, moved_along, moved_down, alike, normal_of, places_of, NoBreak, no_break_in, one_passed, two_passed}
 use Rattle.scalar_laws.proofs.Breaks.Results.{Both, gives, refused, choose_same, choose, choose_first, choose_in, and_known, and_then, and_same, by_ends}
 use Rattle.scalar_laws.proofs.Breaks.Separations.{indicator_alike}
 use Rattle.scalar_laws.proofs.Breaks.Names.{front_alike}
-use Rattle.saphyr_input.proofs.Basics.Booleans.{and_true_left, and_true_right, by_test}
-use Rattle.std.proofs.lemmas.Bool.{not-true}
-use Rattle.saphyr_input.specs.Indicators.{backslash}
-use Rattle.saphyr_input.proofs.Basics.Lists.{second_is}
-use Rattle.saphyr_input.proofs.Basics.Characters.{no_return}
 
 -- ## Escapes
 

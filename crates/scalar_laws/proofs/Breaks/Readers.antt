@@ -1,8 +1,5 @@
 -- All that is read of a text is read of its normalized text.
-use Rattle.std.proofs.Common.{ℕ, List, refl}
-use Rattle.saphyr_input.specs.Breaks.{normalized}
-use Rattle.saphyr_scalar.specs.Views.Cursor.{Cursor, start_cursor}
-use Rattle.scalar_laws.specs.Alike.{AreAlike, ReadsAlike}
+use Rattle.scalar_laws.proofs.Common.{ℕ, List, refl, normalized, Cursor, start_cursor, AreAlike, ReadsAlike}
 use Rattle.scalar_laws.proofs.Breaks.Separations.{separation_alike, break_alike, comment_alike, mark_alike}
 use Rattle.scalar_laws.proofs.Breaks.Names.{anchor_alike, tag_alike}
 use Rattle.scalar_laws.proofs.Breaks.Directives.{directive_alike}

@@ -1,12 +1,7 @@
 -- Two readers that give the same, step after step.
-use Rattle.std.proofs.Common.{◌≡◌, ℕ, Bool, true, false, List, slice_index, refl, subst, Result, Ok, Err, cond}
-use Rattle.saphyr_scalar.specs.declared.scalar.position.Marker.{Marker}
+use Rattle.scalar_laws.proofs.Common.{◌≡◌, ℕ, Bool, true, false, List, slice_index, refl, subst, Result, Ok, Err, cond, Marker, Refusal, Cursor, ◌>>=◌, refuse, pass, both_by, AreAlike, GiveAlike, AreSame}
 use Rattle.saphyr_scalar.specs.declared.scalar.fault.FaultText.{FaultText}
-use Rattle.saphyr_scalar.specs.declared.scalar.fault.Refusal.{Refusal}
-use Rattle.saphyr_scalar.specs.Views.Cursor.{Cursor, ◌>>=◌, refuse, pass}
-use Rattle.saphyr_scalar.proofs.Choices.{both_by}
 pub use Rattle.saphyr_scalar.proofs.Lengths.{by_ends}
-use Rattle.scalar_laws.specs.Alike.{AreAlike, GiveAlike, AreSame}
 use Rattle.scalar_laws.proofs.Breaks.Sides.{first_in, first_same, normal_of, no_break_in, one_passed}
 
 -- Both give something, and what they give is in a relation, or both refuse for the same reason.

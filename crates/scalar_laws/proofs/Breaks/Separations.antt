@@ -1,19 +1,10 @@
 -- White space, comments, breaks and byte order marks are passed alike.
-use Rattle.std.proofs.Common.{◌≡◌, ℕ, Bool, true, false, List, drop, slice_index, refl, sym, ap, ◌∙◌, arith}
-use Rattle.std.specs.Prelude.{◌&&◌, ◌==◌, nat_lt}
-use Rattle.saphyr_input.specs.Classes.{is_break, is_bom, is_blank_or_breakz, is_blank, is_yaml_non_break, space}
-use Rattle.saphyr_input.specs.Places.{next_3_are, is_document_indicator}
-use Rattle.saphyr_input.specs.Separation.{is_skipped, blank_len, comment_len, is_bare_comment, separation_len, found_blanks}
+use Rattle.scalar_laws.proofs.Common.{◌≡◌, ℕ, Bool, true, false, List, drop, slice_index, refl, sym, ap, ◌∙◌, arith, ◌&&◌, ◌==◌, nat_lt, is_break, is_bom, is_blank_or_breakz, is_blank, is_yaml_non_break, space, next_3_are, is_document_indicator, is_skipped, blank_len, comment_len, is_bare_comment, separation_len, found_blanks, line_cursor, Marker, both_by, AreAlike, AreSame, no_return}
 use Rattle.saphyr_input.specs.declared.input.SkipTabs.{SkipTabs}
 use Rattle.saphyr_input.specs.declared.input.SkipTabs.TheVariants as skip
-use Rattle.saphyr_scalar.specs.Steps.Block.{line_cursor}
-use Rattle.saphyr_scalar.specs.declared.scalar.position.Marker.{Marker}
 use Rattle.saphyr_scalar.specs.Views.Cursor.{Cursor, pass_break, pass_comment, pass_byte_order_mark, separation, behind_separation}
-use Rattle.saphyr_scalar.proofs.Choices.{both_by}
-use Rattle.scalar_laws.specs.Alike.{AreAlike, AreSame}
 use Rattle.scalar_laws.proofs.Breaks.Sides.{Normal, nothing, character, feed, return, pair, no_feed, first_in, past_first, behind_first, Run, run_same, Places, places_moved, moved_down, alike, normal_of, places_of, PartsAlike, no_part, part_of, both_parts, passed_blanks}
 use Rattle.scalar_laws.proofs.Breaks.Results.{Both, gives, refused, choose_same}
-use Rattle.saphyr_input.proofs.Basics.Characters.{no_return}
 
 -- ## Document markers
 

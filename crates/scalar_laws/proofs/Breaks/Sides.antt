@@ -1,17 +1,5 @@
 -- A text and its normalized text, side by side: their characters, and the places where they are.
-use Rattle.std.proofs.Common.{◌≡◌, ℕ, ◌+◌, Bool, true, false, List, [], ◌∷◌, take, drop, slice_index, refl, sym, ap, ◌∙◌, arith, subst}
-use Rattle.std.specs.Prelude.{◌&&◌, ◌==◌}
-use Rattle.std.specs.List.{prefix_len}
-use Rattle.std.proofs.lemmas.List.{drop-drop}
-use Rattle.std.proofs.lemmas.Bool.Decides.{nat_tests}
-use Rattle.saphyr_input.specs.Breaks.{normalized}
-use Rattle.saphyr_input.specs.Classes.{is_break, carriage_return, line_feed}
-use Rattle.saphyr_scalar.specs.declared.scalar.position.Marker.{Marker}
-use Rattle.saphyr_scalar.specs.Views.Cursor.{Cursor, along, next_line, pass, pass_blanks}
-use Rattle.saphyr_scalar.specs.Steps.Block.{line_cursor}
-use Rattle.scalar_laws.specs.Alike.{AreMarksAlike, AreAlike}
-use Rattle.saphyr_input.proofs.Basics.Lists.{second_is}
-use Rattle.saphyr_input.proofs.Basics.Characters.{no_return}
+use Rattle.scalar_laws.proofs.Common.{◌≡◌, ℕ, ◌+◌, Bool, true, false, List, [], ◌∷◌, take, drop, slice_index, refl, sym, ap, ◌∙◌, arith, subst, ◌&&◌, ◌==◌, prefix_len, drop-drop, nat_tests, normalized, is_break, carriage_return, line_feed, Marker, Cursor, along, next_line, pass, pass_blanks, line_cursor, AreMarksAlike, AreAlike, second_is, no_return}
 use Rattle.saphyr_scalar.proofs.NoBreaks.{class_no_break}
 
 -- ## Characters

@@ -1,21 +1,10 @@
 -- Each spelled reserved directive is read.
-use Rattle.std.proofs.Common.{◌≡◌, ◌≢◌, ℕ, ◌+◌, true, List, [], ◌∷◌, ◌++◌, length, length-append, append_assoc, slice_index, Ok, ap, ◌∙◌, arith, encode_utf8_all, IsTrue, inl, inr}
-use Rattle.std.specs.Prelude.{◌⊎◌, codes}
-use Rattle.std.proofs.Math.Seq.{drop-append_seam}
-use Rattle.std.proofs.lemmas.Bool.{or_left, or_right}
-use Rattle.saphyr_input.specs.Classes.{is_blank, is_breakz, is_blank_or_breakz, is_yaml_non_break}
-use Rattle.saphyr_scalar.specs.declared.scalar.position.Marker.{Marker}
-use Rattle.saphyr_scalar.specs.Views.Cursor.{Cursor, along, pass_break, pass_comment}
+use Rattle.scalar_laws.proofs.Common.{◌≡◌, ◌≢◌, ℕ, ◌+◌, true, List, [], ◌∷◌, ◌++◌, length, length-append, append_assoc, slice_index, Ok, ap, ◌∙◌, arith, encode_utf8_all, IsTrue, inl, inr, ◌⊎◌, codes, drop-append_seam, or_left, or_right, is_blank, is_breakz, is_blank_or_breakz, is_yaml_non_break, Marker, Cursor, along, pass_break, pass_comment, mid_line, AreIn, breakz_no_non_break, line_read, no_tail, name_read, whole_line, tail_given, line_place, directive_same}
 use Rattle.saphyr_scalar.specs.Steps.Directive.{name, value, directive}
 use Rattle.saphyr_scalar.specs.Spelling.Directive.{reserved, IsReservedDirective}
-use Rattle.saphyr_scalar.specs.Steps.Quoted.{mid_line}
-use Rattle.saphyr_scalar.specs.Spelling.Tag.{AreIn}
 use Rattle.saphyr_scalar.proofs.Runs.{run_len}
 use Rattle.saphyr_scalar.proofs.Places.{along_three}
-use Rattle.saphyr_input.proofs.Basics.Characters.{breakz_no_non_break}
 use Rattle.saphyr_scalar.proofs.Directives.PartEnds.{said}
-use Rattle.saphyr_scalar.proofs.Directives.TailsRead.{line_read, no_tail}
-use Rattle.saphyr_scalar.proofs.Directives.Read.{name_read, whole_line, tail_given, line_place, directive_same}
 use Rattle.saphyr_scalar.proofs.Directives.LowBytes.{not_text}
 
 reserved_value : (start : Marker) (name : List ℕ) (s : Cursor) → name ≢ codes "YAML" → name ≢ codes "TAG"

@@ -1,16 +1,7 @@
 -- Where a plain scalar ends.
-use Rattle.std.proofs.Common.{◌≡◌, ℕ, ◌<◌, Bool, true, false, List, [], slice_index, Ok, refl, arith}
-use Rattle.std.specs.Prelude.{◌&&◌, not, nat_lt}
-use Rattle.std.proofs.lemmas.Bool.Decides.{nat_tests}
-use Rattle.saphyr_input.specs.Places.{is_blank_or_break, is_document_indicator}
-use Rattle.saphyr_scalar.specs.declared.scalar.position.Marker.{Marker}
-use Rattle.saphyr_scalar.specs.Views.Cursor.{Cursor}
+use Rattle.scalar_laws.proofs.Common.{◌≡◌, ℕ, ◌<◌, Bool, true, false, List, [], slice_index, Ok, refl, arith, ◌&&◌, not, nat_lt, nat_tests, is_blank_or_break, is_document_indicator, Marker, Cursor, word_over, goes_not, past_white, is_tabbed, StopsPlain, EndsPlain, by_test, number_sign}
 use Rattle.saphyr_scalar.specs.Steps.Plain.{is_in_word, word_starts, next_word_starts, comment_of, word}
-use Rattle.saphyr_scalar.proofs.Plain.Pieces.{word_over, goes_not}
-use Rattle.scalar_laws.specs.Spelling.Plain.{past_white, is_tabbed, StopsPlain, EndsPlain}
 use Rattle.scalar_laws.proofs.Plain.White.{past_stop, gap_past}
-use Rattle.saphyr_input.proofs.Basics.Booleans.{by_test}
-use Rattle.saphyr_input.specs.Indicators.{number_sign}
 
 -- no word goes on with a blank or a break
 pub white_stops : (f : Bool) (xs : List ℕ) → is_blank_or_break (slice_index xs 0) ≡ true → is_in_word f xs ≡ false

@@ -1,30 +1,13 @@
 -- A plain scalar of several words and lines is read, without a fault.
-use Rattle.std.proofs.Common.{◌≡◌, ◌≢◌, ℕ, suc, ◌+◌, ◌<◌, Bool, true, false, List, [], ◌∷◌, ◌++◌, length, slice_index, Ok, refl, sym, ap, ◌∙◌, arith, subst, encode_utf8_all, append_assoc, IsTrue, inl}
+use Rattle.scalar_laws.proofs.Common.{◌≡◌, ◌≢◌, ℕ, suc, ◌+◌, ◌<◌, Bool, true, false, List, [], ◌∷◌, ◌++◌, length, slice_index, Ok, refl, sym, ap, ◌∙◌, arith, subst, encode_utf8_all, append_assoc, IsTrue, inl, prefix_len, nat_tests, take-append_seam, normalized, is_blank, is_break, is_flow, is_blank_or_break, is_document_indicator, AreIn, Marker, Cursor, along, next_line, along_none, along_more, no_text, text_twice, word_on, word_over, plain_starts, behind_blanks, past_white, reaches_tabbed, is_tabbed, EndsPlain, is_plain_safe, AreSafeBefore, IsWordBefore, has_line_end, IsPlainGap, words_text, IsNoMarker, AreFurtherWords, IsPlainText, some_length, none_of_three, or_assoc, or-false, colon, hyphen, number_sign, cursor_at}
 use Rattle.std.specs.Prelude.{◌||◌, ◌&&◌, ◌==◌, not, nat_lt, encode_utf8, if◌then◌else◌}
-use Rattle.std.specs.List.{prefix_len}
-use Rattle.std.proofs.lemmas.Bool.Decides.{nat_tests}
-use Rattle.std.proofs.Math.Seq.{take-append_seam}
-use Rattle.saphyr_input.specs.Breaks.{normalized}
-use Rattle.saphyr_input.specs.Classes.{is_blank, is_break, is_flow}
-use Rattle.saphyr_input.specs.Places.{is_blank_or_break, is_document_indicator}
-use Rattle.saphyr_scalar.specs.Spelling.Tag.{AreIn}
-use Rattle.saphyr_scalar.specs.declared.scalar.position.Marker.{Marker}
-use Rattle.saphyr_scalar.specs.Views.Cursor.{Cursor, along, next_line}
 use Rattle.saphyr_scalar.specs.Values.Flow.{plain_value}
 use Rattle.saphyr_scalar.specs.Steps.Plain.{is_in_word, word_starts, next_word_starts, comment_of, ends_line, with_text, PlainScalarRead, word, plain}
 use Rattle.saphyr_scalar.specs.Reading.Plain.{end_of_text}
-use Rattle.saphyr_scalar.proofs.Moving.{along_none, along_more}
 use Rattle.saphyr_scalar.proofs.Plain.Runs.{AreNonSpace, NoFeed, same_ends, passed_append, passed_word, passed_index}
-use Rattle.saphyr_scalar.proofs.Plain.Pieces.{no_text, text_twice, word_on, word_over, plain_starts}
 use Rattle.saphyr_scalar.proofs.Plain.Sound.{plain_reads}
-use Rattle.scalar_laws.specs.Spelling.Plain.{behind_blanks, past_white, reaches_tabbed, is_tabbed, EndsPlain, is_plain_safe, AreSafeBefore, IsWordBefore, has_line_end, IsPlainGap, words_text, IsNoMarker, AreFurtherWords, IsPlainText}
 use Rattle.scalar_laws.proofs.Plain.White.{flag_on, tabbed_on, tabbed_stop, past_on, past_stop, gap_past}
 use Rattle.scalar_laws.proofs.Plain.Ends.{word_ends, white_stops}
-use Rattle.saphyr_input.proofs.Basics.Lists.{some_length}
-use Rattle.saphyr_input.proofs.Basics.Booleans.{none_of_three, or_assoc}
-use Rattle.std.proofs.Math.Bool.{or-false}
-use Rattle.saphyr_input.specs.Indicators.{colon, hyphen, number_sign}
-use Rattle.saphyr_scalar.proofs.Given.{cursor_at}
 
 -- words
 

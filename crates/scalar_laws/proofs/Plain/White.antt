@@ -1,23 +1,7 @@
 -- The blanks and breaks after a plain scalar's last word.
 use Rattle.std.proofs.Common.{◌≡◌, ℕ, suc, ◌+◌, Bool, true, false, List, [], ◌∷◌, ◌++◌, drop, slice_index, Result, Ok, refl, sym, ap, ◌∙◌, arith, subst, ◌⊎◌, inr, cond}
-use Rattle.std.specs.Prelude.{◌||◌, ◌&&◌, ◌==◌, nat_lt, if◌then◌else◌}
-use Rattle.std.specs.List.{prefix_len}
-use Rattle.saphyr_input.specs.Classes.{is_blank, is_break, tab, line_feed, carriage_return}
-use Rattle.saphyr_input.specs.Places.{is_blank_or_break}
-use Rattle.saphyr_scalar.specs.declared.scalar.position.Marker.{Marker}
-use Rattle.saphyr_scalar.specs.declared.scalar.fault.Refusal.{Refusal}
-use Rattle.saphyr_scalar.specs.Views.Cursor.{Cursor, ◌>>=◌, along, next_line, pass_break}
-use Rattle.saphyr_scalar.specs.Steps.Quoted.{mid_line}
+use Rattle.scalar_laws.proofs.Common.{◌||◌, ◌&&◌, ◌==◌, nat_lt, if◌then◌else◌, prefix_len, is_blank, is_break, tab, line_feed, carriage_return, is_blank_or_break, Marker, Refusal, Cursor, ◌>>=◌, along, next_line, pass_break, mid_line, along_none, along_more, break_cases, behind_blanks, past_white, reaches_tabbed, is_tabbed, stands_behind_tab, or-true, or_from, run_ends, by_test, blank_no_break, cursor_at}
 use Rattle.saphyr_scalar.specs.Steps.Plain.{PlainGap, ends_line, content_behind_tab, reached_gap, line_front, lines, folded_gap, gap_from, gap, seen_gap}
-use Rattle.saphyr_scalar.proofs.Moving.{along_none, along_more}
-use Rattle.saphyr_scalar.proofs.Quoted.Inside.{break_cases}
-use Rattle.scalar_laws.specs.Spelling.Plain.{behind_blanks, past_white, reaches_tabbed, is_tabbed, stands_behind_tab}
-use Rattle.std.proofs.Math.Bool.{or-true}
-use Rattle.std.proofs.lemmas.Bool.{or_from}
-use Rattle.saphyr_input.proofs.Basics.Lists.{run_ends}
-use Rattle.saphyr_input.proofs.Basics.Booleans.{by_test}
-use Rattle.saphyr_input.proofs.Basics.Characters.{blank_no_break}
-use Rattle.saphyr_scalar.proofs.Given.{cursor_at}
 
 -- what a gap leaves
 pub record LeavesGap (r : Result PlainGap Refusal) (t : Bool) (s : Cursor) : Type 0 where

@@ -1,12 +1,6 @@
 -- Where a gap over lines is within a line's white space, what comes after it is indented.
 use Rattle.std.proofs.Common.{◌≡◌, ℕ, ◌+◌, ◌≤◌, true, false, List, ◌∷◌, drop, slice_index, arith, ◌⊎◌}
-use Rattle.std.specs.Prelude.{◌==◌}
-use Rattle.saphyr_input.specs.Classes.{is_break, tab}
-use Rattle.saphyr_input.specs.Places.{is_document_indicator}
-use Rattle.saphyr_scalar.specs.declared.scalar.position.Marker.{Marker}
-use Rattle.saphyr_scalar.specs.Views.Cursor.{along}
-use Rattle.saphyr_scalar.specs.Steps.Quoted.{QuotedGap, on_line, over_lines}
-use Rattle.scalar_laws.specs.Spelling.QuotedLines.{space_count, IsLine}
+use Rattle.scalar_laws.proofs.Common.{◌==◌, is_break, tab, is_document_indicator, Marker, along, QuotedGap, on_line, over_lines, space_count, IsLine}
 
 pub record Indented (indent : ℕ) (m : Marker) (t : List ℕ) : Type 0 where
   pub marker : m.col ≡ 0 → is_document_indicator t ≡ false

@@ -1,22 +1,9 @@
 -- A quoted scalar whose lines are indented as they should be is read, without a fault, and gives the reading of its
 -- items.
-use Rattle.std.proofs.Common.{◌≡◌, ℕ, ◌+◌, true, List, [], ◌∷◌, ◌++◌, length, drop, Ok, refl, ◌∙◌, encode_utf8_all}
-use Rattle.saphyr_scalar.specs.declared.scalar.position.Marker.{Marker}
-use Rattle.saphyr_scalar.specs.declared.values.Item.{Item}
-use Rattle.saphyr_scalar.specs.declared.values.Item.TheVariants.{Blank, Raw, Escaped, Break, EscapedBreak}
-use Rattle.saphyr_scalar.specs.declared.values.Quote.{Quote}
-use Rattle.saphyr_scalar.specs.declared.values.Quote.TheVariants.{Single, Double}
-use Rattle.saphyr_scalar.specs.Views.Cursor.{Cursor, along, next_line}
+use Rattle.scalar_laws.proofs.Common.{◌≡◌, ℕ, ◌+◌, true, List, [], ◌∷◌, ◌++◌, length, drop, Ok, refl, ◌∙◌, encode_utf8_all, Marker, Item, Blank, Raw, Escaped, Break, EscapedBreak, Quote, Single, Double, Cursor, along, next_line, folded, IsPassed, character, along_more, letter_passed, digits_passed, letter_read, number_read, no_break_simple, no_break_digits, no_gap_bytes, AreOnLine, LinesFit}
 use Rattle.saphyr_scalar.specs.Values.Flow as flow
-use Rattle.saphyr_scalar.specs.Values.Folding.{folded}
-use Rattle.saphyr_scalar.specs.Passing.{IsPassed, character}
 use Rattle.saphyr_scalar.specs.Steps.Quoted.{mid_line, over_lines, no_gap, break_len, escaped_character, quoted}
 use Rattle.saphyr_scalar.specs.Spelling.Quoted as quotes
-use Rattle.saphyr_scalar.proofs.Moving.{along_more}
-use Rattle.saphyr_scalar.proofs.Passings.{letter_passed, digits_passed}
-use Rattle.saphyr_scalar.proofs.Quoted.Spellings.{letter_read, number_read, no_break_simple, no_break_digits}
-use Rattle.saphyr_scalar.proofs.Quoted.GapBytes.{no_gap_bytes}
-use Rattle.scalar_laws.specs.Spelling.QuotedLines.{AreOnLine, LinesFit}
 use Rattle.scalar_laws.proofs.Quoted.IndentedLines.{line_indented}
 use Rattle.scalar_laws.proofs.Quoted.WordsRead.{with_gap, mark_content, closed_read, two_quotes_read, escape_read, escaped_break_read, same_at_quote, ReadsBehindBlank, itself_read, broken_read}
 

@@ -1,30 +1,14 @@
 -- Blanks, breaks and words of a quoted scalar are read, after each gap that fits, and so is its closing quote.
-use Rattle.std.proofs.Common.{◌≡◌, ℕ, Bool, true, false, List, [], ◌∷◌, ◌++◌, drop, slice_index, Ok, refl, ◌∙◌, arith, subst, IsTrue}
+use Rattle.scalar_laws.proofs.Common.{◌≡◌, ℕ, Bool, true, false, List, [], ◌∷◌, ◌++◌, drop, slice_index, Ok, refl, ◌∙◌, arith, subst, IsTrue, nat_tests, apostrophe, backslash, is_blank, is_break, tab, Marker, Item, Raw, Escaped, EscapedBreak, Blank, Break, Quote, Single, Double, along, next_line, IsPassed, nothing, character, line_break, along_more, quoted_behind_gap, behind_no_gap, IsQuotedContent, stands, one_blank, at_break, escape_content, gap_bytes, gap_front, closed_bytes, raw_bytes, escaped_bytes, escaped_break_bytes, blank_bytes, break_bytes, blank_cases, blank_no_break, IsLine}
 use Rattle.std.specs.Prelude.{◌&&◌, ◌==◌, encode_utf8}
-use Rattle.std.proofs.lemmas.Bool.Decides.{nat_tests}
-use Rattle.saphyr_input.specs.Indicators.{apostrophe, backslash}
-use Rattle.saphyr_input.specs.Classes.{is_blank, is_break, tab}
-use Rattle.saphyr_scalar.specs.declared.scalar.position.Marker.{Marker}
-use Rattle.saphyr_scalar.specs.declared.values.Item.{Item}
-use Rattle.saphyr_scalar.specs.declared.values.Item.TheVariants.{Raw, Escaped, EscapedBreak, Blank, Break}
-use Rattle.saphyr_scalar.specs.declared.values.Quote.{Quote}
-use Rattle.saphyr_scalar.specs.declared.values.Quote.TheVariants.{Single, Double}
-use Rattle.saphyr_scalar.specs.Views.Cursor.{along, next_line}
 use Rattle.saphyr_scalar.specs.Values.Flow as flow
-use Rattle.saphyr_scalar.specs.Passing.{IsPassed, nothing, character, line_break}
 use Rattle.saphyr_scalar.specs.Steps.Quoted.{is_literal, mid_line, QuotedGap, on_line, over_lines, no_gap, is_left, quoted_line, end_gap, escaped_gap, break_len, is_closing, escaped_character, inner_text, blank_in, break_in}
 use Rattle.saphyr_scalar.specs.Spelling.Quoted as quotes
-use Rattle.saphyr_scalar.proofs.Moving.{along_more}
-use Rattle.saphyr_scalar.proofs.Quoted.Inside.{quoted_behind_gap, behind_no_gap, IsQuotedContent, stands, one_blank, at_break}
 use Rattle.saphyr_scalar.proofs.Quoted.Parts.{at_escape, at_two_quotes}
 use Rattle.saphyr_scalar.proofs.Quoted.Gaps.{at_escaped_break, at_closing, by_break_len}
-use Rattle.saphyr_scalar.proofs.Quoted.Spellings.{escape_content}
-use Rattle.saphyr_scalar.proofs.Quoted.GapBytes.{gap_bytes, gap_front, closed_bytes, raw_bytes, escaped_bytes, escaped_break_bytes, blank_bytes, break_bytes}
-use Rattle.saphyr_input.proofs.Basics.Characters.{blank_cases, blank_no_break}
 use Rattle.scalar_laws.proofs.Quoted.IndentedLines.{Indented, GapFits, right_of, line_indented, behind_space, behind_tab}
 use Rattle.saphyr_scalar.proofs.Quoted.Lines.{fits_right}
 use Rattle.saphyr_scalar.proofs.Quoted.SpelledWords.{content_item}
-use Rattle.scalar_laws.specs.Spelling.QuotedLines.{IsLine}
 
 -- What was read of a spelled text.
 pub record Read (q : Quote) (indent : ℕ) (start : Marker) (gap : QuotedGap) (m : Marker) (t : List ℕ)

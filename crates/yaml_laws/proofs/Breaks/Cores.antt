@@ -1,8 +1,6 @@
 -- What a scanner knows of a text, and what another knows of its normalized text: the same, but for the indexes.
-use Rattle.yaml_laws.proofs.Common.{Bool, List, None, Ok, Option, Result, Some, [], ap, arith, false, length, refl, suc, ℕ, ◌+◌, ◌<◌, ◌^◌, ◌∷◌, ◌≡◌, is_break, SkipTabs, Marker, Refusal, Cursor, pass, start_cursor, ◌>>=◌, Candidate, Level, pass_on, separate, with_cursor, no_return, cursor_at}
+use Rattle.yaml_laws.proofs.Common.{Bool, List, None, Ok, Option, Result, Some, [], ap, arith, false, length, refl, suc, ℕ, ◌+◌, ◌<◌, ◌^◌, ◌∷◌, ◌≡◌, is_break, SkipTabs, Marker, Refusal, Cursor, pass, start_cursor, ◌>>=◌, Candidate, Level, pass_on, separate, with_cursor, no_return, cursor_at, AreAlike, ReadsAlike, Both, both_of, gives, refused, choose, choose_same, and_known, and_then}
 use Rattle.saphyr_input.specs.declared.input.SkipTabs.TheVariants as tabs
-use Rattle.scalar_laws.specs.Alike.{AreAlike, ReadsAlike}
-use Rattle.scalar_laws.proofs.Breaks.Results.{Both, both_of, gives, refused, choose, choose_same, and_known, and_then}
 use Rattle.saphyr_scanner.specs.Steps.Core.{Core, is_too_far, save_key, remove_key, drop_far_key, enter_block, roll, is_further}
 use Rattle.yaml_laws.proofs.Breaks.Forward.{Forward, Forwards, both_ahead, separation_forward}
 use Rattle.yaml_laws.proofs.Breaks.Places.{reindexed, near, Even, even_here, even_even, Ahead, Stand, stand_alike, alike_is, Low, choose_by, character_ahead}

@@ -1,7 +1,5 @@
 -- Document markers, directives, byte order marks and the end of the stream leave both scanners alike.
-use Rattle.yaml_laws.proofs.Common.{Bool, Err, List, None, Ok, Result, [], ap, arith, false, length, refl, sym, true, ℕ, ◌+◌, ◌∷◌, ◌≡◌, nat_lt, not, slice_index, ◌&&◌, ◌==◌, ◌||◌, normalized, carriage_return, is_breakz, is_document_end, is_document_start, SkipTabs, Marker, Refusal, Cursor, along, pass, pass_byte_order_mark, ◌>>=◌, Kind, Core, in_block, separate, State, on_core_with, no_return, cursor_at, and_parts, eqb-true}
-use Rattle.saphyr_scalar.proofs.Moving.{along_more}
-use Rattle.scalar_laws.proofs.Breaks.Results.{Both, both_of, gives, refused, choose, choose_same, choose_first}
+use Rattle.yaml_laws.proofs.Common.{Bool, Err, List, None, Ok, Result, [], ap, arith, false, length, refl, sym, true, ℕ, ◌+◌, ◌∷◌, ◌≡◌, nat_lt, not, slice_index, ◌&&◌, ◌==◌, ◌||◌, normalized, carriage_return, is_breakz, is_document_end, is_document_start, SkipTabs, Marker, Refusal, Cursor, along, pass, pass_byte_order_mark, ◌>>=◌, Kind, Core, in_block, separate, State, on_core_with, no_return, cursor_at, and_parts, eqb-true, along_more, Both, both_of, gives, refused, choose, choose_same, choose_first}
 use Rattle.saphyr_scanner.specs.Grammar.Tokens as tokens
 use Rattle.saphyr_scanner.specs.Steps.Document as document
 use Rattle.yaml_laws.proofs.Breaks.Cores.{near_core, Anywhere, Laws, BeginsUnbroken, Unbroken, here, of_cores, remove_same, Separated, separate_same, and_read, twin_reads, twin_alike, twin_stands, twin_moves, going_to}

@@ -1,21 +1,13 @@
 -- Where the readers of a text go on: on one line the index grows as the column does.
-use Rattle.yaml_laws.proofs.Common.{Bool, List, Ok, Option, [], arith, length, subst, ℕ, ◌++◌, ◌+◌, ◌<◌, ◌∷◌, ◌≡◌, ◌≤◌, slice_index, SkipTabs, BlockStyle, Quote, Marker, Cursor, along, next_line, pass_break, separation, mark, mid_line, by_test, given_of, exclamation_mark, percent_sign}
-use Rattle.std.proofs.lemmas.List.{length-append}
+use Rattle.yaml_laws.proofs.Common.{Bool, List, Ok, Option, [], arith, length, subst, ℕ, ◌++◌, ◌+◌, ◌<◌, ◌∷◌, ◌≡◌, ◌≤◌, slice_index, SkipTabs, BlockStyle, Quote, Marker, Cursor, along, next_line, pass_break, separation, mark, mid_line, by_test, given_of, exclamation_mark, percent_sign, length-append, Span, ReadDirective, IsPassed, ends_line, end_of_text, IsPlainReading, AreAlike, block_indicator}
 use Rattle.saphyr_input.specs.declared.input.SkipTabs.TheVariants as tabs
-use Rattle.saphyr_scalar.specs.declared.scalar.position.Span.{Span}
 use Rattle.saphyr_scalar.specs.Steps.Anchor as anchors
 use Rattle.saphyr_scalar.specs.Steps.Block as blocks
 use Rattle.saphyr_scalar.specs.Steps.Directive as directives
-use Rattle.saphyr_scalar.specs.Spelling.Directive.{ReadDirective}
 use Rattle.saphyr_scalar.specs.Passing as passing
-use Rattle.saphyr_scalar.specs.Passing.{IsPassed}
 use Rattle.saphyr_scalar.specs.Steps.Plain as words
-use Rattle.saphyr_scalar.specs.Steps.Plain.{ends_line}
-use Rattle.saphyr_scalar.specs.Reading.Plain.{end_of_text, IsPlainReading}
 use Rattle.saphyr_scalar.specs.Steps.Quoted as quoted
 use Rattle.saphyr_scalar.specs.Steps.Tag as tags
-use Rattle.scalar_laws.specs.Alike.{AreAlike}
-use Rattle.saphyr_scanner.specs.TokensTaken.{block_indicator}
 use Rattle.saphyr_scanner.proofs.Taken.Later.{top, LaterThan, apart_later, passed_later, piece_later, plain_later}
 use Rattle.saphyr_scanner.proofs.LineTails.{separation_passes}
 use Rattle.yaml_laws.proofs.Breaks.Places.{near, Ahead, Low}

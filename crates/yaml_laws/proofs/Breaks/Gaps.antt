@@ -1,19 +1,9 @@
 -- What is between two tokens is passed alike in a text and in its normalized text.
 use Rattle.std.proofs.Common.{◌≡◌, ℕ, ◌+◌, ◌≤◌, Bool, true, false, List, ◌∷◌, length, refl, sym, ap, arith, Option, Some, None}
-use Rattle.std.specs.Prelude.{◌==◌, ◌^◌, ◌&&◌, ◌||◌, not, slice_index}
-use Rattle.saphyr_input.specs.Breaks.{normalized}
-use Rattle.saphyr_input.specs.Classes.{is_break, is_yaml_non_break, is_bom, is_z, carriage_return, line_feed}
-use Rattle.saphyr_scalar.specs.declared.scalar.position.Marker.{Marker}
-use Rattle.saphyr_scalar.specs.Views.Cursor.{Cursor, along, next_line}
-use Rattle.scalar_laws.proofs.Breaks.Sides.{Normal, normalized_is, nothing, character, feed, return, pair}
-use Rattle.scalar_laws.proofs.Breaks.Results.{Both, gives, refused, choose_same, and_then}
+use Rattle.yaml_laws.proofs.Common.{◌==◌, ◌^◌, ◌&&◌, ◌||◌, not, slice_index, normalized, is_break, is_yaml_non_break, is_bom, is_z, carriage_return, line_feed, Marker, Cursor, along, next_line, Normal, normalized_is, nothing, character, feed, return, pair, Both, gives, refused, choose_same, and_then, no_return, cursor_at, passes_no_feed, passes_no_return, Core, least_column}
 use Rattle.saphyr_scanner.specs.Steps.Gap.{Gap, GapEnd, stop, end_of_gap, end_of_gap_in_comment, gap_at, gap_here, is_gap_blank, is_tab_indentation}
 use Rattle.yaml_laws.proofs.Breaks.Normal.{beside, first_is, indicator_so, plain_so}
 use Rattle.yaml_laws.proofs.Breaks.Places.{reindexed, near, Ahead, Stand, Low, ahead_ahead, ahead_stands, stand_here, choose_by, line_from, character_ahead, two_ahead, single_ahead}
-use Rattle.saphyr_input.proofs.Basics.Characters.{no_return}
-use Rattle.saphyr_scalar.proofs.Given.{cursor_at}
-use Rattle.saphyr_scanner.proofs.Gaps.{passes_no_feed, passes_no_return}
-use Rattle.saphyr_scanner.specs.Steps.Core.{Core, least_column}
 use Rattle.saphyr_scanner.specs.Steps.Passing.{pass_gap, check_comment, goes_on_behind, behind_gap, check_comment_of}
 use Rattle.yaml_laws.proofs.Breaks.Cores.{Indexes, near_core, near_comment, Cores, Twin, Laws, Alike, Anywhere, here, twin_low, twin_stands, twin_moves, going_to}
 

@@ -1,7 +1,5 @@
 -- The indicators of collections leave both scanners alike.
-use Rattle.yaml_laws.proofs.Common.{Bool, List, None, Option, Some, [], ap, arith, false, length, refl, subst, sym, true, ℕ, ◌+◌, ◌∙◌, ◌∷◌, ◌≡◌, nat_le, not, slice_index, ◌&&◌, ◌==◌, ◌||◌, normalized, is_alpha, is_blank_or_breakz, is_break, is_flow, Marker, Cursor, pass, ◌>>=◌, Context, Kind, Action, Core, StepResult, completed_step, go_deeper, in_block, is_further, remove_key, roll, up_to_here, with_context, Candidate, Level, begins_pair, behind_colon, behind_entry, behind_question, ends_pair, pass_on, separate, with_cursor, most_open, eqb-true, hyphen, left_brace, left_bracket}
-use Rattle.saphyr_input.specs.Separation.{found_tabs, has_valid_yaml_ws}
-use Rattle.scalar_laws.proofs.Breaks.Results.{Both, gives, refused, choose, choose_same, choose_first}
+use Rattle.yaml_laws.proofs.Common.{Bool, List, None, Option, Some, [], ap, arith, false, length, refl, subst, sym, true, ℕ, ◌+◌, ◌∙◌, ◌∷◌, ◌≡◌, nat_le, not, slice_index, ◌&&◌, ◌==◌, ◌||◌, normalized, is_alpha, is_blank_or_breakz, is_break, is_flow, Marker, Cursor, pass, ◌>>=◌, Context, Kind, Action, Core, StepResult, completed_step, go_deeper, in_block, is_further, remove_key, roll, up_to_here, with_context, Candidate, Level, begins_pair, behind_colon, behind_entry, behind_question, ends_pair, pass_on, separate, with_cursor, most_open, eqb-true, hyphen, left_brace, left_bracket, found_tabs, has_valid_yaml_ws, Both, gives, refused, choose, choose_same, choose_first}
 use Rattle.saphyr_scanner.specs.Steps.Block as block
 use Rattle.saphyr_scanner.specs.Steps.Fetch.{flow_value_steps}
 use Rattle.saphyr_scanner.specs.Steps.Flow as flow

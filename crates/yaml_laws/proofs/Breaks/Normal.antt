@@ -1,9 +1,6 @@
 -- A text beside its normalized text: how long both are, and what comes first in them.
-use Rattle.yaml_laws.proofs.Common.{Bool, List, ap, arith, cond, false, length, refl, sym, true, ℕ, ◌∙◌, ◌≡◌, ◌≤◌, not, slice_index, ◌&&◌, ◌==◌, ◌||◌, normalized, byte_order_mark, carriage_return, is_blank_or_breakz, is_break, is_flow, can_be_plain, is_document_end, is_document_indicator, is_document_start, eqb-true, AreIn, Remaining, Kind, no_return}
-use Rattle.scalar_laws.proofs.Breaks.Sides.{Normal, normal, first_in, second_in, nothing, character, feed, return, pair}
+use Rattle.yaml_laws.proofs.Common.{Bool, List, ap, arith, cond, false, length, refl, sym, true, ℕ, ◌∙◌, ◌≡◌, ◌≤◌, not, slice_index, ◌&&◌, ◌==◌, ◌||◌, normalized, byte_order_mark, carriage_return, is_blank_or_breakz, is_break, is_flow, can_be_plain, is_document_end, is_document_indicator, is_document_start, eqb-true, AreIn, Remaining, Kind, no_return, Normal, normal, first_in, second_in, nothing, character, feed, return, pair, Scans, HaveSameKinds}
 use Rattle.scalar_laws.proofs.Breaks.Separations.{marker_alike, indicator_alike}
-use Rattle.saphyr_scanner.specs.Steps.Remaining.{Scans}
-use Rattle.yaml_laws.specs.SameKinds.{HaveSameKinds}
 
 pub beside : (t : List ℕ) → Normal t (normalized t)
 beside t = normal t (normalized t) refl

@@ -1,7 +1,5 @@
 -- Places of a text and of its normalized text, and how both go on together.
-use Rattle.yaml_laws.proofs.Common.{Bool, List, arith, cond, drop, false, length, refl, true, ℕ, ◌+◌, ◌^◌, ◌∷◌, ◌≡◌, ◌≤◌, min, ◌-◌, ◌==◌, ◌^◌, normalized, Marker, Cursor, along, carriage_return, line_feed, cursor_at}
-use Rattle.saphyr_scalar.proofs.Moving.{drop_more}
-use Rattle.scalar_laws.specs.Alike.{AreAlike}
+use Rattle.yaml_laws.proofs.Common.{Bool, List, arith, cond, drop, false, length, refl, true, ℕ, ◌+◌, ◌^◌, ◌∷◌, ◌≡◌, ◌≤◌, min, ◌-◌, ◌==◌, normalized, Marker, Cursor, along, carriage_return, line_feed, cursor_at, drop_more, AreAlike}
 use Rattle.saphyr_scalar.proofs.Choices.{both_by}
 
 -- the same place with another index

@@ -1,19 +1,14 @@
 -- A text and its normalized text have tokens of the same kinds.
-use Rattle.yaml_laws.proofs.Common.{Err, List, Ok, Result, Some, [], ap, arith, false, length, map, refl, suc, sym, true, zero, ℕ, ◌+◌, ◌<◌, ◌∙◌, ◌∷◌, ◌≡◌, ◌≤◌, nat_lt, slice_index, ◌&&◌, ◌==◌, ◌||◌, normalized, Refusal, Kind, Piece, Remaining, Place, Queue, is_empty_list, next, Core, drop_far_key, least_column, Level, ends_pair, is_place, State, start, is_blank_or_breakz, is_bom, is_break, is_flow, is_z, is_document_end, is_document_start, and_parts, eqb-true, left_brace, left_bracket}
-use Rattle.saphyr_scanner.specs.declared.queue.Opening.{Opening}
+use Rattle.yaml_laws.proofs.Common.{Err, List, Ok, Result, Some, [], ap, arith, false, length, map, refl, suc, sym, true, zero, ℕ, ◌+◌, ◌<◌, ◌∙◌, ◌∷◌, ◌≡◌, ◌≤◌, nat_lt, slice_index, ◌&&◌, ◌==◌, ◌||◌, normalized, Refusal, Kind, Piece, Remaining, Place, Queue, is_empty_list, next, Core, drop_far_key, least_column, Level, ends_pair, is_place, State, start, is_blank_or_breakz, is_bom, is_break, is_flow, is_z, is_document_end, is_document_start, and_parts, eqb-true, left_brace, left_bracket, Opening, Readers, HaveSameKinds, Both, gives, refused, choose, choose_same, choose_first, both_cases}
 use Rattle.saphyr_scanner.specs.Grammar.Tokens as tokens
 use Rattle.saphyr_scanner.specs.Steps.Fetch.{size, without_far_key, needs_token, any_holds, step, is_value_adjacent, state_behind_content, fetch_here, arrive, fetch, check_limit, fetch_within}
 use Rattle.saphyr_scanner.specs.Steps.Remaining.{before_place, hand_out, remaining_after, run, remaining, scan}
 use Rattle.saphyr_scanner.proofs.Filling.{read, less_read}
-use Rattle.saphyr_scanner.proofs.Effects.Readers.{Readers}
-use Rattle.yaml_laws.specs.SameKinds.{HaveSameKinds}
 use Rattle.yaml_laws.proofs.Breaks.Cores.{Indexes, near_core, near_key, near_levels, first, others, Anywhere, Twin, Laws, BeginsUnbroken, Unbroken, here, of_cores, and_core, drop_same, twin_alike}
 use Rattle.yaml_laws.proofs.Breaks.Places.{reindexed, even_here, choose_by}
 use Rattle.yaml_laws.proofs.Breaks.States.{SamePlaces, SameQueues, States, holding, same_next, put_same, SameSteps, Holds, AlikeStates, and_state, unroll_same, after_step_same, on_core_same}
 use Rattle.saphyr_scalar.specs.declared.values.BlockStyle.TheVariants as block_style
-use Rattle.scalar_laws.proofs.Breaks.Results.{Both, gives, refused, choose, choose_same, choose_first}
 use Rattle.saphyr_scanner.specs.declared.engine.level.Context.TheVariants as context
-use Rattle.saphyr_scanner.proofs.Steps.Choice.{both_cases}
 use Rattle.yaml_laws.proofs.Breaks.Documents.{stream_same, start_marker_same, end_marker_same, byte_order_mark_same, directive_same}
 use Rattle.yaml_laws.proofs.Breaks.Indicators.{start_same, end_same, entry_same, value_same, flow_value_same, adjacent_same, block_entry_same, key_same}
 use Rattle.yaml_laws.proofs.Breaks.Normal.{second_is, start_so, end_so, normal_shorter}

@@ -1,13 +1,10 @@
 -- Scalars and properties leave both scanners alike.
-use Rattle.yaml_laws.proofs.Common.{List, None, Option, Some, [], ap, arith, cond, false, length, refl, true, ℕ, ◌<◌, ◌∙◌, ◌∷◌, ◌≡◌, nat_lt, not, slice_index, ◌&&◌, ◌==◌, ◌||◌, normalized, is_break, is_breakz, BlockStyle, Quote, Double, Single, Marker, Cursor, mark, Kind, Core, in_block, least_column, no_return}
+use Rattle.yaml_laws.proofs.Common.{List, None, Option, Some, [], ap, arith, cond, false, length, refl, true, ℕ, ◌<◌, ◌∙◌, ◌∷◌, ◌≡◌, nat_lt, not, slice_index, ◌&&◌, ◌==◌, ◌||◌, normalized, is_break, is_breakz, BlockStyle, Quote, Double, Single, Marker, Cursor, mark, Kind, Core, in_block, least_column, no_return, AreMarksAlike, AreNoted, Both, both_of, gives, refused, choose, choose_first, block_indicator}
 use Rattle.saphyr_scalar.specs.declared.scalar.style.ScalarStyle.{ScalarStyle}
 use Rattle.saphyr_scalar.specs.declared.scalar.style.ScalarStyle.TheVariants.{Plain}
-use Rattle.scalar_laws.specs.Alike.{AreMarksAlike, AreNoted}
-use Rattle.scalar_laws.proofs.Breaks.Results.{Both, both_of, gives, refused, choose, choose_first}
 use Rattle.saphyr_scanner.specs.Grammar.Tokens as tokens
 use Rattle.saphyr_scanner.specs.Steps.Property as property
 use Rattle.saphyr_scanner.specs.Steps.Scalar as scalar
-use Rattle.saphyr_scanner.specs.TokensTaken.{block_indicator}
 use Rattle.yaml_laws.proofs.Breaks.Cores.{Indexes, near_core, near_comment, Cores, Anywhere, Twin, Laws, Alike, BeginsUnbroken, Unbroken, here, of_cores, with_core, and_core, save_same, here_adjacent, and_separate, and_read, twin_reads, twin_alike}
 use Rattle.yaml_laws.proofs.Breaks.Gaps.{gap_rests}
 use Rattle.yaml_laws.proofs.Breaks.Places.{reindexed, near}

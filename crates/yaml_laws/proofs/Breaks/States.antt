@@ -1,7 +1,5 @@
 -- Two scanners, of a text and of its normalized text, with tokens of the same kinds.
-use Rattle.yaml_laws.proofs.Common.{Err, List, None, Ok, Option, Result, Some, [], ap, arith, length, refl, suc, zero, ℕ, ◌++◌, ◌∷◌, ◌≡◌, Marker, Refusal, Cursor, ◌>>=◌, Piece, Place, Queue, bare_place, next, places_with_opening, Action, Core, Open, Put, Step, act, in_block, perform, State, after_step, on_core}
-use Rattle.scalar_laws.proofs.Breaks.Results.{Both, both_of, gives, and_then}
-use Rattle.saphyr_scanner.specs.declared.queue.Opening.{Opening}
+use Rattle.yaml_laws.proofs.Common.{Err, List, None, Ok, Option, Result, Some, [], ap, arith, length, refl, suc, zero, ℕ, ◌++◌, ◌∷◌, ◌≡◌, Marker, Refusal, Cursor, ◌>>=◌, Piece, Place, Queue, bare_place, next, places_with_opening, Action, Core, Open, Put, Step, act, in_block, perform, State, after_step, on_core, Both, both_of, gives, and_then, Opening}
 use Rattle.saphyr_scanner.specs.Steps.Unrolling.{unroll, end_blocks, end_block, is_right_of, with_outer_indent, go_less_deep}
 use Rattle.yaml_laws.proofs.Breaks.Cores.{Indexes, near_core, Cores, Anywhere, Twin, here}
 use Rattle.yaml_laws.proofs.Breaks.Places.{choose_by}

@@ -1,8 +1,6 @@
 -- Directives are read.
-use Rattle.yaml_laws.proofs.Common.{Bool, List, Ok, [], ap, append-nil, append_assoc, arith, encode_utf8_all, false, inl, length, refl, slice_index, subst, sym, true, ℕ, ◌++◌, ◌+◌, ◌∙◌, ◌∷◌, ◌≡◌, ◌≤◌, None, Option, map, Marker, Cursor, along, next_line, Reserved, TagPrefix, Version, Kind, directive_token, Place, bare_place, Candidate, State, AreDirectives, IsDirective, cursor_at, eq-eqb, false≢true, percent_sign, line_feed}
-use Rattle.std.proofs.lemmas.List.{length-append}
+use Rattle.yaml_laws.proofs.Common.{Bool, List, Ok, [], ap, append-nil, append_assoc, arith, encode_utf8_all, false, inl, length, refl, slice_index, subst, sym, true, ℕ, ◌++◌, ◌+◌, ◌∙◌, ◌∷◌, ◌≡◌, ◌≤◌, None, Option, map, Marker, Cursor, along, next_line, Reserved, TagPrefix, Version, Kind, directive_token, Place, bare_place, Candidate, State, AreDirectives, IsDirective, cursor_at, eq-eqb, false≢true, percent_sign, line_feed, length-append, ReadDirective, version, tag_prefix, reserved, IsDirectiveText, IsLineTail, IsHandle, state_at}
 use Rattle.saphyr_scalar.specs.Steps.Directive as directives
-use Rattle.saphyr_scalar.specs.Spelling.Directive.{ReadDirective, version, tag_prefix, reserved, IsDirectiveText, IsLineTail}
 use Rattle.saphyr_scanner.specs.declared.engine.level.Context.TheVariants as context
 use Rattle.saphyr_scanner.specs.Grammar.Forest as forest
 use Rattle.saphyr_scanner.specs.Steps.Core.{remove_key}
@@ -10,13 +8,11 @@ use Rattle.saphyr_scanner.specs.Steps.Unrolling.{unroll}
 use Rattle.saphyr_scanner.specs.Steps.Document as document
 use Rattle.saphyr_scanner.specs.Steps.Document.{end_content, read_directive, directive_kind}
 use Rattle.saphyr_scanner.specs.Steps.Fetch.{fetch_here}
-use Rattle.yaml_laws.specs.Grammar.TagSpelling.{IsHandle}
 use Rattle.yaml_laws.proofs.Flow.States.{past, ReaderPromises}
 use Rattle.yaml_laws.proofs.Documents.Lines.{passes_filler}
 use Rattle.yaml_laws.proofs.Documents.Stands.{StandsLined, lined_so, Lined, reads_token}
 use Rattle.yaml_laws.proofs.InBlock.Lines.{one_lined}
 use Rattle.yaml_laws.proofs.Documents.Markers.{piece_of, at_line}
-use Rattle.saphyr_scanner.proofs.Root.{state_at}
 
 directive_here : (m e : Marker) (blank : Bool) (r : List ℕ) (d : ReadDirective) (u : Cursor)
     (k : Option Candidate) (a : Bool) (ad : ℕ) (ps : List Place) → m.col ≡ 0

@@ -1,5 +1,5 @@
 -- The places between the documents of a text, and a step from one to the next.
-use Rattle.yaml_laws.proofs.Common.{Bool, List, Ok, [], ap, arith, false, inl, inr, length, refl, slice_index, subst, sym, true, ℕ, ◌++◌, ◌+◌, ◌∙◌, ◌∷◌, ◌≡◌, ◌≤◌, ◌⊎◌, None, Option, Some, not, ◌&&◌, ◌==◌, ◌||◌, is_blank, is_z, can_be_plain, is_document_indicator, Marker, Cursor, ◌>>=◌, Kind, Piece, Place, bare_place, Core, drop_far_key, Candidate, State, LeadsTo, cursor_at, eq-eqb, place_kinds, place_kinds_append, queue_of}
+use Rattle.yaml_laws.proofs.Common.{Bool, List, Ok, [], ap, arith, false, inl, inr, length, refl, slice_index, subst, sym, true, ℕ, ◌++◌, ◌+◌, ◌∙◌, ◌∷◌, ◌≡◌, ◌≤◌, ◌⊎◌, None, Option, Some, not, ◌&&◌, ◌==◌, ◌||◌, is_blank, is_z, can_be_plain, is_document_indicator, Marker, Cursor, ◌>>=◌, Kind, Piece, Place, bare_place, Core, drop_far_key, Candidate, State, LeadsTo, cursor_at, eq-eqb, place_kinds, place_kinds_append, queue_of, core_at, state_at, drops_key, none_unrolls, comes}
 use Rattle.saphyr_scanner.specs.declared.engine.level.Context.TheVariants as context
 use Rattle.saphyr_scanner.specs.Steps.Gap.{GapEnd, gap_here, stop}
 use Rattle.saphyr_scanner.specs.Steps.Passing.{goes_on_behind, pass_gap, check_comment, behind_gap}
@@ -12,7 +12,6 @@ use Rattle.yaml_laws.proofs.InBlock.Untabbed.{gap_past}
 use Rattle.yaml_laws.proofs.InBlock.Gaps.{past_no_blank}
 use Rattle.yaml_laws.proofs.Flow.GapSteps.{past_low}
 use Rattle.yaml_laws.proofs.Flow.Tokens.{passes_gap, within_index}
-use Rattle.saphyr_scanner.proofs.Root.{core_at, state_at, drops_key, none_unrolls, comes}
 use Rattle.yaml_laws.proofs.Flow.ContentStarts.{mark_no_plain}
 
 -- ## After a comment that ended a plain scalar

@@ -1,28 +1,10 @@
 -- The brackets, braces and commas of a text in flow style are read.
 use Rattle.std.proofs.Common.{◌≡◌, ◌⊎◌, ℕ, ◌<◌, ◌≤◌, Bool, true, false, List, [], ◌∷◌, ◌++◌, length, slice_index, Result, Ok, Err, refl, sym, ap, ◌∙◌, arith, subst, append_assoc, cond, IsTrue, inl}
-use Rattle.std.specs.Prelude.{◌&&◌, ◌==◌, Option, None}
-use Rattle.std.specs.List.{list_all}
-use Rattle.saphyr_input.specs.Indicators.{percent_sign, comma}
-use Rattle.saphyr_input.specs.Classes.{is_blank, is_z, line_feed}
-use Rattle.saphyr_input.specs.declared.input.SkipTabs.{SkipTabs}
-use Rattle.saphyr_input.specs.declared.input.SkipTabs.TheVariants.{Yes}
-use Rattle.saphyr_scalar.specs.declared.scalar.position.Marker.{Marker}
-use Rattle.saphyr_scalar.specs.declared.scalar.fault.Refusal.{Refusal}
-use Rattle.saphyr_scalar.specs.Views.Cursor.{Cursor, along, separation}
-use Rattle.saphyr_scalar.specs.Spelling.Tag.{AreIn}
-use Rattle.saphyr_scalar.proofs.Given.{cursor_at}
-use Rattle.scalar_laws.specs.Spelling.Spaces.{IsSeparation}
-use Rattle.saphyr_scanner.specs.declared.engine.level.Context.{Context}
+use Rattle.yaml_laws.proofs.Common.{◌&&◌, ◌==◌, Option, None, list_all, percent_sign, comma, is_blank, is_z, line_feed, SkipTabs, Yes, Marker, Refusal, Cursor, along, separation, AreIn, cursor_at, IsSeparation, Context, Kind, Piece, Place, bare_place, empty_piece, Candidate, Level, is_block, behind_entry, ends_pair, step, most_open, le_next, token_place, place_kinds, queue_of, saved, level_of, comma_begins, IsComma, no_feed}
 use Rattle.saphyr_scanner.specs.Grammar.Tokens as tokens
-use Rattle.saphyr_scanner.specs.Grammar.Tokens.{Kind}
-use Rattle.saphyr_scanner.specs.Views.Tokens.{Piece}
-use Rattle.saphyr_scanner.specs.Steps.Queue.{Place, bare_place, empty_piece}
 use Rattle.saphyr_scanner.specs.Steps.Core.{Core, from_to, perform, completed_step, remove_key}
-use Rattle.saphyr_scanner.specs.Steps.Level.{Candidate, Level, is_block, behind_entry, ends_pair}
 use Rattle.saphyr_scanner.specs.Steps.Flow as flow
 use Rattle.saphyr_scanner.specs.Steps.Flow.{close_collection, behind_pair, next_flow_entry}
-use Rattle.saphyr_scanner.specs.Steps.Fetch.{step}
-use Rattle.saphyr_scanner.specs.Limits.{most_open}
 use Rattle.yaml_laws.proofs.InFlow.States.{Around, core_at, state_at, Calm, placed_right, opening_steps_open, open_collection_gives, close_collection_gives, deepened, FlowMoment, moment, moment_with, moment_in}
 use Rattle.yaml_laws.proofs.Flow.States.{IsFresh, Since, moved, past, IsClear, IsContentStart, IsParted, Known, fresh_key, PassesPiece, FitsAround, StandsBefore, key_behind}
 use Rattle.yaml_laws.proofs.Flow.Places.{moved_index, right_one, clear_here}
@@ -31,12 +13,6 @@ use Rattle.yaml_laws.proofs.Flow.Tokens.{BeginsToken, arrives, step_comes, withi
 use Rattle.yaml_laws.proofs.Flow.Separates.{separates}
 use Rattle.yaml_laws.proofs.Flow.Joins.{step_passes, separation_joins, knowing}
 use Rattle.yaml_laws.proofs.InBlock.Crossings.{fresh_in_flow}
-use Rattle.saphyr_input.proofs.Basics.Numbers.{le_next}
-use Rattle.saphyr_scanner.proofs.Queues.{token_place, place_kinds, queue_of}
-use Rattle.saphyr_scanner.proofs.Levels.{saved, level_of}
-use Rattle.saphyr_scanner.proofs.Steps.Choice.{comma_begins}
-use Rattle.yaml_laws.specs.Grammar.FlowNodes.{IsComma}
-use Rattle.scalar_laws.proofs.Breaks.Sides.{no_feed}
 use Rattle.yaml_laws.proofs.Flow.ContentStarts.{StartsContent, is_start, start_content, start_nul, start_directive, colon_content}
 use Rattle.yaml_laws.proofs.Flow.Pieces.{fits_front, fits_so, end_is_content, parted_by}
 

@@ -1,28 +1,10 @@
 -- Collections in brackets and braces, given the run over what is inside them.
 pub mod Runs
-use Rattle.std.proofs.Common.{◌≡◌, ℕ, ◌<◌, ◌≤◌, Bool, true, false, List, [], ◌∷◌, ◌++◌, length, Ok, refl, sym, ap, ◌∙◌, subst, append_assoc, inl, inr, arith}
-use Rattle.std.specs.Prelude.{Option, None}
-use Rattle.std.specs.List.{list_all}
-use Rattle.saphyr_input.specs.Classes.{is_blank}
-use Rattle.saphyr_input.specs.declared.input.SkipTabs.{SkipTabs}
-use Rattle.saphyr_input.specs.declared.input.SkipTabs.TheVariants.{Yes}
-use Rattle.saphyr_scalar.specs.declared.scalar.position.Marker.{Marker}
-use Rattle.saphyr_scalar.specs.Views.Cursor.{Cursor, along, separation}
-use Rattle.saphyr_scalar.proofs.Given.{cursor_at}
-use Rattle.scalar_laws.specs.Spelling.Spaces.{IsSeparation}
-use Rattle.saphyr_scanner.specs.declared.engine.level.Context.{Context}
+use Rattle.yaml_laws.proofs.Common.{◌≡◌, ℕ, ◌<◌, ◌≤◌, Bool, true, false, List, [], ◌∷◌, ◌++◌, length, Ok, refl, sym, ap, ◌∙◌, subst, append_assoc, inl, inr, arith, Option, None, list_all, is_blank, SkipTabs, Yes, Marker, Cursor, along, separation, cursor_at, IsSeparation, Context, Kind, Piece, Place, bare_place, Core, Candidate, Level, is_block, behind_entry, ends_pair, close_collection, State, most_open, le_next, true≢false, begins_sequence, begins_mapping, level_of}
 use Rattle.saphyr_scanner.specs.declared.engine.level.Context.TheVariants as context
 use Rattle.saphyr_scanner.specs.Grammar.Tokens as tokens
-use Rattle.saphyr_scanner.specs.Grammar.Tokens.{Kind}
-use Rattle.saphyr_scanner.specs.Views.Tokens.{Piece}
-use Rattle.saphyr_scanner.specs.Steps.Queue.{Place, bare_place}
-use Rattle.saphyr_scanner.specs.Steps.Core.{Core}
-use Rattle.saphyr_scanner.specs.Steps.Level.{Candidate, Level, is_block, behind_entry, ends_pair}
 use Rattle.saphyr_scanner.specs.Steps.Flow as flow
-use Rattle.saphyr_scanner.specs.Steps.Flow.{close_collection}
-use Rattle.saphyr_scanner.specs.Steps.State.{State}
 use Rattle.saphyr_scanner.specs.Steps.Fetch.{step}
-use Rattle.saphyr_scanner.specs.Limits.{most_open}
 use Rattle.yaml_laws.proofs.InFlow.States.{Around, core_at, state_at, Calm, FlowMoment}
 use Rattle.yaml_laws.proofs.Flow.States.{crosses, IsFresh, keeping, moved, past, IsParted, IsBehindRoot, Known, PassesPiece, FitsAround, ended, StandsBefore, after, IsAfterNode, after_node, TextPasses}
 use Rattle.yaml_laws.proofs.Flow.Places.{moved_append}
@@ -33,10 +15,6 @@ use Rattle.yaml_laws.proofs.Flow.Joins.{join, separation_joins}
 use Rattle.yaml_laws.proofs.Flow.Brackets.{IsTokenMark, open_passes, pending, close_passes, token_mark}
 use Rattle.yaml_laws.proofs.InBlock.Crossings.{fresh_in_flow, line_rest_crosses}
 use Rattle.yaml_laws.proofs.Flow.Pieces.{EndsEntry, fits_front, fits_back, fits_before}
-use Rattle.saphyr_input.proofs.Basics.Numbers.{le_next}
-use Rattle.std.proofs.lemmas.Bool.{true≢false}
-use Rattle.saphyr_scanner.proofs.Steps.Choice.{begins_sequence, begins_mapping}
-use Rattle.saphyr_scanner.proofs.Levels.{level_of}
 use Rattle.yaml_laws.proofs.Flow.ContentStarts.{is_start}
 
 -- ## After the closing bracket

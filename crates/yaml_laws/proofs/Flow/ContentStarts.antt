@@ -1,18 +1,7 @@
 -- The first characters of the nodes of a text in flow style.
 use Rattle.std.proofs.Common.{◌≡◌, ◌≢◌, ℕ, Bool, true, false, List, [], ◌∷◌, ◌++◌, refl, arith, IsTrue, inl, inr, codes, ◌≤◌}
-use Rattle.std.specs.Prelude.{◌==◌, ◌&&◌, not, slice_index, Option}
-use Rattle.std.proofs.lemmas.Bool.Decides.{nat_tests}
-use Rattle.saphyr_input.specs.Indicators.{comma, number_sign, percent_sign}
-use Rattle.saphyr_input.specs.Classes.{is_blank, is_break, is_bom, is_z, byte_order_mark}
-use Rattle.scalar_laws.specs.Spelling.Plain.{is_plain_safe}
-use Rattle.saphyr_scanner.specs.Grammar.Forest.{Style, Plain, SingleQuoted, DoubleQuoted, Literal, Folded, Handle, Tag, Properties, Node, Alias, Scalar, Seq, Map}
-use Rattle.yaml_laws.specs.Grammar.TagSpelling.{IsHandle, IsTag}
-use Rattle.yaml_laws.specs.Grammar.FlowScalars.{begins_plain, IsFirstWord, IsPlainKey, IsFlowScalar}
-use Rattle.yaml_laws.specs.Grammar.FlowNodes.{IsAnchor, AreProperties, IsProperties, IsBeforeContent, IsPlainKeyNode, IsKeyText, IsFlowNode}
+use Rattle.yaml_laws.proofs.Common.{◌==◌, ◌&&◌, not, slice_index, Option, nat_tests, comma, number_sign, percent_sign, is_blank, is_break, is_bom, is_z, byte_order_mark, is_plain_safe, Style, Plain, SingleQuoted, DoubleQuoted, Literal, Folded, Handle, Tag, Properties, Node, Alias, Scalar, Seq, Map, IsHandle, IsTag, begins_plain, IsFirstWord, IsPlainKey, IsFlowScalar, IsAnchor, AreProperties, IsProperties, IsBeforeContent, IsPlainKeyNode, IsKeyText, IsFlowNode, can_be_plain, other_than, Marker}
 use Rattle.yaml_laws.proofs.Flow.States.{IsContentStart, moved, past}
-use Rattle.saphyr_input.specs.Places.{can_be_plain}
-use Rattle.saphyr_input.proofs.Basics.Booleans.{other_than}
-use Rattle.saphyr_scalar.specs.declared.scalar.position.Marker.{Marker}
 use Rattle.yaml_laws.proofs.Flow.Places.{moved_index}
 use Rattle.yaml_laws.proofs.Flow.GapSteps.{past_low}
 

@@ -1,31 +1,14 @@
 -- The content of a scalar in flow style is passed, after its properties or without any.
 use Rattle.std.proofs.Common.{◌≡◌, ℕ, ◌≤◌, false, List, [], ◌∷◌, ◌++◌, slice_index, refl, arith, IsTrue}
-use Rattle.std.specs.Prelude.{◌==◌, not, None}
-use Rattle.std.proofs.lemmas.Bool.Decides.{nat_tests}
-use Rattle.saphyr_input.specs.Classes.{is_blank_or_breakz}
-use Rattle.saphyr_input.specs.Indicators.{apostrophe, colon}
-use Rattle.saphyr_scalar.specs.declared.scalar.position.Marker.{Marker}
-use Rattle.saphyr_scalar.specs.declared.values.Quote.{Quote}
-use Rattle.saphyr_scalar.specs.declared.values.Quote.TheVariants.{Single, Double}
-use Rattle.scalar_laws.specs.Spelling.Spaces.{IsSeparation}
-use Rattle.saphyr_scanner.specs.Grammar.Tokens.{scalar_token}
-use Rattle.saphyr_scanner.specs.Steps.Level.{is_block}
-use Rattle.saphyr_scanner.specs.Grammar.Forest.{Style, Plain, SingleQuoted, DoubleQuoted, Literal, Folded, Properties, Node, Scalar}
-use Rattle.saphyr_scalar.specs.Values.Flow.{plain_value}
-use Rattle.yaml_laws.specs.Grammar.FlowScalars.{IsPlainKey, IsQuoted, IsFlowScalar}
-use Rattle.scalar_laws.specs.Spelling.Plain.{EndsPlain}
-use Rattle.saphyr_scanner.specs.declared.engine.level.Context.{Context}
-use Rattle.yaml_laws.specs.Grammar.FlowNodes.{allows_adjacent}
+use Rattle.yaml_laws.proofs.Common.{◌==◌, not, None, nat_tests, is_blank_or_breakz, apostrophe, colon, Marker, Quote, Single, Double, IsSeparation, scalar_token, is_block, Style, Plain, SingleQuoted, DoubleQuoted, Literal, Folded, Properties, Node, Scalar, plain_value, IsPlainKey, IsQuoted, IsFlowScalar, EndsPlain, Context, allows_adjacent, quote_style, mid_line}
 use Rattle.yaml_laws.proofs.InFlow.States.{Around, FlowMoment}
 use Rattle.yaml_laws.proofs.Flow.States.{moved, past, ReaderPromises, FitsAround, after_node, StandsBefore, keeping, Follows, follows_inside, follows_outside, IsLow, TextPasses}
 use Rattle.yaml_laws.proofs.Flow.Fillers.{separation_past}
 use Rattle.yaml_laws.proofs.Flow.Joins.{knowing, token_node}
 use Rattle.yaml_laws.proofs.Flow.Ends.{EndsHere, behind_node_first, root_first}
-use Rattle.saphyr_scanner.specs.Steps.Scalar.{quote_style}
 use Rattle.yaml_laws.proofs.Flow.Quotes.{EndsQuotes, flow_ends_quotes, root_ends_quotes, quoted_passes}
 use Rattle.yaml_laws.proofs.Flow.PlainEnds.{ParsColon, ends_in_flow, ends_at_root}
 use Rattle.yaml_laws.proofs.Flow.Plains.{PassesPlain, plain_comment, no_comment, plain_passes, plain_key_passes}
-use Rattle.saphyr_scalar.specs.Steps.Quoted.{mid_line}
 use Rattle.yaml_laws.proofs.Flow.Words.{plain_right, key_right}
 use Rattle.yaml_laws.proofs.Flow.Quoted.{quoted_right}
 

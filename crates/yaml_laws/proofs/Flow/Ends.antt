@@ -1,18 +1,8 @@
 -- What comes first after a piece of a text in flow style.
 use Rattle.std.proofs.Common.{◌≡◌, ◌≢◌, ℕ, Bool, true, false, List, [], ◌∷◌, ◌++◌, slice_index, sym, arith, subst, append_assoc, IsTrue, ◌⊎◌, inl, inr}
-use Rattle.std.specs.Prelude.{◌||◌, ◌&&◌, not}
-use Rattle.std.proofs.lemmas.Bool.Decides.{nat_tests}
-use Rattle.saphyr_input.specs.Classes.{is_blank, is_blank_or_breakz, is_flow, is_anchor_char, line_feed}
-use Rattle.saphyr_scalar.specs.declared.scalar.position.Marker.{Marker}
-use Rattle.saphyr_scalar.specs.Spelling.Tag.{AreIn, EndsTag}
-use Rattle.scalar_laws.specs.Spelling.Spaces.{joined_pieces, AreEach, IsCommentBehind, IsSeparationLine, IsSeparation, IsLineRest}
-use Rattle.saphyr_scanner.specs.Grammar.Forest.{Node}
-use Rattle.yaml_laws.specs.Grammar.FlowNodes.{needs_separation, IsBeforeColon}
+use Rattle.yaml_laws.proofs.Common.{◌||◌, ◌&&◌, not, nat_tests, is_blank, is_blank_or_breakz, is_flow, is_anchor_char, line_feed, Marker, AreIn, EndsTag, joined_pieces, AreEach, IsCommentBehind, IsSeparationLine, IsSeparation, IsLineRest, Node, needs_separation, IsBeforeColon, Context, is_block, or_left}
 use Rattle.yaml_laws.proofs.InFlow.States.{Around}
 use Rattle.yaml_laws.proofs.Flow.States.{EndsNode, IsBehindNode, IsBehindRoot, Follows, follows_inside, follows_outside}
-use Rattle.saphyr_scanner.specs.declared.engine.level.Context.{Context}
-use Rattle.saphyr_scanner.specs.Steps.Level.{is_block}
-use Rattle.std.proofs.lemmas.Bool.{or_left}
 
 -- ## White space first
 

@@ -1,20 +1,9 @@
 -- Separation, filler and the ends of lines are passed between two tokens.
 use Rattle.std.proofs.Common.{◌≡◌, ℕ, zero, suc, ◌+◌, ◌≤◌, Bool, true, false, List, [], ◌∷◌, ◌++◌, slice_index, refl, sym, ap, ◌∙◌, arith, subst, append_assoc, append-nil, ◌⊎◌, inl, inr}
-use Rattle.std.specs.Prelude.{◌||◌, ◌&&◌, ◌==◌}
-use Rattle.std.proofs.lemmas.Bool.Decides.{nat_tests}
-use Rattle.saphyr_input.specs.Classes.{is_blank, is_break, is_yaml_non_break, line_feed, carriage_return}
-use Rattle.saphyr_scalar.specs.declared.scalar.position.Marker.{Marker}
-use Rattle.saphyr_scalar.specs.Views.Cursor.{along, next_line}
-use Rattle.saphyr_scalar.specs.Spelling.Tag.{AreIn}
-use Rattle.saphyr_scalar.specs.Reading.BlockLines.{spaces}
-use Rattle.scalar_laws.specs.Spelling.Plain.{past_white}
-use Rattle.scalar_laws.specs.Spelling.Spaces.{joined_pieces, AreEach, AreMany, IsComment, IsCommentBehind, IsLineRest, IsFillerText, IsFillerLine, IsFiller, IsLastFiller, IsSeparationLine, IsSeparation}
+use Rattle.yaml_laws.proofs.Common.{◌||◌, ◌&&◌, ◌==◌, nat_tests, is_blank, is_break, is_yaml_non_break, line_feed, carriage_return, Marker, along, next_line, AreIn, spaces, past_white, joined_pieces, AreEach, AreMany, IsComment, IsCommentBehind, IsLineRest, IsFillerText, IsFillerLine, IsFiller, IsLastFiller, IsSeparationLine, IsSeparation, le_next, blank_no_break, non_break_feed_fails, return_breaks, and_false, clash}
 use Rattle.yaml_laws.proofs.Flow.States.{moved, is_left_tab, is_filler_rest, is_comment_rest, past, past_comment}
 use Rattle.yaml_laws.proofs.Flow.Places.{moved_append}
 use Rattle.yaml_laws.proofs.Flow.Gaps.{stops_tab}
-use Rattle.saphyr_input.proofs.Basics.Numbers.{le_next}
-use Rattle.saphyr_input.proofs.Basics.Characters.{blank_no_break, non_break_feed_fails, return_breaks}
-use Rattle.saphyr_input.proofs.Basics.Booleans.{and_false, clash}
 
 -- what is passed wherever it is and whatever comes after it: a tab in it is on a line without a token
 abbrev pub IsPast : ℕ → List ℕ → Type 0

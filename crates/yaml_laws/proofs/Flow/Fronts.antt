@@ -1,15 +1,7 @@
 -- A text in flow style after its properties, or without any.
 use Rattle.std.proofs.Common.{◌≡◌, ◌≢◌, ℕ, ◌≤◌, List, [], ◌++◌, length, refl, sym, ap, ◌∙◌, arith, subst, append_assoc, inl, inr, Bool}
-use Rattle.std.specs.Prelude.{not}
-use Rattle.saphyr_scalar.specs.declared.scalar.position.Marker.{Marker}
-use Rattle.scalar_laws.specs.Spelling.Spaces.{IsSeparation}
-use Rattle.saphyr_scanner.specs.Grammar.Tokens.{Kind}
+use Rattle.yaml_laws.proofs.Common.{not, Marker, IsSeparation, Kind, Place, is_block, Properties, saved, IsProperties, IsBeforeContent}
 use Rattle.saphyr_scanner.specs.Grammar.TokenGrammar as grammar
-use Rattle.saphyr_scanner.specs.Steps.Queue.{Place}
-use Rattle.saphyr_scanner.specs.Steps.Level.{is_block}
-use Rattle.saphyr_scanner.specs.Grammar.Forest.{Properties}
-use Rattle.saphyr_scanner.proofs.Levels.{saved}
-use Rattle.yaml_laws.specs.Grammar.FlowNodes.{IsProperties, IsBeforeContent}
 use Rattle.yaml_laws.proofs.InFlow.States.{Around, state_at, FlowMoment, not_more}
 use Rattle.yaml_laws.proofs.Flow.States.{moved, past, FitsAround, ReaderPromises, StandsBefore, Since, keeping, PassesPiece, PassesNoting, IsAfterNode, after_node, after, TextPasses}
 use Rattle.yaml_laws.proofs.Flow.Places.{moved_append, moved_index}

@@ -1,12 +1,7 @@
 -- What is passed between two tokens of a text in flow style, character by character.
-use Rattle.std.proofs.Common.{◌≡◌, ℕ, suc, ◌+◌, ◌<◌, ◌≤◌, false, List, ◌∷◌, length, refl, arith}
-use Rattle.std.proofs.lemmas.Bool.Decides.{nat_tests}
-use Rattle.saphyr_input.specs.Classes.{is_blank, is_break, is_yaml_non_break}
-use Rattle.saphyr_scalar.specs.declared.scalar.position.Marker.{Marker}
-use Rattle.saphyr_scalar.specs.Views.Cursor.{along, next_line}
+use Rattle.yaml_laws.proofs.Common.{◌≡◌, ℕ, suc, ◌+◌, ◌<◌, ◌≤◌, false, List, ◌∷◌, length, refl, arith, nat_tests, is_blank, is_break, is_yaml_non_break, Marker, along, next_line, no_return}
 use Rattle.yaml_laws.proofs.Flow.States.{moved, is_left_tab, past, past_comment, IsContentStart}
 use Rattle.yaml_laws.proofs.Flow.Places.{moved_index}
-use Rattle.saphyr_input.proofs.Basics.Characters.{no_return}
 use Rattle.yaml_laws.proofs.Flow.GapWalks.{OverGap, over_gap, over_comment}
 
 -- ## By the characters that are passed

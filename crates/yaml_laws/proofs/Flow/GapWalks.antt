@@ -1,10 +1,5 @@
 -- A walk over what is between two tokens, character by character.
-use Rattle.std.proofs.Common.{◌≡◌, ℕ, Bool, true, false, List, [], ◌∷◌, refl, arith}
-use Rattle.std.specs.Prelude.{◌==◌}
-use Rattle.saphyr_input.specs.Indicators.{number_sign}
-use Rattle.saphyr_input.specs.Classes.{is_break, is_yaml_non_break}
-use Rattle.saphyr_scalar.specs.declared.scalar.position.Marker.{Marker}
-use Rattle.saphyr_scalar.specs.Views.Cursor.{along, next_line}
+use Rattle.yaml_laws.proofs.Common.{◌≡◌, ℕ, Bool, true, false, List, [], ◌∷◌, refl, arith, ◌==◌, number_sign, is_break, is_yaml_non_break, Marker, along, next_line}
 use Rattle.yaml_laws.proofs.Flow.Gaps.{stops_tab, is_return_at, is_white_at}
 use Rattle.yaml_laws.proofs.Flow.States.{is_left_tab}
 

@@ -1,13 +1,8 @@
 -- Tabs between two tokens, and the rest of a line without a token.
 use Rattle.std.proofs.Common.{◌≡◌, ℕ, ◌≤◌, Bool, true, false, List, [], ◌∷◌, slice_index, refl, sym, ◌∙◌, arith}
-use Rattle.std.specs.Prelude.{◌||◌, ◌&&◌, ◌==◌, not}
-use Rattle.saphyr_input.specs.Classes.{is_blank, is_break, is_yaml_non_break, line_feed}
-use Rattle.saphyr_scalar.specs.declared.scalar.position.Marker.{Marker}
+use Rattle.yaml_laws.proofs.Common.{◌||◌, ◌&&◌, ◌==◌, not, is_blank, is_break, is_yaml_non_break, line_feed, Marker, and_true_left, and_true_right, or_parts, number_sign}
 use Rattle.saphyr_scanner.specs.Steps.Gap.{gap_here, stop, is_tab_indentation}
 use Rattle.yaml_laws.proofs.Flow.States.{is_left_tab, is_filler_rest, is_comment_rest}
-use Rattle.saphyr_input.proofs.Basics.Booleans.{and_true_left, and_true_right}
-use Rattle.std.proofs.lemmas.Bool.{or_parts}
-use Rattle.saphyr_input.specs.Indicators.{number_sign}
 
 -- ## Tabs, and blanks
 

@@ -1,18 +1,8 @@
 -- The entries of brackets and of braces inside flow, one after the other.
-use Rattle.std.proofs.Common.{◌≡◌, ℕ, ◌+◌, ◌<◌, ◌≤◌, Bool, true, false, List, [], ◌∷◌, ◌++◌, length, refl, sym, ap, ◌∙◌, subst, append_assoc, append-nil, ◌⊎◌, inl, inr, arith}
-use Rattle.std.specs.Prelude.{None}
-use Rattle.saphyr_scalar.specs.declared.scalar.position.Marker.{Marker}
-use Rattle.saphyr_scanner.specs.declared.engine.level.Context.{Context}
+use Rattle.yaml_laws.proofs.Common.{◌≡◌, ℕ, ◌+◌, ◌<◌, ◌≤◌, Bool, true, false, List, [], ◌∷◌, ◌++◌, length, refl, sym, ap, ◌∙◌, subst, append_assoc, append-nil, ◌⊎◌, inl, inr, arith, None, Marker, Context, Kind, Place, Level, is_block, behind_entry, ends_pair, State, Properties, Node, Alias, Scalar, Seq, Map, NoPair, MorePairs, most_open, IsBeforeSeparation, IsPairText, IsPair, IsSinglePairText, IsSinglePair, IsComma, IsLastComma, IsFlowNode, IsPairItem}
 use Rattle.saphyr_scanner.specs.declared.engine.level.Context.TheVariants as context
 use Rattle.saphyr_scanner.specs.Grammar.Tokens as tokens
-use Rattle.saphyr_scanner.specs.Grammar.Tokens.{Kind}
 use Rattle.saphyr_scanner.specs.Grammar.TokenGrammar as grammar
-use Rattle.saphyr_scanner.specs.Steps.Queue.{Place}
-use Rattle.saphyr_scanner.specs.Steps.Level.{Level, is_block, behind_entry, ends_pair}
-use Rattle.saphyr_scanner.specs.Steps.State.{State}
-use Rattle.saphyr_scanner.specs.Grammar.Forest.{Properties, Node, Alias, Scalar, Seq, Map, NoPair, MorePairs}
-use Rattle.saphyr_scanner.specs.Limits.{most_open}
-use Rattle.yaml_laws.specs.Grammar.FlowNodes.{IsBeforeSeparation, IsPairText, IsPair, IsSinglePairText, IsSinglePair, IsComma, IsLastComma, IsFlowNode, IsPairItem}
 use Rattle.yaml_laws.proofs.InFlow.States.{Around, state_at, FlowMoment, moment_in}
 use Rattle.yaml_laws.proofs.Flow.States.{FitsAround, moved, past, PassesPiece, ended, PassesNode, after, StandsBefore}
 use Rattle.yaml_laws.proofs.Flow.Places.{moved_append}

@@ -1,14 +1,5 @@
 -- Runs over pieces of a text in flow style, one after the other.
-use Rattle.std.proofs.Common.{◌≡◌, inl, inr, sym, ℕ, ◌≤◌, Bool, false, IsTrue, List, [], ◌++◌, ◌∙◌, append_assoc, append-nil, arith}
-use Rattle.std.specs.Prelude.{Option}
-use Rattle.saphyr_scalar.specs.declared.scalar.position.Marker.{Marker}
-use Rattle.scalar_laws.specs.Spelling.Spaces.{IsSeparation}
-use Rattle.saphyr_scanner.specs.declared.engine.level.Context.{Context}
-use Rattle.saphyr_scanner.specs.Grammar.Tokens.{Kind}
-use Rattle.saphyr_scanner.specs.Steps.Queue.{Place}
-use Rattle.saphyr_scanner.specs.Steps.Level.{Candidate, Level}
-use Rattle.saphyr_scanner.specs.Steps.State.{State}
-use Rattle.saphyr_scanner.proofs.Queues.{place_kinds, place_kinds_append}
+use Rattle.yaml_laws.proofs.Common.{◌≡◌, inl, inr, sym, ℕ, ◌≤◌, Bool, false, IsTrue, List, [], ◌++◌, ◌∙◌, append_assoc, append-nil, arith, Option, Marker, IsSeparation, Context, Kind, Place, Candidate, Level, State, place_kinds, place_kinds_append}
 use Rattle.yaml_laws.proofs.InFlow.States.{Around, state_at, runs_to_itself, chains, ComesAround, FlowMoment, moment_with}
 use Rattle.yaml_laws.proofs.Flow.States.{moved, IsFresh, Since, Known, PassesNoting, PassesPiece, after, after_node, keeping, StandsBefore, TextPasses}
 use Rattle.yaml_laws.proofs.Flow.ContentStarts.{behind_low}

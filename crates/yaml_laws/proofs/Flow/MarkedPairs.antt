@@ -1,16 +1,7 @@
 -- Pairs that a `?` begins, inside flow.
-use Rattle.std.proofs.Common.{◌≡◌, ℕ, ◌+◌, ◌<◌, ◌≤◌, Bool, true, false, List, [], ◌∷◌, ◌++◌, length, refl, sym, ap, ◌∙◌, arith, append_assoc, ◌⊎◌, inl, inr}
-use Rattle.std.specs.Prelude.{None}
-use Rattle.saphyr_input.specs.Indicators.{question_mark}
-use Rattle.saphyr_scalar.specs.declared.scalar.position.Marker.{Marker}
-use Rattle.saphyr_scanner.specs.declared.engine.level.Context.{Context}
+use Rattle.yaml_laws.proofs.Common.{◌≡◌, ℕ, ◌+◌, ◌<◌, ◌≤◌, Bool, true, false, List, [], ◌∷◌, ◌++◌, length, refl, sym, ap, ◌∙◌, arith, append_assoc, ◌⊎◌, inl, inr, None, question_mark, Marker, Context, Kind, is_block, behind_question, begins_pair, behind_colon, Node, left_out, most_open, IsColonAndValue, IsKeyAndValue, IsValueAlone, IsBehindMark, IsExplicitPair, IsLoneMark, IsFlowNode}
 use Rattle.saphyr_scanner.specs.Grammar.Tokens as tokens
-use Rattle.saphyr_scanner.specs.Grammar.Tokens.{Kind}
 use Rattle.saphyr_scanner.specs.Grammar.TokenGrammar as grammar
-use Rattle.saphyr_scanner.specs.Steps.Level.{is_block, behind_question, begins_pair, behind_colon}
-use Rattle.saphyr_scanner.specs.Grammar.Forest.{Node, left_out}
-use Rattle.saphyr_scanner.specs.Limits.{most_open}
-use Rattle.yaml_laws.specs.Grammar.FlowNodes.{IsColonAndValue, IsKeyAndValue, IsValueAlone, IsBehindMark, IsExplicitPair, IsLoneMark, IsFlowNode}
 use Rattle.yaml_laws.proofs.InFlow.States.{Around, state_at, FlowMoment, moment_in}
 use Rattle.yaml_laws.proofs.Flow.States.{FitsAround, moved, past, IsContentStart, PassesPiece, no_key, ended, PassesNode, after, StandsBefore}
 use Rattle.yaml_laws.proofs.Flow.Places.{moved_append}

@@ -1,32 +1,14 @@
 -- The anchors, aliases and tags of a text in flow style are passed.
 use Rattle.std.proofs.Common.{◌≡◌, ℕ, ◌+◌, ◌≤◌, Bool, true, false, List, [], ◌∷◌, ◌++◌, length, slice_index, refl, sym, ap, arith, subst, encode_utf8_all, inl, inr}
-use Rattle.std.specs.Prelude.{◌==◌, not, Option, None}
-use Rattle.saphyr_input.specs.Indicators.{exclamation_mark}
-use Rattle.saphyr_input.specs.Classes.{is_break, is_anchor_char, line_feed}
-use Rattle.saphyr_scalar.specs.declared.scalar.position.Marker.{Marker}
-use Rattle.saphyr_scalar.specs.Views.Cursor.{along}
-use Rattle.saphyr_scalar.specs.Steps.Quoted.{mid_line}
-use Rattle.saphyr_scalar.specs.Spelling.Tag.{AreIn, IsAnchorName, IsTagText, EndsTag, IsHandleText}
-use Rattle.saphyr_scalar.proofs.NoBreaks.{NoBreaks}
-use Rattle.saphyr_scanner.specs.declared.engine.level.Context.{Context}
+use Rattle.yaml_laws.proofs.Common.{◌==◌, not, Option, None, exclamation_mark, is_break, is_anchor_char, line_feed, Marker, along, mid_line, AreIn, IsAnchorName, IsTagText, EndsTag, IsHandleText, NoBreaks, Context, Kind, alias_token, anchor_token, tag_token, Tag, Handle, handle_text, NonSpecific, Verbatim, Shorthand, Core, from_to, completed_step, Candidate, Level, is_block, name_no_break, tag_no_break, IsTag, IsAnchor, IsAlias, cursor_at, no_break_no_feed, saved}
 use Rattle.saphyr_scanner.specs.Grammar.Tokens as tokens
-use Rattle.saphyr_scanner.specs.Grammar.Tokens.{Kind, alias_token, anchor_token, tag_token}
-use Rattle.saphyr_scanner.specs.Grammar.Forest.{Tag, Handle, handle_text, NonSpecific, Verbatim, Shorthand}
-use Rattle.saphyr_scanner.specs.Steps.Core.{Core, from_to, completed_step}
-use Rattle.saphyr_scanner.specs.Steps.Level.{Candidate, Level, is_block}
 use Rattle.saphyr_scanner.specs.Steps.Property as property
 use Rattle.saphyr_scanner.specs.Steps.Property.{read_name, read_tag}
 use Rattle.saphyr_scanner.specs.Steps.Fetch.{step}
-use Rattle.saphyr_scanner.proofs.LineTexts.{name_no_break, tag_no_break}
-use Rattle.yaml_laws.specs.Grammar.TagSpelling.{IsTag}
-use Rattle.yaml_laws.specs.Grammar.FlowNodes.{IsAnchor, IsAlias}
 use Rattle.yaml_laws.proofs.InFlow.States.{Around, core_at, Placed, placed_right, saves_key, FlowMoment}
 use Rattle.yaml_laws.proofs.Flow.States.{moved, ReaderPromises, FitsAround, StandsBefore}
 use Rattle.yaml_laws.proofs.Flow.Places.{moved_along, right_along}
 use Rattle.yaml_laws.proofs.Flow.Tokens.{token_passes, PassesToken}
-use Rattle.saphyr_scalar.proofs.Given.{cursor_at}
-use Rattle.saphyr_input.proofs.Basics.Characters.{no_break_no_feed}
-use Rattle.saphyr_scanner.proofs.Levels.{saved}
 use lib.Utf8.{encode}
 use Rattle.yaml_laws.specs.Grammar.TagSpelling as spelling
 use Rattle.yaml_laws.proofs.Flow.ContentStarts.{is_start, starts, tag_begins}

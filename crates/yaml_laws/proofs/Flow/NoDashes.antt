@@ -1,12 +1,6 @@
 -- No node in flow style begins with a `-` before white space.
 use Rattle.std.proofs.Common.{◌≡◌, ℕ, Bool, false, List, ◌++◌, slice_index, refl, append_assoc, inl, inr, arith}
-use Rattle.std.specs.Prelude.{◌&&◌, ◌==◌, Option, Some, None}
-use Rattle.saphyr_input.specs.Classes.{is_blank_or_breakz}
-use Rattle.saphyr_input.specs.Indicators.{hyphen}
-use Rattle.saphyr_scanner.specs.Grammar.Forest.{Style, Plain, SingleQuoted, DoubleQuoted, Literal, Folded, Tag, Properties, Node, Alias, Scalar, Seq, Map}
-use Rattle.yaml_laws.specs.Grammar.FlowScalars.{IsFlowScalar}
-use Rattle.yaml_laws.specs.Grammar.TagSpelling.{IsTag}
-use Rattle.yaml_laws.specs.Grammar.FlowNodes.{IsAnchor, AreProperties, IsBeforeContent, IsFlowNode}
+use Rattle.yaml_laws.proofs.Common.{◌&&◌, ◌==◌, Option, Some, None, is_blank_or_breakz, hyphen, Style, Plain, SingleQuoted, DoubleQuoted, Literal, Folded, Tag, Properties, Node, Alias, Scalar, Seq, Map, IsFlowScalar, IsTag, IsAnchor, AreProperties, IsBeforeContent, IsFlowNode}
 use Rattle.yaml_laws.proofs.Flow.Plains.{word_begins, lone_test}
 
 abbrev pub NoDash : List ℕ → Type 0

@@ -1,11 +1,6 @@
 -- The scanner takes a node in flow style and makes its tokens.
-use Rattle.std.proofs.Common.{◌≡◌, ℕ, ◌+◌, ◌<◌, ◌≤◌, false, List, [], ◌++◌, length, sym, arith, inl, inr, ◌∙◌}
-use Rattle.saphyr_scalar.specs.declared.scalar.position.Marker.{Marker}
+use Rattle.yaml_laws.proofs.Common.{◌≡◌, ℕ, ◌+◌, ◌<◌, ◌≤◌, false, List, [], ◌++◌, length, sym, arith, inl, inr, ◌∙◌, Marker, is_block, Level, Properties, Node, Alias, Scalar, Seq, Map, Nodes, NoNode, MoreNodes, Pairs, NoPair, MorePairs, most_open, AreItems, AreOtherItems, AreFlowPairs, AreOtherFlowPairs, IsFlowNode}
 use Rattle.saphyr_scanner.specs.Grammar.TokenGrammar as grammar
-use Rattle.saphyr_scanner.specs.Steps.Level.{is_block, Level}
-use Rattle.saphyr_scanner.specs.Grammar.Forest.{Properties, Node, Alias, Scalar, Seq, Map, Nodes, NoNode, MoreNodes, Pairs, NoPair, MorePairs}
-use Rattle.saphyr_scanner.specs.Limits.{most_open}
-use Rattle.yaml_laws.specs.Grammar.FlowNodes.{AreItems, AreOtherItems, AreFlowPairs, AreOtherFlowPairs, IsFlowNode}
 use Rattle.yaml_laws.proofs.InFlow.States.{Around, FlowMoment}
 use Rattle.yaml_laws.proofs.Flow.States.{FitsAround, IsBehindNode, ReaderPromises, NodePasses, PassesNode, StandsBefore, ReadsText, follows_inside}
 use Rattle.yaml_laws.proofs.Flow.Collections.{square, curly, are_square, are_curly}

@@ -1,19 +1,8 @@
 -- Pairs of a key and a value inside flow.
 use Rattle.std.proofs.Common.{◌≡◌, ◌≢◌, ℕ, ◌+◌, ◌<◌, ◌≤◌, Bool, true, false, List, [], ◌∷◌, ◌++◌, length, slice_index, refl, sym, ap, ◌∙◌, arith, subst, append_assoc, append-nil, IsTrue, ◌⊎◌, inl, inr}
-use Rattle.std.specs.Prelude.{None}
-use Rattle.saphyr_scalar.specs.declared.scalar.position.Marker.{Marker}
-use Rattle.scalar_laws.specs.Spelling.Spaces.{IsSeparation}
-use Rattle.saphyr_scanner.specs.declared.engine.level.Context.{Context}
+use Rattle.yaml_laws.proofs.Common.{None, Marker, IsSeparation, Context, Kind, Place, Level, is_block, begins_pair, behind_colon, State, Node, left_out, most_open, saved, allows_adjacent, IsColonAndValue, IsBeforeColon, IsKeyAndValue, IsValueAlone, IsFlowNode, IsKeyText}
 use Rattle.saphyr_scanner.specs.Grammar.Tokens as tokens
-use Rattle.saphyr_scanner.specs.Grammar.Tokens.{Kind}
 use Rattle.saphyr_scanner.specs.Grammar.TokenGrammar as grammar
-use Rattle.saphyr_scanner.specs.Steps.Queue.{Place}
-use Rattle.saphyr_scanner.specs.Steps.Level.{Level, is_block, begins_pair, behind_colon}
-use Rattle.saphyr_scanner.specs.Steps.State.{State}
-use Rattle.saphyr_scanner.specs.Grammar.Forest.{Node, left_out}
-use Rattle.saphyr_scanner.specs.Limits.{most_open}
-use Rattle.saphyr_scanner.proofs.Levels.{saved}
-use Rattle.yaml_laws.specs.Grammar.FlowNodes.{allows_adjacent, IsColonAndValue, IsBeforeColon, IsKeyAndValue, IsValueAlone, IsFlowNode, IsKeyText}
 use Rattle.yaml_laws.proofs.InFlow.States.{Around, state_at, FlowMoment, moment_in}
 use Rattle.yaml_laws.proofs.Flow.States.{moved, past, FitsAround, IsParted, ends_colon, IsBehindNode, Known, PassesPiece, no_key, ended, keeping, IsNodeOrKey, PassesNode, after, StandsBefore, NodePasses}
 use Rattle.yaml_laws.proofs.Flow.Places.{moved_append, right_one}

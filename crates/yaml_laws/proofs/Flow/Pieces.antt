@@ -1,9 +1,6 @@
 -- Pieces of a text in flow style in parts, and what comes after them.
 use Rattle.std.proofs.Common.{◌≡◌, ◌≢◌, ℕ, ◌+◌, ◌≤◌, List, [], ◌∷◌, ◌++◌, length, slice_index, refl, ap, arith, append_assoc, IsTrue, ◌⊎◌}
-use Rattle.saphyr_input.specs.Indicators.{comma, right_brace, right_bracket}
-use Rattle.saphyr_scalar.specs.declared.scalar.position.Marker.{Marker}
-use Rattle.scalar_laws.specs.Spelling.Spaces.{IsSeparation}
-use Rattle.saphyr_scanner.specs.Grammar.Forest.{Node}
+use Rattle.yaml_laws.proofs.Common.{comma, right_brace, right_bracket, Marker, IsSeparation, Node}
 use Rattle.yaml_laws.proofs.InFlow.States.{Around}
 use Rattle.yaml_laws.proofs.Flow.States.{moved, IsContentStart, IsBehind, IsParted, ends_colon, IsBehindNode, FitsAround}
 use Rattle.yaml_laws.proofs.Flow.Places.{moved_count, clear_front, clear_back}

@@ -1,16 +1,6 @@
 -- Places after the pieces of a text, and pieces that no document marker begins a line of.
-use Rattle.std.proofs.Common.{◌≡◌, ℕ, ◌+◌, ◌≤◌, Bool, false, List, [], ◌∷◌, ◌++◌, length, refl, sym, ap, ◌∙◌, arith, append_assoc}
-use Rattle.std.specs.Prelude.{◌&&◌, ◌==◌, not, if◌then◌else◌}
-use Rattle.std.proofs.lemmas.List.{length-append}
-use Rattle.saphyr_input.specs.Classes.{line_feed}
-use Rattle.saphyr_input.specs.Places.{is_document_indicator}
-use Rattle.saphyr_scalar.specs.declared.scalar.position.Marker.{Marker}
-use Rattle.saphyr_scalar.specs.Views.Cursor.{along, next_line}
-use Rattle.saphyr_scalar.specs.Spelling.Tag.{AreIn}
+use Rattle.yaml_laws.proofs.Common.{◌≡◌, ℕ, ◌+◌, ◌≤◌, Bool, false, List, [], ◌∷◌, ◌++◌, length, refl, sym, ap, ◌∙◌, arith, append_assoc, ◌&&◌, ◌==◌, not, if◌then◌else◌, length-append, line_feed, is_document_indicator, Marker, along, next_line, AreIn, along_none, or_parts, or_from, front_in, back_in}
 use Rattle.yaml_laws.proofs.Flow.States.{moved, marks_line, IsClear}
-use Rattle.saphyr_scalar.proofs.Moving.{along_none}
-use Rattle.std.proofs.lemmas.Bool.{or_parts, or_from}
-use Rattle.scalar_laws.proofs.Beginnings.{front_in, back_in}
 
 -- after one character
 abbrev pub behind_character : Marker → ℕ → Marker

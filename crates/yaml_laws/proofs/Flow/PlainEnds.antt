@@ -1,17 +1,7 @@
 -- What comes after a node in flow style ends a plain scalar.
 use Rattle.std.proofs.Common.{◌≡◌, ◌≢◌, ℕ, ◌<◌, ◌≤◌, Bool, true, false, List, [], ◌∷◌, slice_index, refl, sym, ap, ◌∙◌, arith, subst, IsTrue, ◌⊎◌, inl, inr}
-use Rattle.std.specs.Prelude.{◌||◌, ◌&&◌, ◌==◌, if◌then◌else◌}
-use Rattle.std.proofs.lemmas.Bool.{false≢true}
-use Rattle.std.proofs.lemmas.Bool.Decides.{nat_tests}
-use Rattle.saphyr_input.specs.Indicators.{colon, number_sign}
-use Rattle.saphyr_input.specs.Classes.{is_blank, is_break, is_blank_or_breakz, is_flow, carriage_return, is_bom}
-use Rattle.saphyr_input.specs.Places.{is_blank_or_break}
-use Rattle.saphyr_scalar.specs.declared.scalar.position.Marker.{Marker}
-use Rattle.saphyr_scalar.specs.Views.Cursor.{along, next_line}
+use Rattle.yaml_laws.proofs.Common.{◌||◌, ◌&&◌, ◌==◌, if◌then◌else◌, false≢true, nat_tests, colon, number_sign, is_blank, is_break, is_blank_or_breakz, is_flow, carriage_return, is_bom, is_blank_or_break, Marker, along, next_line, past_white, StopsPlain, EndsPlain, Node, allows_adjacent}
 use Rattle.saphyr_scalar.specs.Steps.Plain.{is_in_word, ends_line}
-use Rattle.scalar_laws.specs.Spelling.Plain.{past_white, StopsPlain, EndsPlain}
-use Rattle.saphyr_scanner.specs.Grammar.Forest.{Node}
-use Rattle.yaml_laws.specs.Grammar.FlowNodes.{allows_adjacent}
 use Rattle.yaml_laws.proofs.Flow.States.{past, moved, IsContentStart, EndsDocument, IsLeft, ends_colon, EndsNode, IsBehindNode, IsBehindRoot}
 use Rattle.yaml_laws.proofs.Flow.GapSteps.{past_content, no_left}
 use Rattle.yaml_laws.proofs.InFlow.States.{Around}

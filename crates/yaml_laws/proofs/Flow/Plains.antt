@@ -1,25 +1,11 @@
 -- The plain scalars of a text in flow style are passed.
 use Rattle.std.proofs.Common.{◌≡◌, ◌≢◌, ℕ, ◌<◌, ◌≤◌, Bool, true, false, List, [], ◌∷◌, ◌++◌, slice_index, Ok, refl, ap, ◌∙◌, arith, append_assoc, IsTrue, ◌⊎◌, inl, inr, encode_utf8_all}
-use Rattle.std.specs.Prelude.{◌||◌, ◌&&◌, ◌==◌, not, nat_lt, Option, None}
-use Rattle.std.proofs.lemmas.Bool.Decides.{nat_tests}
-use Rattle.saphyr_input.specs.Breaks.{normalized}
-use Rattle.saphyr_input.specs.Classes.{is_blank, is_blank_or_breakz, is_flow, is_z}
-use Rattle.saphyr_scalar.specs.declared.scalar.position.Marker.{Marker}
-use Rattle.saphyr_scalar.specs.Views.Cursor.{Cursor, ◌>>=◌}
-use Rattle.saphyr_scalar.specs.Values.Flow.{plain_value}
+use Rattle.yaml_laws.proofs.Common.{◌||◌, ◌&&◌, ◌==◌, not, nat_lt, Option, None, nat_tests, normalized, is_blank, is_blank_or_breakz, is_flow, is_z, Marker, Cursor, ◌>>=◌, plain_value, AreIn, is_tabbed, past_white, EndsPlain, is_plain_safe, ArePlainSafe, IsPlainText, Context, Kind, scalar_token, Plain, Core, from_to, completed_step, Candidate, Level, is_block, begins_plain, IsPlain, IsPlainKey, other_than, and_false, cursor_at, ne_eqb, hyphen, question_mark, number_sign, saved}
 use Rattle.saphyr_scalar.specs.Steps.Plain.{PlainScalarRead, comment_of}
-use Rattle.saphyr_scalar.specs.Spelling.Tag.{AreIn}
-use Rattle.scalar_laws.specs.Spelling.Plain.{is_tabbed, past_white, EndsPlain, is_plain_safe, ArePlainSafe, IsPlainText}
-use Rattle.saphyr_scanner.specs.declared.engine.level.Context.{Context}
 use Rattle.saphyr_scanner.specs.Grammar.Tokens as tokens
-use Rattle.saphyr_scanner.specs.Grammar.Tokens.{Kind, scalar_token}
-use Rattle.saphyr_scanner.specs.Grammar.Forest.{Plain}
-use Rattle.saphyr_scanner.specs.Steps.Core.{Core, from_to, completed_step}
-use Rattle.saphyr_scanner.specs.Steps.Level.{Candidate, Level, is_block}
 use Rattle.saphyr_scanner.specs.Steps.Scalar as scalar
 use Rattle.saphyr_scanner.specs.Steps.Scalar.{read_plain, disallow_key, behind_plain}
 use Rattle.saphyr_scanner.specs.Steps.Fetch.{step, is_value_adjacent}
-use Rattle.yaml_laws.specs.Grammar.FlowScalars.{begins_plain, IsPlain, IsPlainKey}
 use Rattle.yaml_laws.proofs.InFlow.States.{Around, core_at, state_at, Placed, placed_right, plain_placed, saves_key, FlowMoment}
 use Rattle.yaml_laws.proofs.InFlow.OnLine.{plain_lowers, plain_key_lowers}
 use Rattle.yaml_laws.proofs.Flow.States.{moved, past, IsClear, ReaderPromises, FitsAround, StandsBefore, PassesNoting, keeping}
@@ -29,11 +15,6 @@ use Rattle.yaml_laws.proofs.Flow.ContentStarts.{Begins}
 use Rattle.yaml_laws.proofs.Flow.WordGaps.{passed_moved, normalized_same}
 use Rattle.yaml_laws.proofs.Flow.Words.{safe_other, no_breakz_no_break, colon_is_safe, plain_text, key_text, plain_right, key_right}
 use Rattle.yaml_laws.proofs.InBlock.Crossings.{white_crosses}
-use Rattle.saphyr_input.proofs.Basics.Booleans.{other_than, and_false}
-use Rattle.saphyr_scalar.proofs.Given.{cursor_at}
-use Rattle.std.proofs.lemmas.Bool.{ne_eqb}
-use Rattle.saphyr_input.specs.Indicators.{hyphen, question_mark, number_sign}
-use Rattle.saphyr_scanner.proofs.Levels.{saved}
 
 -- ## The first two characters
 

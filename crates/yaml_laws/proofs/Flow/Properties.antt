@@ -1,23 +1,8 @@
 -- The properties of a node in flow style are passed, and an alias is.
 use Rattle.std.proofs.Common.{◌≡◌, ◌≢◌, ℕ, zero, suc, ◌+◌, ◌-◌, ◌≤◌, Bool, false, List, [], ◌∷◌, ◌++◌, slice_index, refl, sym, ap, ◌∙◌, arith, subst, append_assoc, append-nil, IsTrue, inl, inr}
-use Rattle.std.specs.Prelude.{not, option_map, Option, Some, None}
-use Rattle.saphyr_input.specs.Classes.{is_blank, is_blank_or_breakz}
-use Rattle.saphyr_scalar.specs.declared.scalar.position.Marker.{Marker}
-use Rattle.saphyr_scalar.specs.Spelling.Tag.{AreIn, EndsTag}
-use Rattle.saphyr_scalar.specs.Reading.BlockLines.{spaces}
-use Rattle.scalar_laws.specs.Spelling.Spaces.{IsGap, IsSeparation}
-use Rattle.scalar_laws.proofs.Beginnings.{both_in}
-use Rattle.saphyr_scanner.specs.declared.engine.level.Context.{Context}
-use Rattle.saphyr_scanner.specs.Grammar.Tokens.{Kind, alias_token, anchor_token, tag_token}
+use Rattle.yaml_laws.proofs.Common.{not, option_map, Option, Some, None, is_blank, is_blank_or_breakz, Marker, AreIn, EndsTag, spaces, IsGap, IsSeparation, both_in, Context, Kind, alias_token, anchor_token, tag_token, Place, Candidate, Level, is_block, State, Tag, Alias, saved, IsTag, IsAnchor, allows_adjacent}
 use Rattle.saphyr_scanner.specs.Grammar.TokenGrammar as grammar
-use Rattle.saphyr_scanner.specs.Steps.Queue.{Place}
-use Rattle.saphyr_scanner.specs.Steps.Level.{Candidate, Level, is_block}
-use Rattle.saphyr_scanner.specs.Steps.State.{State}
-use Rattle.saphyr_scanner.specs.Grammar.Forest.{Tag, Alias}
-use Rattle.saphyr_scanner.proofs.Levels.{saved}
-use Rattle.yaml_laws.specs.Grammar.TagSpelling.{IsTag}
 use Rattle.yaml_laws.specs.Grammar.FlowNodes as yaml
-use Rattle.yaml_laws.specs.Grammar.FlowNodes.{IsAnchor, allows_adjacent}
 use Rattle.yaml_laws.proofs.InFlow.States.{Around, state_at, FlowMoment}
 use Rattle.yaml_laws.proofs.Flow.States.{Since, KeptKey, keeping, moved, ReaderPromises, Known, PassesPiece, FitsAround, IsAfterProperties, after, StandsBefore, key_behind, ReadsText}
 use Rattle.yaml_laws.proofs.Flow.Places.{moved_append}

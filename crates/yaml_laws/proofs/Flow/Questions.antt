@@ -1,20 +1,12 @@
 -- The `?` of a text in flow style is read.
 use Rattle.std.proofs.Common.{◌≡◌, ◌≢◌, ℕ, ◌≤◌, Bool, true, false, List, [], ◌∷◌, length, slice_index, Ok, refl, sym, ap, ◌∙◌, arith}
-use Rattle.std.specs.Prelude.{Option, None}
-use Rattle.saphyr_input.specs.Classes.{is_blank_or_breakz}
-use Rattle.saphyr_scalar.specs.declared.scalar.position.Marker.{Marker}
-use Rattle.saphyr_scalar.specs.Views.Cursor.{Cursor, ◌>>=◌, along}
-use Rattle.saphyr_scalar.proofs.Given.{cursor_at}
-use Rattle.saphyr_scanner.specs.declared.engine.level.Context.{Context}
-use Rattle.saphyr_scanner.specs.Steps.Gap.{SpacesEnd, spaces_at}
+use Rattle.yaml_laws.proofs.Common.{Option, None, is_blank_or_breakz, Marker, Cursor, ◌>>=◌, along, cursor_at, Context, SpacesEnd, spaces_at, Candidate, Level, is_block, behind_question, has_tab_outside, le_next, question_mark, token_place}
 use Rattle.yaml_laws.proofs.InBlock.Skips.{spaces_end}
 use Rattle.saphyr_scanner.specs.Grammar.Tokens as tokens
 use Rattle.saphyr_scanner.specs.Steps.Core.{Core, from_to, up_to_here, completed_step, remove_key}
-use Rattle.saphyr_scanner.specs.Steps.Level.{Candidate, Level, is_block, behind_question}
 use Rattle.saphyr_scanner.specs.Steps.Block as block
 use Rattle.saphyr_scanner.specs.Steps.Block.{behind_mark, pass_question, begin_key}
 use Rattle.saphyr_scanner.specs.Steps.Fetch.{step}
-use Rattle.yaml_laws.specs.Grammar.FlowNodes.{has_tab_outside}
 use Rattle.yaml_laws.proofs.InFlow.States.{Around, core_at, state_at, moment, FlowMoment, moment_in, moment_with}
 use Rattle.yaml_laws.proofs.Flow.Places.{right_one}
 use Rattle.yaml_laws.proofs.Flow.States.{moved, IsContentStart, IsParted, no_key, PassesPiece, FitsAround, StandsBefore}
@@ -26,9 +18,6 @@ use Rattle.yaml_laws.proofs.InBlock.Crossings.{fresh_in_flow}
 use Rattle.yaml_laws.proofs.Flow.Brackets.{IsTokenMark, mark_begins, mark_moved, one_on, token_mark}
 use Rattle.yaml_laws.proofs.Flow.Ends.{ends_behind_separation}
 use Rattle.yaml_laws.proofs.Flow.Spaces.{spaces_passed}
-use Rattle.saphyr_input.proofs.Basics.Numbers.{le_next}
-use Rattle.saphyr_input.specs.Indicators.{question_mark}
-use Rattle.saphyr_scanner.proofs.Queues.{token_place}
 
 question : IsTokenMark 63
 question = token_mark 63 refl

@@ -1,26 +1,12 @@
 -- The quoted scalars of a text in flow style are read, whatever comes after them.
 use Rattle.std.proofs.Common.{◌≡◌, ℕ, suc, ◌+◌, ◌≤◌, Bool, true, false, List, [], ◌∷◌, ◌++◌, drop, slice_index, Ok, refl, sym, ap, ◌∙◌, arith, subst, append_assoc, IsTrue, IsFalse, encode_utf8_all}
-use Rattle.std.specs.Prelude.{◌&&◌, ◌==◌, not}
-use Rattle.std.proofs.lemmas.Bool.{false≢true}
-use Rattle.std.proofs.lemmas.Bool.Decides.{nat_tests}
-use Rattle.saphyr_input.specs.Classes.{is_break, space, line_feed, carriage_return}
-use Rattle.saphyr_scalar.specs.declared.scalar.position.Marker.{Marker}
-use Rattle.saphyr_scalar.specs.declared.values.Item.{Item}
-use Rattle.saphyr_scalar.specs.declared.values.Quote.{Quote}
-use Rattle.saphyr_scalar.specs.declared.values.Quote.TheVariants.{Single, Double}
-use Rattle.saphyr_scalar.specs.Views.Cursor.{Cursor, along, next_line}
+use Rattle.yaml_laws.proofs.Common.{◌&&◌, ◌==◌, not, false≢true, nat_tests, is_break, space, line_feed, carriage_return, Marker, Item, Quote, Single, Double, Cursor, along, next_line, mid_line, break_len, is_closing, IsText, closed, itself, broken, two_quotes, escaped, numbered, escaped_break, AreIn, space_count, IsLine, LinesFit, IsQuoted, by_test}
 use Rattle.saphyr_scalar.specs.Values.Flow.{mark, backslash, apostrophe}
 use Rattle.saphyr_scalar.specs.Passing.{IsPassed, nothing, character, line_break}
 use Rattle.saphyr_scalar.specs.Steps.Quoted as quotes
-use Rattle.saphyr_scalar.specs.Steps.Quoted.{mid_line, break_len, is_closing}
-use Rattle.saphyr_scalar.specs.Spelling.Quoted.{IsText, closed, itself, broken, two_quotes, escaped, numbered, escaped_break}
-use Rattle.saphyr_scalar.specs.Spelling.Tag.{AreIn}
-use Rattle.scalar_laws.specs.Spelling.QuotedLines.{space_count, IsLine, LinesFit}
-use Rattle.yaml_laws.specs.Grammar.FlowScalars.{IsQuoted}
 use Rattle.yaml_laws.proofs.Flow.States.{moved, IsClear, ReaderPromises}
 use Rattle.yaml_laws.proofs.Flow.Places.{right_one, clear_back, clear_here}
 use Rattle.yaml_laws.proofs.InFlow.Quotes.{text_right}
-use Rattle.saphyr_input.proofs.Basics.Booleans.{by_test}
 
 -- ## Breaks
 

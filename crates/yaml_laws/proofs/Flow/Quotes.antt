@@ -1,26 +1,11 @@
 -- The quoted scalars of a text in flow style are passed.
 use Rattle.std.proofs.Common.{◌≡◌, ℕ, ◌≤◌, Bool, true, false, List, [], ◌∷◌, ◌++◌, length, slice_index, Ok, refl, sym, ap, ◌∙◌, subst, encode_utf8_all, ◌⊎◌, inl, inr, arith}
-use Rattle.std.specs.Prelude.{◌||◌, ◌==◌, Option, None}
-use Rattle.saphyr_input.specs.Classes.{is_blank, is_break, is_breakz}
-use Rattle.saphyr_input.specs.declared.input.SkipTabs.{SkipTabs}
-use Rattle.saphyr_input.specs.declared.input.SkipTabs.TheVariants.{Yes}
-use Rattle.saphyr_scalar.specs.declared.scalar.position.Marker.{Marker}
-use Rattle.saphyr_scalar.specs.declared.values.Quote.{Quote}
-use Rattle.saphyr_scalar.specs.declared.values.Quote.TheVariants.{Single, Double}
-use Rattle.saphyr_scalar.specs.Views.Cursor.{Cursor, separation}
-use Rattle.saphyr_scalar.specs.Values.Flow.{mark}
-use Rattle.saphyr_scalar.specs.Steps.Quoted.{mid_line}
-use Rattle.saphyr_scanner.specs.declared.engine.level.Context.{Context}
+use Rattle.yaml_laws.proofs.Common.{◌||◌, ◌==◌, Option, None, is_blank, is_break, is_breakz, SkipTabs, Yes, Marker, Quote, Single, Double, Cursor, separation, mark, mid_line, Context, scalar_token, Style, Node, from_to, completed_step, Candidate, Level, is_block, IsQuoted, or_left, apostrophe, cursor_at, clash, saved}
 use Rattle.saphyr_scanner.specs.declared.engine.level.Context.TheVariants as context
 use Rattle.saphyr_scanner.specs.Grammar.Tokens as tokens
-use Rattle.saphyr_scanner.specs.Grammar.Tokens.{scalar_token}
-use Rattle.saphyr_scanner.specs.Grammar.Forest.{Style, Node}
-use Rattle.saphyr_scanner.specs.Steps.Core.{from_to, completed_step}
-use Rattle.saphyr_scanner.specs.Steps.Level.{Candidate, Level, is_block}
 use Rattle.saphyr_scanner.specs.Steps.Scalar as scalar
 use Rattle.saphyr_scanner.specs.Steps.Scalar.{quote_style, disallow_key, behind_quotes, behind_quoted_line, goes_on_behind_quotes, adjacent_here}
 use Rattle.saphyr_scanner.specs.Steps.Fetch.{step}
-use Rattle.yaml_laws.specs.Grammar.FlowScalars.{IsQuoted}
 use Rattle.yaml_laws.proofs.InFlow.States.{Around, core_at, reach, reach_low, Placed, placed_right, saves_key, FlowMoment}
 use Rattle.yaml_laws.proofs.InFlow.Tabs.{lands_on_content}
 use Rattle.yaml_laws.proofs.Flow.States.{moved, past, crosses, IsClear, IsContentStart, EndsNode, IsBehindNode, IsBehindRoot, ReaderPromises, FitsAround, StandsBefore}
@@ -30,11 +15,6 @@ use Rattle.yaml_laws.proofs.Flow.Tokens.{PassesGap, passes_gap, adjacent_at, tok
 use Rattle.yaml_laws.proofs.Flow.Separates.{separates, separates_rest}
 use Rattle.yaml_laws.proofs.Flow.Quoted.{quoted_read, quoted_right}
 use Rattle.yaml_laws.proofs.InBlock.Crossings.{line_rest_crosses}
-use Rattle.std.proofs.lemmas.Bool.{or_left}
-use Rattle.saphyr_input.specs.Indicators.{apostrophe}
-use Rattle.saphyr_scalar.proofs.Given.{cursor_at}
-use Rattle.saphyr_input.proofs.Basics.Booleans.{clash}
-use Rattle.saphyr_scanner.proofs.Levels.{saved}
 use Rattle.yaml_laws.proofs.Flow.ContentStarts.{Begins, starts}
 
 -- ## After the closing quote

@@ -1,17 +1,7 @@
 -- The scalars of a text in flow style are passed, with their properties.
 use Rattle.std.proofs.Common.{◌≡◌, ◌≢◌, ℕ, ◌≤◌, Bool, List, [], ◌∷◌, ◌++◌, refl, arith, append_assoc, inl, inr}
-use Rattle.std.specs.Prelude.{not, None}
-use Rattle.std.proofs.lemmas.Bool.{false≢true}
-use Rattle.saphyr_input.specs.Indicators.{colon}
-use Rattle.saphyr_scalar.specs.declared.scalar.position.Marker.{Marker}
-use Rattle.saphyr_scalar.specs.Spelling.Tag.{EndsTag}
-use Rattle.scalar_laws.specs.Spelling.Spaces.{IsSeparation}
-use Rattle.saphyr_scanner.specs.declared.engine.level.Context.{Context}
-use Rattle.saphyr_scanner.specs.Grammar.Tokens.{Kind, scalar_token}
+use Rattle.yaml_laws.proofs.Common.{not, None, false≢true, colon, Marker, EndsTag, IsSeparation, Context, Kind, scalar_token, is_block, Style, Plain, Properties, Node, Scalar, allows_adjacent, IsProperties, IsBeforeContent, IsScalarNode, IsPlainKeyNode}
 use Rattle.saphyr_scanner.specs.Grammar.TokenGrammar as grammar
-use Rattle.saphyr_scanner.specs.Steps.Level.{is_block}
-use Rattle.saphyr_scanner.specs.Grammar.Forest.{Style, Plain, Properties, Node, Scalar}
-use Rattle.yaml_laws.specs.Grammar.FlowNodes.{allows_adjacent, IsProperties, IsBeforeContent, IsScalarNode, IsPlainKeyNode}
 use Rattle.yaml_laws.proofs.InFlow.States.{Around, FlowMoment}
 use Rattle.yaml_laws.proofs.Flow.States.{moved, ReaderPromises, after_node, keeping, Follows, IsLow, ReadsText}
 use Rattle.yaml_laws.proofs.Flow.Joins.{knowing, mapped}

@@ -1,26 +1,12 @@
 -- Blanks and a comment after a token of a text in flow style are passed, up to the end of the line.
 use Rattle.std.proofs.Common.{◌≡◌, ◌≢◌, ℕ, ◌+◌, ◌<◌, ◌≤◌, Bool, true, false, List, [], ◌∷◌, ◌++◌, length, drop, slice_index, Ok, refl, sym, ap, ◌∙◌, arith, subst, append_assoc, append-nil, IsTrue, ◌⊎◌, inl, inr, cond}
-use Rattle.std.specs.Prelude.{◌==◌, not}
+use Rattle.yaml_laws.proofs.Common.{◌==◌, not, nat_tests, length-append, number_sign, is_blank, is_break, is_bom, is_yaml_non_break, line_feed, separation_len, found_blanks, SkipTabs, Yes, Marker, AreIn, spaces, joined_pieces, AreEach, IsComment, IsCommentBehind, IsSeparationLine, IsSeparation, IsLineRest, blank_no_feed, non_break_no_feed, back_in, both_in, separated}
 use Rattle.std.proofs.Math.Seq.{drop-append_seam}
-use Rattle.std.proofs.lemmas.Bool.Decides.{nat_tests}
-use Rattle.std.proofs.lemmas.List.{length-append}
-use Rattle.saphyr_input.specs.Indicators.{number_sign}
-use Rattle.saphyr_input.specs.Classes.{is_blank, is_break, is_bom, is_yaml_non_break, line_feed}
-use Rattle.saphyr_input.specs.Separation.{separation_len, found_blanks}
-use Rattle.saphyr_input.specs.declared.input.SkipTabs.{SkipTabs}
-use Rattle.saphyr_input.specs.declared.input.SkipTabs.TheVariants.{Yes}
-use Rattle.saphyr_scalar.specs.declared.scalar.position.Marker.{Marker}
 use Rattle.saphyr_scalar.specs.Views.Cursor.{Cursor, along, separation, behind_separation}
-use Rattle.saphyr_scalar.specs.Spelling.Tag.{AreIn}
-use Rattle.saphyr_scalar.specs.Reading.BlockLines.{spaces}
 use Rattle.saphyr_scalar.proofs.Runs.{run_len}
-use Rattle.scalar_laws.specs.Spelling.Spaces.{joined_pieces, AreEach, IsComment, IsCommentBehind, IsSeparationLine, IsSeparation, IsLineRest}
 use Rattle.yaml_laws.proofs.Flow.States.{moved, past, IsContentStart}
 use Rattle.yaml_laws.proofs.Flow.Places.{moved_along}
 use Rattle.yaml_laws.proofs.Flow.Fillers.{EndsLine, blanks_past, front_past, behind_is}
-use Rattle.saphyr_input.proofs.Basics.Characters.{blank_no_feed, non_break_no_feed}
-use Rattle.scalar_laws.proofs.Beginnings.{back_in, both_in}
-use Rattle.saphyr_scanner.proofs.Gaps.{separated}
 
 -- what ends blanks and a comment, or blanks alone
 pub record StopsLine (comment more : List ℕ) : Type 0 where

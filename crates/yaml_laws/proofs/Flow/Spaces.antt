@@ -1,13 +1,6 @@
 -- What comes after a `?` in flow style is passed.
 use Rattle.std.proofs.Common.{suc, ◌≡◌, ◌≢◌, ℕ, ◌≤◌, Bool, true, false, List, [], ◌∷◌, ◌++◌, length, refl, ap, ◌∙◌, arith, ◌⊎◌, inl, inr}
-use Rattle.std.specs.Prelude.{◌||◌, ◌&&◌, ◌==◌, not}
-use Rattle.std.proofs.lemmas.Bool.Decides.{nat_tests}
-use Rattle.saphyr_input.specs.Classes.{is_blank, is_break, tab, carriage_return, line_feed}
-use Rattle.saphyr_scalar.specs.declared.scalar.position.Marker.{Marker}
-use Rattle.scalar_laws.specs.Spelling.Spaces.{IsSeparation}
-use Rattle.saphyr_scalar.proofs.Given.{cursor_at}
-use Rattle.saphyr_scanner.specs.Steps.Gap.{spaces_at}
-use Rattle.yaml_laws.specs.Grammar.FlowNodes.{has_tab_outside}
+use Rattle.yaml_laws.proofs.Common.{◌||◌, ◌&&◌, ◌==◌, not, nat_tests, is_blank, is_break, tab, carriage_return, line_feed, Marker, IsSeparation, cursor_at, spaces_at, has_tab_outside, number_sign, non_break_no_break, return_breaks}
 use Rattle.yaml_laws.proofs.Flow.States.{moved, past, past_comment, IsContentStart}
 use Rattle.yaml_laws.proofs.Flow.GapSteps.{past_content, past_shorter, comment_shorter}
 use Rattle.yaml_laws.proofs.Flow.GapWalks.{OverGap, over_gap, no_stop}
@@ -16,8 +9,6 @@ use Rattle.yaml_laws.proofs.Flow.Fillers.{separation_past}
 use Rattle.yaml_laws.proofs.InBlock.Gaps.{content_stop}
 use Rattle.yaml_laws.proofs.InBlock.Skips.{has_tab, comment_has_tab, spaces_end, spaces_reach}
 use Rattle.yaml_laws.proofs.InBlock.Untabbed.{settles}
-use Rattle.saphyr_input.specs.Indicators.{number_sign}
-use Rattle.saphyr_input.proofs.Basics.Characters.{non_break_no_break, return_breaks}
 
 -- ## No tab outside comments is none before the next token
 

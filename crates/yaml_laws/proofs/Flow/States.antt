@@ -1,48 +1,16 @@
 -- What is said of a piece of a text in flow style, and of the states before it and after it, whatever block
 -- collections are open.
 use Rattle.std.proofs.Common.{◌≡◌, ℕ, ◌+◌, ◌<◌, ◌≤◌, Bool, true, false, List, [], ◌∷◌, ◌++◌, length, slice_index, IsTrue, ◌⊎◌, Ok, encode_utf8_all}
-use Rattle.std.specs.Prelude.{◌||◌, ◌&&◌, ◌==◌, not, nat_lt, Option, Some, None, if◌then◌else◌}
-use Rattle.saphyr_input.specs.Indicators.{colon, number_sign}
-use Rattle.saphyr_input.specs.Breaks.{normalized}
-use Rattle.saphyr_input.specs.Classes.{is_blank, is_break, is_breakz, is_blank_or_breakz, is_yaml_non_break, is_anchor_char, is_bom, line_feed, carriage_return}
-use Rattle.saphyr_input.specs.Places.{is_document_indicator}
-use Rattle.saphyr_scalar.specs.declared.scalar.position.Marker.{Marker}
-use Rattle.saphyr_scalar.specs.Views.Cursor.{Cursor, along, next_line, pass_break}
+use Rattle.yaml_laws.proofs.Common.{◌||◌, ◌&&◌, ◌==◌, not, nat_lt, Option, Some, None, if◌then◌else◌, colon, number_sign, normalized, is_blank, is_break, is_breakz, is_blank_or_breakz, is_yaml_non_break, is_anchor_char, is_bom, line_feed, carriage_return, is_document_indicator, Marker, Cursor, along, next_line, pass_break, comment_of, end_of_text, mid_line, IsQuotedText, IsPlainText, is_tabbed, past_white, LinesFit, plain_value, folded, IsPassed, ReadDirective, IsDirectiveText, IsReservedDirective, IsLineTail, Item, Quote, AreIn, IsAnchorName, IsTagText, EndsTag, IsSeparation, IsLineRest, Context, Kind, Piece, Place, bare_place, Candidate, Level, is_block, State, Node, most_open, place_kinds, saved, IsPlainKeyNode, IsBeforeColon, allows_adjacent, IsFlowNode, EndsContent}
 use Rattle.saphyr_scalar.specs.Steps.Anchor as anchors
 use Rattle.saphyr_scalar.specs.Steps.Tag as tags
 use Rattle.saphyr_scalar.specs.Steps.Plain as words
-use Rattle.saphyr_scalar.specs.Steps.Plain.{comment_of}
-use Rattle.saphyr_scalar.specs.Reading.Plain.{end_of_text}
 use Rattle.saphyr_scalar.specs.Steps.Quoted as quotes
-use Rattle.saphyr_scalar.specs.Steps.Quoted.{mid_line}
-use Rattle.saphyr_scalar.specs.Spelling.Quoted.{IsQuotedText}
-use Rattle.scalar_laws.specs.Spelling.Plain.{IsPlainText, is_tabbed, past_white}
-use Rattle.scalar_laws.specs.Spelling.QuotedLines.{LinesFit}
-use Rattle.saphyr_scalar.specs.Values.Flow.{plain_value}
-use Rattle.saphyr_scalar.specs.Values.Folding.{folded}
-use Rattle.saphyr_scalar.specs.Passing.{IsPassed}
 use Rattle.saphyr_scalar.specs.Steps.Directive as directives
 use Rattle.saphyr_scalar.specs.Spelling.Directive as spelling
-use Rattle.saphyr_scalar.specs.Spelling.Directive.{ReadDirective, IsDirectiveText, IsReservedDirective, IsLineTail}
-use Rattle.saphyr_scalar.specs.declared.values.Item.{Item}
-use Rattle.saphyr_scalar.specs.declared.values.Quote.{Quote}
-use Rattle.saphyr_scalar.specs.Spelling.Tag.{AreIn, IsAnchorName, IsTagText, EndsTag}
-use Rattle.scalar_laws.specs.Spelling.Spaces.{IsSeparation, IsLineRest}
-use Rattle.saphyr_scanner.specs.declared.engine.level.Context.{Context}
 use Rattle.saphyr_scanner.specs.declared.engine.level.Context.TheVariants as context
-use Rattle.saphyr_scanner.specs.Grammar.Tokens.{Kind}
 use Rattle.saphyr_scanner.specs.Grammar.TokenGrammar as grammar
-use Rattle.saphyr_scanner.specs.Views.Tokens.{Piece}
-use Rattle.saphyr_scanner.specs.Steps.Queue.{Place, bare_place}
-use Rattle.saphyr_scanner.specs.Steps.Level.{Candidate, Level, is_block}
-use Rattle.saphyr_scanner.specs.Steps.State.{State}
-use Rattle.saphyr_scanner.specs.Grammar.Forest.{Node}
-use Rattle.saphyr_scanner.specs.Limits.{most_open}
-use Rattle.saphyr_scanner.proofs.Queues.{place_kinds}
-use Rattle.saphyr_scanner.proofs.Levels.{saved}
-use Rattle.yaml_laws.specs.Grammar.FlowNodes.{IsPlainKeyNode, IsBeforeColon, allows_adjacent, IsFlowNode}
 use Rattle.yaml_laws.proofs.InFlow.States.{Around, FlowMoment, moment, state_at, noted, RunsTo}
-use Rattle.yaml_laws.specs.Grammar.BlockNodes.{EndsContent}
 
 -- ## Places in a text
 

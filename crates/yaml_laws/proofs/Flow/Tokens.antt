@@ -1,32 +1,14 @@
 -- The next token of a text in flow style is reached, and read and passed by a step.
 use Rattle.std.proofs.Common.{◌≡◌, ◌⊎◌, inl, inr, ℕ, ◌≤◌, Bool, true, false, List, [], ◌∷◌, ◌++◌, length, slice_index, refl, ap, ◌∙◌, arith, ◌+◌, Ok}
-use Rattle.std.specs.Prelude.{◌==◌, Option, None, ◌||◌, ◌&&◌}
-use Rattle.saphyr_input.specs.Indicators.{percent_sign}
-use Rattle.saphyr_input.specs.Classes.{is_blank, is_z, is_bom}
-use Rattle.saphyr_scalar.specs.declared.scalar.position.Marker.{Marker}
-use Rattle.saphyr_scalar.specs.Views.Cursor.{Cursor, ◌>>=◌}
-use Rattle.saphyr_scanner.specs.declared.engine.level.Context.{Context}
-use Rattle.saphyr_scanner.specs.Grammar.Tokens.{Kind}
-use Rattle.saphyr_scanner.specs.Views.Tokens.{Piece}
-use Rattle.saphyr_scanner.specs.Steps.Queue.{Place, bare_place, Queue}
-use Rattle.saphyr_scanner.specs.Steps.Core.{from_to, completed_step, Action, perform}
-use Rattle.saphyr_scanner.specs.Steps.Level.{Candidate, Level, is_block}
+use Rattle.yaml_laws.proofs.Common.{◌==◌, Option, None, ◌||◌, ◌&&◌, percent_sign, is_blank, is_z, is_bom, Marker, Cursor, ◌>>=◌, Context, Kind, Piece, Place, bare_place, Queue, from_to, completed_step, Action, perform, Candidate, Level, is_block, cursor_at, token_place, queue_of, saved, zero-add, is_document_indicator, State, after_step, and_false, and_or_false, stop_here}
 use Rattle.saphyr_scanner.specs.Steps.Fetch.{step, state_behind_content, fetch_here, arrive, fetch}
 use Rattle.yaml_laws.proofs.InFlow.States.{Around, core_at, state_at, FlowMoment, moment, noted_core, noted, reach, reach_low, in_column, not_left, drops_far_key, key_left, left_in_flow, left_or_none, none_unrolls, ComesAround, comes}
 use Rattle.yaml_laws.proofs.Flow.States.{moved, past, IsClear, IsFresh, Since, KeptKey, keeping, Known, PassesNoting, PassesPiece, FitsAround, StandsBefore, crosses}
 use Rattle.yaml_laws.proofs.Flow.ContentStarts.{Begins}
 use Rattle.yaml_laws.proofs.Flow.Places.{moved_count, clear_here}
 use Rattle.yaml_laws.proofs.Flow.GapSteps.{past_count}
-use Rattle.saphyr_scalar.proofs.Given.{cursor_at}
-use Rattle.saphyr_scanner.proofs.Queues.{token_place, queue_of}
-use Rattle.saphyr_scanner.proofs.Levels.{saved}
-use Rattle.std.proofs.Math.Nat.{zero-add}
-use Rattle.saphyr_input.specs.Places.{is_document_indicator}
 use Rattle.saphyr_scanner.specs.Steps.Passing.{pass_gap, check_comment}
-use Rattle.saphyr_scanner.specs.Steps.State.{State, after_step}
 use Rattle.yaml_laws.proofs.InBlock.Untabbed.{gap_past}
-use Rattle.saphyr_input.proofs.Basics.Booleans.{and_false, and_or_false}
-use Rattle.saphyr_scanner.proofs.Gaps.{stop_here}
 
 -- What is between two tokens is passed, up to the place m, where y is.
 pub record PassesGap (around : Around) (s : Cursor) (x : Context) (k : Option Candidate) (ls : List Level) (a : Bool)

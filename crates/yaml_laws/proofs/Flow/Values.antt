@@ -1,21 +1,9 @@
 -- The colons of a text in flow style are read, after a key and without one, and passed as pieces.
 use Rattle.std.proofs.Common.{◌≡◌, ℕ, ◌≤◌, Bool, true, false, List, [], ◌∷◌, ◌++◌, length, slice_index, refl, sym, ap, ◌∙◌, arith, append_assoc, IsTrue, ◌⊎◌, inl, inr, Ok}
-use Rattle.std.specs.Prelude.{Option, Some, None, ◌==◌}
-use Rattle.saphyr_scalar.specs.declared.scalar.position.Marker.{Marker}
-use Rattle.saphyr_scalar.specs.Views.Cursor.{Cursor, along, ◌>>=◌}
-use Rattle.saphyr_scalar.proofs.Given.{cursor_at}
-use Rattle.scalar_laws.specs.Spelling.Spaces.{IsSeparation}
-use Rattle.saphyr_scanner.specs.declared.engine.level.Context.{Context}
+use Rattle.yaml_laws.proofs.Common.{Option, Some, None, ◌==◌, Marker, Cursor, along, ◌>>=◌, cursor_at, IsSeparation, Context, Kind, Place, bare_place, empty_piece, Action, Open, at_mark, completed_step, perform, Core, Put, Candidate, Level, is_block, begins_pair, behind_colon, State, Node, allows_adjacent, le_next, colon, place_kinds, queue_of, place_kinds_append, with_opening_seam, sub-zero, tab, SkipTabs, Opening, Piece, with_cursor}
 use Rattle.saphyr_scanner.specs.Grammar.Tokens as tokens
-use Rattle.saphyr_scanner.specs.Grammar.Tokens.{Kind}
-use Rattle.saphyr_scanner.specs.Steps.Queue.{Place, bare_place, empty_piece}
-use Rattle.saphyr_scanner.specs.Steps.Core.{Action, Open, at_mark, completed_step, perform, Core, Put}
-use Rattle.saphyr_scanner.specs.Steps.Level.{Candidate, Level, is_block, begins_pair, behind_colon}
 use Rattle.saphyr_scanner.specs.Steps.Value as value
 use Rattle.saphyr_scanner.specs.Steps.Value.{value_alone, opening_actions, check_tab, refuse_lone_tab, value_of_key, behind_key}
-use Rattle.saphyr_scanner.specs.Steps.State.{State}
-use Rattle.saphyr_scanner.specs.Grammar.Forest.{Node}
-use Rattle.yaml_laws.specs.Grammar.FlowNodes.{allows_adjacent}
 use Rattle.yaml_laws.proofs.InFlow.States.{Around, core_at, state_at, chains, moment, FlowMoment, moment_in, moment_with}
 use Rattle.yaml_laws.proofs.Flow.States.{moved, past, IsParted, ends_colon, KeptKey, no_key, after_node, PassesPiece, FitsAround, after, StandsBefore}
 use Rattle.yaml_laws.proofs.Flow.Places.{right_one}
@@ -25,16 +13,7 @@ use Rattle.yaml_laws.proofs.Flow.Tokens.{arrives, step_comes, within_index}
 use Rattle.yaml_laws.proofs.Flow.Joins.{step_passes}
 use Rattle.yaml_laws.proofs.InBlock.Crossings.{fresh_in_flow}
 use Rattle.yaml_laws.proofs.Flow.Brackets.{mark_begins, mark_moved, one_on, IsTokenMark, token_mark}
-use Rattle.saphyr_input.proofs.Basics.Numbers.{le_next}
-use Rattle.saphyr_input.specs.Indicators.{colon}
-use Rattle.saphyr_scanner.proofs.Queues.{place_kinds, queue_of, place_kinds_append, with_opening_seam}
-use Rattle.std.proofs.Math.Nat.{sub-zero}
-use Rattle.saphyr_input.specs.Classes.{tab}
-use Rattle.saphyr_input.specs.declared.input.SkipTabs.{SkipTabs}
-use Rattle.saphyr_scanner.specs.declared.queue.Opening.{Opening}
 use Rattle.saphyr_scanner.specs.declared.queue.Opening.TheVariants as opening
-use Rattle.saphyr_scanner.specs.Views.Tokens.{Piece}
-use Rattle.saphyr_scanner.specs.Steps.Passing.{with_cursor}
 use Rattle.saphyr_scanner.specs.Steps.Fetch.{step, flow_value_steps}
 use Rattle.yaml_laws.proofs.Flow.Separates.{separates}
 

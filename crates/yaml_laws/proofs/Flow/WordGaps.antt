@@ -1,20 +1,6 @@
 -- The gaps between the words of a plain scalar in flow style are gaps as they are read.
 use Rattle.std.proofs.Common.{◌≡◌, ◌≢◌, ℕ, zero, suc, ◌+◌, ◌≤◌, Bool, false, List, [], ◌∷◌, ◌++◌, refl, sym, ◌∙◌, arith, subst, append_assoc, append-nil, IsTrue, IsFalse, ◌⊎◌, inl, inr}
-use Rattle.std.specs.Prelude.{◌==◌, not, if◌then◌else◌}
-use Rattle.std.specs.List.{prefix_len}
-use Rattle.std.proofs.lemmas.Bool.Decides.{nat_tests}
-use Rattle.saphyr_input.specs.Breaks.{normalized}
-use Rattle.saphyr_input.specs.Classes.{is_blank, line_feed, carriage_return}
-use Rattle.saphyr_input.specs.Places.{is_blank_or_break}
-use Rattle.saphyr_scalar.specs.declared.scalar.position.Marker.{Marker}
-use Rattle.saphyr_scalar.specs.Views.Cursor.{along, next_line}
-use Rattle.saphyr_scalar.specs.Reading.BlockLines.{spaces}
-use Rattle.saphyr_scalar.specs.Steps.Plain.{ends_line}
-use Rattle.saphyr_scalar.specs.Reading.Plain.{end_of_text}
-use Rattle.saphyr_scalar.specs.Spelling.Tag.{AreIn}
-use Rattle.scalar_laws.specs.Spelling.Plain.{behind_blanks, reaches_tabbed, has_line_end, IsPlainGap}
-use Rattle.scalar_laws.specs.Spelling.Spaces.{joined_pieces, AreEach, AreSpaces, IsLinePrefix}
-use Rattle.yaml_laws.specs.Grammar.FlowScalars.{IsEmptyLine, IsFoldedGap, IsWordGap}
+use Rattle.yaml_laws.proofs.Common.{◌==◌, not, if◌then◌else◌, prefix_len, nat_tests, normalized, is_blank, line_feed, carriage_return, is_blank_or_break, Marker, along, next_line, spaces, ends_line, end_of_text, AreIn, behind_blanks, reaches_tabbed, has_line_end, IsPlainGap, joined_pieces, AreEach, AreSpaces, IsLinePrefix, IsEmptyLine, IsFoldedGap, IsWordGap}
 use Rattle.yaml_laws.proofs.Flow.States.{moved}
 use Rattle.yaml_laws.proofs.Flow.Places.{moved_append}
 use Rattle.yaml_laws.proofs.Flow.Fillers.{spaces_are_blank, blanks_past, spaces_column}

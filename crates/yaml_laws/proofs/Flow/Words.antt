@@ -1,18 +1,6 @@
 -- The plain scalars of a text in flow style are plain scalars as they are read.
 use Rattle.std.proofs.Common.{◌≡◌, ◌≢◌, ℕ, ◌≤◌, Bool, true, false, List, [], ◌∷◌, ◌++◌, length, slice_index, refl, sym, ap, ◌∙◌, arith, append_assoc, append-nil, IsTrue, IsFalse, inl, inr}
-use Rattle.std.specs.Prelude.{◌&&◌, ◌==◌}
-use Rattle.std.proofs.lemmas.Bool.Decides.{nat_tests}
-use Rattle.saphyr_input.specs.Indicators.{colon, hyphen}
-use Rattle.saphyr_input.specs.Classes.{is_blank, is_break, is_blank_or_breakz, is_bom, is_flow}
-use Rattle.saphyr_input.specs.Places.{is_document_indicator}
-use Rattle.saphyr_scalar.specs.declared.scalar.position.Marker.{Marker}
-use Rattle.saphyr_scalar.specs.Views.Cursor.{along}
-use Rattle.saphyr_scalar.specs.Reading.Plain.{end_of_text}
-use Rattle.saphyr_scalar.specs.Spelling.Tag.{AreIn}
-use Rattle.saphyr_scalar.proofs.NoBreaks.{NoBreaks}
-use Rattle.scalar_laws.specs.Spelling.Plain.{EndsPlain, is_plain_safe, ArePlainSafe, IsWordIn, AreSafeBefore, IsWordBefore, words_text, IsNoMarker, AreFurtherWords, IsPlainText}
-use Rattle.scalar_laws.specs.Spelling.Spaces.{joined_pieces, AreEach, AreMany}
-use Rattle.yaml_laws.specs.Grammar.FlowScalars.{IsWordGap, IsLoneDash, IsFurtherWord, IsPlain, IsLastWord, IsPlainKey}
+use Rattle.yaml_laws.proofs.Common.{◌&&◌, ◌==◌, nat_tests, colon, hyphen, is_blank, is_break, is_blank_or_breakz, is_bom, is_flow, is_document_indicator, Marker, along, end_of_text, AreIn, NoBreaks, EndsPlain, is_plain_safe, ArePlainSafe, IsWordIn, AreSafeBefore, IsWordBefore, words_text, IsNoMarker, AreFurtherWords, IsPlainText, joined_pieces, AreEach, AreMany, IsWordGap, IsLoneDash, IsFurtherWord, IsPlain, IsLastWord, IsPlainKey}
 use Rattle.yaml_laws.proofs.Flow.States.{moved, IsClear}
 use Rattle.yaml_laws.proofs.Flow.Places.{moved_append, right_along, clear_front, clear_back, clear_here}
 use Rattle.yaml_laws.proofs.Flow.Names.{unbroken_along, unbroken_on_line}

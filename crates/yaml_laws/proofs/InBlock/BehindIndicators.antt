@@ -1,8 +1,5 @@
 -- What comes after the indicator of a node at block level.
-use Rattle.yaml_laws.proofs.Common.{Bool, IsFalse, List, ap, append_assoc, arith, false, inl, inr, refl, slice_index, subst, suc, sym, true, ℕ, ◌++◌, ◌∙◌, ◌∷◌, ◌≡◌, Option, ◌&&◌, ◌==◌, is_alpha, is_blank_or_breakz, tab, hyphen, spaces, IsNextLine, Alias, Map, MoreNodes, MorePairs, NoNode, NoPair, Node, Nodes, Pairs, Properties, Scalar, Seq, Style, Tag, most_open, AreProperties, IsAnchor, IsFlowNode, IsKeyText, IsProperties, and_false, clash}
-use Rattle.std.specs.List.{list_all, list_any}
-use Rattle.yaml_laws.specs.Grammar.TagSpelling.{IsTag}
-use Rattle.yaml_laws.specs.Grammar.BlockNodes.{Position, is_start, is_behind_colon, indent_at, sequence_indent_at, IsGapAt, IsCollectionFront, IsStyled, IsScalarFront, IsLead, IsFlowInBlock, IsBlockPair, IsBlockNode, AreEntries, ArePairs}
+use Rattle.yaml_laws.proofs.Common.{Bool, IsFalse, List, ap, append_assoc, arith, false, inl, inr, refl, slice_index, subst, suc, sym, true, ℕ, ◌++◌, ◌∙◌, ◌∷◌, ◌≡◌, Option, ◌&&◌, ◌==◌, is_alpha, is_blank_or_breakz, tab, hyphen, spaces, IsNextLine, Alias, Map, MoreNodes, MorePairs, NoNode, NoPair, Node, Nodes, Pairs, Properties, Scalar, Seq, Style, Tag, most_open, AreProperties, IsAnchor, IsFlowNode, IsKeyText, IsProperties, and_false, clash, list_all, list_any, IsTag, Position, is_start, is_behind_colon, indent_at, sequence_indent_at, IsGapAt, IsCollectionFront, IsStyled, IsScalarFront, IsLead, IsFlowInBlock, IsBlockPair, IsBlockNode, AreEntries, ArePairs}
 use Rattle.yaml_laws.proofs.InBlock.States.{compact_spaced, IsContentStart}
 use Rattle.yaml_laws.proofs.Flow.ContentStarts.{StartsContent, content_front, dash_content, question_content, colon_content}
 use Rattle.yaml_laws.proofs.InBlock.Skips.{IsSkipped, IsClean, skipped_clean, lines_clean, skipped_append, spaces_skipped, filler_skipped}

@@ -1,7 +1,6 @@
 -- A block collection ends before a token to its left, and at the end of its document.
-use Rattle.yaml_laws.proofs.Common.{Bool, IsTrue, List, Ok, [], ap, arith, false, inl, inr, refl, slice_index, subst, sym, true, ℕ, ◌++◌, ◌+◌, ◌<◌, ◌∙◌, ◌∷◌, ◌≡◌, ◌≤◌, ◌⊎◌, None, Result, Some, if◌then◌else◌, nat_le, nat_lt, ◌&&◌, ◌==◌, ◌||◌, nat_tests, is_blank_or_breakz, is_bom, is_z, is_document_end, is_document_indicator, is_document_start, Marker, Refusal, ◌>>=◌, Place, bare_place, empty_piece, State, Kind, zero_below_next, eq-eqb, eqb-true, ltb-true, full_stop, hyphen, percent_sign, place_kinds, place_kinds_append, EndsContent, cursor_at}
+use Rattle.yaml_laws.proofs.Common.{Bool, IsTrue, List, Ok, [], ap, arith, false, inl, inr, refl, slice_index, subst, sym, true, ℕ, ◌++◌, ◌+◌, ◌<◌, ◌∙◌, ◌∷◌, ◌≡◌, ◌≤◌, ◌⊎◌, None, Result, Some, if◌then◌else◌, nat_le, nat_lt, ◌&&◌, ◌==◌, ◌||◌, nat_tests, is_blank_or_breakz, is_bom, is_z, is_document_end, is_document_indicator, is_document_start, Marker, Refusal, ◌>>=◌, Place, bare_place, empty_piece, State, Kind, zero_below_next, eq-eqb, eqb-true, ltb-true, full_stop, hyphen, percent_sign, place_kinds, place_kinds_append, EndsContent, cursor_at, end_mark}
 use Rattle.saphyr_scanner.specs.Steps.Document as document
-use Rattle.saphyr_scanner.specs.Steps.Document.{end_mark}
 use Rattle.saphyr_scanner.specs.Grammar.Tokens as tokens
 use Rattle.saphyr_scanner.specs.Steps.Unrolling.{unroll}
 use Rattle.saphyr_scanner.specs.Steps.Fetch.{fetch, fetch_here}

@@ -1,20 +1,9 @@
 -- Whether a break is ahead, before what is passed and after it.
 use Rattle.std.proofs.Common.{◌≡◌, ℕ, Bool, true, false, List, [], ◌∷◌, ◌++◌, slice_index, refl, ap, ◌∙◌, append_assoc, inl, inr}
-use Rattle.std.specs.Prelude.{◌||◌, if◌then◌else◌}
-use Rattle.saphyr_input.specs.Classes.{is_blank, is_break, line_feed}
-use Rattle.saphyr_input.specs.Places.{is_blank_or_break}
-use Rattle.saphyr_scalar.specs.declared.scalar.position.Marker.{Marker}
-use Rattle.saphyr_scalar.specs.Reading.BlockLines.{spaces}
-use Rattle.saphyr_scalar.specs.Views.Cursor.{Cursor, along, next_line}
-use Rattle.saphyr_scalar.specs.Steps.Plain.{ends_line}
-use Rattle.scalar_laws.specs.Spelling.Plain.{past_white}
-use Rattle.scalar_laws.specs.Spelling.Spaces.{AreEach, joined_pieces, IsSeparation, IsSeparationLine, IsLineRest}
-use Rattle.saphyr_scanner.specs.declared.engine.level.Context.{Context}
-use Rattle.saphyr_scanner.specs.Steps.Level.{is_block}
+use Rattle.yaml_laws.proofs.Common.{◌||◌, if◌then◌else◌, is_blank, is_break, line_feed, is_blank_or_break, Marker, spaces, Cursor, along, next_line, ends_line, past_white, AreEach, joined_pieces, IsSeparation, IsSeparationLine, IsLineRest, Context, is_block, clash}
 use Rattle.yaml_laws.proofs.Flow.States.{crosses, IsFresh}
 use Rattle.yaml_laws.proofs.Flow.Fillers.{EndsLine, behind_is}
 use Rattle.yaml_laws.proofs.InBlock.Skips.{blanks_cross, rest_crosses, last_crosses}
-use Rattle.saphyr_input.proofs.Basics.Booleans.{clash}
 
 -- inside flow nothing is asked
 pub fresh_in_flow : (x : Context) (o : List ℕ) (allowed : Bool) (there : Cursor) → is_block x ≡ false

@@ -1,7 +1,5 @@
 -- The `-` of an entry of a block sequence is read (YAML 1.2.2, 8.2.1).
-use Rattle.yaml_laws.proofs.Common.{Bool, IsTrue, List, Ok, [], ap, append_assoc, arith, false, inl, length, refl, slice_index, suc, true, ℕ, ◌++◌, ◌+◌, ◌∙◌, ◌∷◌, ◌≡◌, ◌≤◌, ◌⊎◌, None, Option, if◌then◌else◌, nat_le, nat_lt, not, ◌&&◌, ◌==◌, ◌||◌, hyphen, is_alpha, is_blank, is_blank_or_breakz, is_break, is_flow, is_document_indicator, Yes, Marker, along, separation, ◌>>=◌, AreIn, cursor_at, IsCommentBehind, Candidate, pass_on, Place, bare_place, empty_piece, next, State, Kind, LeadsTo, place_kinds, place_kinds_append, queue_of, token_place, le_next, or-true}
-use Rattle.std.proofs.lemmas.List.{length-append}
-use Rattle.saphyr_input.specs.Separation.{found_blanks, found_tabs, has_valid_yaml_ws}
+use Rattle.yaml_laws.proofs.Common.{Bool, IsTrue, List, Ok, [], ap, append_assoc, arith, false, inl, length, refl, slice_index, suc, true, ℕ, ◌++◌, ◌+◌, ◌∙◌, ◌∷◌, ◌≡◌, ◌≤◌, ◌⊎◌, None, Option, if◌then◌else◌, nat_le, nat_lt, not, ◌&&◌, ◌==◌, ◌||◌, hyphen, is_alpha, is_blank, is_blank_or_breakz, is_break, is_flow, is_document_indicator, Yes, Marker, along, separation, ◌>>=◌, AreIn, cursor_at, IsCommentBehind, Candidate, pass_on, Place, bare_place, empty_piece, next, State, Kind, LeadsTo, place_kinds, place_kinds_append, queue_of, token_place, le_next, or-true, length-append, found_blanks, found_tabs, has_valid_yaml_ws}
 use Rattle.saphyr_scanner.specs.Steps.Core.{least_column, completed_step, at_mark, from_to, perform, roll, remove_key}
 use Rattle.saphyr_scanner.specs.Steps.Block.{block_entry_steps, next_entry, pass_dash, deepen, refuse_tab, behind_start}
 use Rattle.saphyr_scanner.specs.Grammar.Tokens as tokens

@@ -1,6 +1,5 @@
 -- Keys on one line are read at block level, and nodes in flow style, up to what is left of them (YAML 1.2.2, 8.2.3).
-use Rattle.yaml_laws.proofs.Common.{Bool, List, [], ap, append_assoc, arith, false, inl, inr, length, refl, slice_index, subst, suc, sym, true, ℕ, ◌++◌, ◌+◌, ◌<◌, ◌^◌, ◌∙◌, ◌∷◌, ◌≡◌, ◌≤◌, ◌⊎◌, None, Option, Some, if◌then◌else◌, nat_le, nat_lt, not, ◌&&◌, ◌-◌, ◌==◌, ◌||◌, is_z, line_feed, can_be_plain, is_document_indicator, Marker, IsEol, least_column, Candidate, Place, State, Node, Kind, most_open, IsFlowInBlock, IsFlowNode, IsOnLine, or_true_swap, cursor_at, place_kinds_append}
-use Rattle.std.proofs.lemmas.List.{length-append}
+use Rattle.yaml_laws.proofs.Common.{Bool, List, [], ap, append_assoc, arith, false, inl, inr, length, refl, slice_index, subst, suc, sym, true, ℕ, ◌++◌, ◌+◌, ◌<◌, ◌^◌, ◌∙◌, ◌∷◌, ◌≡◌, ◌≤◌, ◌⊎◌, None, Option, Some, if◌then◌else◌, nat_le, nat_lt, not, ◌&&◌, ◌-◌, ◌==◌, ◌||◌, is_z, line_feed, can_be_plain, is_document_indicator, Marker, IsEol, least_column, Candidate, Place, State, Node, Kind, most_open, IsFlowInBlock, IsFlowNode, IsOnLine, or_true_swap, cursor_at, place_kinds_append, length-append}
 use Rattle.saphyr_scanner.specs.declared.engine.level.Context.TheVariants as context
 use Rattle.saphyr_scanner.specs.Steps.Passing.{goes_on_behind}
 use Rattle.yaml_laws.proofs.InFlow.States.{Around, moment, state_at, not_more, least_low, least}

@@ -1,19 +1,9 @@
 -- What is between two tokens at block level: where it ends, whether a break is in it, and a tab in its last
 -- indentation.
 use Rattle.std.proofs.Common.{◌≡◌, ℕ, Bool, true, false, List, ◌∷◌, slice_index, refl, ap, ◌∙◌, arith, Ok}
-use Rattle.std.specs.Prelude.{◌||◌, ◌==◌}
-use Rattle.std.proofs.lemmas.Bool.Decides.{nat_tests}
-use Rattle.saphyr_input.specs.Classes.{is_blank, is_break, is_yaml_non_break}
-use Rattle.saphyr_scalar.specs.declared.scalar.position.Marker.{Marker}
-use Rattle.saphyr_scalar.specs.Views.Cursor.{Cursor}
-use Rattle.saphyr_scanner.specs.Steps.Gap.{GapEnd, gap_here, end_of_gap, end_of_gap_in_comment, stop, is_tab_indentation, whole_gap}
+use Rattle.yaml_laws.proofs.Common.{◌||◌, ◌==◌, nat_tests, is_blank, is_break, is_yaml_non_break, Marker, Cursor, GapEnd, gap_here, end_of_gap, end_of_gap_in_comment, stop, is_tab_indentation, whole_gap, or_false_left, or-false, or-true, number_sign, cursor_at, stop_here}
 use Rattle.yaml_laws.proofs.Flow.States.{IsContentStart, past, past_comment}
 use Rattle.yaml_laws.proofs.InBlock.States.{IsStop, tabbed, tabbed_comment, IsUntabbed, crosses, crosses_comment}
-use Rattle.saphyr_input.proofs.Basics.Booleans.{or_false_left}
-use Rattle.std.proofs.Math.Bool.{or-false, or-true}
-use Rattle.saphyr_input.specs.Indicators.{number_sign}
-use Rattle.saphyr_scalar.proofs.Given.{cursor_at}
-use Rattle.saphyr_scanner.proofs.Gaps.{stop_here}
 use Rattle.yaml_laws.proofs.Flow.Gaps.{is_return_at, stop_ends}
 use Rattle.yaml_laws.proofs.Flow.GapWalks.{OverGap, over_gap, no_stop}
 

@@ -1,12 +1,8 @@
 -- After the document marker of the last line nothing that was read may yet be a key, so all tokens up to its own are
 -- handed out.
-use Rattle.yaml_laws.proofs.Common.{Bool, List, Ok, [], ap, append-nil, arith, false, inl, inr, length, refl, sym, ℕ, ◌++◌, ◌∙◌, ◌∷◌, ◌≡◌, ◌≤◌, None, Option, line_feed, full_stop, hyphen, Marker, Cursor, along, next_line, cursor_at, IsLineRest, Kind, Piece, Place, bare_place, Candidate, State, fetch_here, LeadsTo, leads_on, onward, stay, place_kinds, place_kinds_append}
-use Rattle.std.proofs.lemmas.List.{length-append}
-use Rattle.saphyr_scalar.specs.Known.{is_open}
-use Rattle.saphyr_scalar.proofs.WhatCame.Rests.{known_before}
+use Rattle.yaml_laws.proofs.Common.{Bool, List, Ok, [], ap, append-nil, arith, false, inl, inr, length, refl, sym, ℕ, ◌++◌, ◌∙◌, ◌∷◌, ◌≡◌, ◌≤◌, None, Option, line_feed, full_stop, hyphen, Marker, Cursor, along, next_line, cursor_at, IsLineRest, Kind, Piece, Place, bare_place, Candidate, State, fetch_here, LeadsTo, leads_on, onward, stay, place_kinds, place_kinds_append, length-append, is_open, known_before, DocumentMarker, Starts, Ends, marker_text, marker_token, cons_not_empty, state_at}
 use Rattle.saphyr_scanner.specs.declared.engine.level.Context.TheVariants as context
 use Rattle.saphyr_scanner.specs.Grammar.Tokens as tokens
-use Rattle.yaml_laws.specs.Grammar.ClosedTexts.{DocumentMarker, Starts, Ends, marker_text, marker_token}
 use Rattle.yaml_laws.proofs.Flow.Fillers.{rest_past}
 use Rattle.yaml_laws.proofs.Flow.Places.{moved_count}
 use Rattle.yaml_laws.proofs.Flow.Separates.{separates_rest}
@@ -16,8 +12,6 @@ use Rattle.yaml_laws.proofs.Documents.Markers.{piece_of, at_line, start_here, st
 use Rattle.yaml_laws.proofs.InBlock.States.{GoesOnAs, EndsDocument, moved, past}
 use Rattle.yaml_laws.proofs.InBlock.Follows.{first_step}
 use Rattle.yaml_laws.proofs.InBlock.Documents.Comes.{Comes}
-use Rattle.saphyr_input.proofs.Basics.Lists.{cons_not_empty}
-use Rattle.saphyr_scanner.proofs.Root.{state_at}
 
 -- The scanner has read these tokens, none of which may yet be a key, and left a rest that is not open.
 pub record Handed (limit : ℕ) (start : State) (ts : List Kind) : Type 0 where

@@ -1,12 +1,9 @@
 -- A block scalar at block level is read from its header on (YAML 1.2.2, 8.1).
-use Rattle.yaml_laws.proofs.Common.{Bool, List, Ok, [], ap, arith, encode_utf8_all, false, inl, inr, length, refl, slice_index, subst, suc, sym, true, zero, ℕ, ◌++◌, ◌<◌, ◌^◌, ◌∙◌, ◌∷◌, ◌≡◌, ◌≤◌, ◌⊎◌, None, Option, Some, ◌||◌, is_break, BlockStyle, Marker, spaces, Cursor, ◌>>=◌, completed_step, from_to, least_column, save_key, Candidate, DoubleQuoted, Folded, Literal, Plain, SingleQuoted, Style, Place, bare_place, next, Piece, State, after_step, on_core, Kind, scalar_token, LeadsTo, IsBlockScalarText, IsStyled, cursor_at, or-true, le-leb, place_kinds, place_kinds_append, queue_of, saved, le_next}
-use Rattle.std.proofs.lemmas.List.{length-append}
+use Rattle.yaml_laws.proofs.Common.{Bool, List, Ok, [], ap, arith, encode_utf8_all, false, inl, inr, length, refl, slice_index, subst, suc, sym, true, zero, ℕ, ◌++◌, ◌<◌, ◌^◌, ◌∙◌, ◌∷◌, ◌≡◌, ◌≤◌, ◌⊎◌, None, Option, Some, ◌||◌, is_break, BlockStyle, Marker, spaces, Cursor, ◌>>=◌, completed_step, from_to, least_column, save_key, Candidate, DoubleQuoted, Folded, Literal, Plain, SingleQuoted, Style, Place, bare_place, next, Piece, State, after_step, on_core, Kind, scalar_token, LeadsTo, IsBlockScalarText, IsStyled, cursor_at, or-true, le-leb, place_kinds, place_kinds_append, queue_of, saved, le_next, length-append, Span, style_of}
 use Rattle.saphyr_scalar.specs.declared.values.BlockStyle.TheVariants as block_style
-use Rattle.saphyr_scalar.specs.declared.scalar.position.Span.{Span}
 use Rattle.saphyr_scalar.specs.Steps.Block as blocks
 use Rattle.saphyr_scanner.specs.Steps.Fetch.{fetch, fetch_here, fetch_within, check_limit, state_behind_content, step}
 use Rattle.saphyr_scanner.specs.Steps.Scalar as scalar
-use Rattle.saphyr_scanner.specs.Steps.Scalar.{style_of}
 use Rattle.saphyr_scanner.specs.Grammar.Tokens as kind
 use Rattle.yaml_laws.proofs.Flow.GapSteps.{past_low}
 use Rattle.yaml_laws.proofs.Flow.Places.{moved_append, moved_count}

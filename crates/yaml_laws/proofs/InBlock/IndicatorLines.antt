@@ -1,7 +1,5 @@
 -- What comes after an indicator: blanks and a token, or the end of a line.
-use Rattle.yaml_laws.proofs.Common.{Bool, IsTrue, List, [], ap, append-nil, append_assoc, arith, false, inl, inr, length, refl, slice_index, suc, sym, true, zero, ℕ, ◌++◌, ◌+◌, ◌∙◌, ◌∷◌, ◌≡◌, ◌≢◌, ◌≤◌, ◌⊎◌, not, take, ◌&&◌, ◌==◌, ◌||◌, nat_tests, is_alpha, is_blank, is_blank_or_breakz, line_feed, space, tab, hyphen, Yes, Marker, spaces, along, next_line, AreIn, IsComment, IsCommentBehind, IsEol, IsLineEnd, IsLineRest, and_false}
-use Rattle.std.specs.List.{list_all, list_any, prefix_len}
-use Rattle.saphyr_input.specs.Separation.{found_blanks, found_tabs, has_valid_yaml_ws}
+use Rattle.yaml_laws.proofs.Common.{Bool, IsTrue, List, [], ap, append-nil, append_assoc, arith, false, inl, inr, length, refl, slice_index, suc, sym, true, zero, ℕ, ◌++◌, ◌+◌, ◌∙◌, ◌∷◌, ◌≡◌, ◌≢◌, ◌≤◌, ◌⊎◌, not, take, ◌&&◌, ◌==◌, ◌||◌, nat_tests, is_alpha, is_blank, is_blank_or_breakz, line_feed, space, tab, hyphen, Yes, Marker, spaces, along, next_line, AreIn, IsComment, IsCommentBehind, IsEol, IsLineEnd, IsLineRest, and_false, list_all, list_any, prefix_len, found_blanks, found_tabs, has_valid_yaml_ws}
 use Rattle.yaml_laws.proofs.Documents.Lines.{rest_first}
 use Rattle.yaml_laws.proofs.Flow.Fillers.{spaces_are_blank, blanks_past, behind_is, front_past}
 use Rattle.yaml_laws.proofs.Flow.Separates.{line_stops, content_stops, front_moved}

@@ -1,6 +1,5 @@
 -- What comes before a block collection is passed: its properties, or nothing, and the way to its first entry.
-use Rattle.yaml_laws.proofs.Common.{List, [], ap, append-nil, append_assoc, arith, inl, inr, refl, subst, sym, true, ℕ, ◌++◌, ◌∙◌, ◌∷◌, ◌≡◌, ◌≤◌, None, ◌||◌, Marker, spaces, IsFiller, IsLineEnd, State, Kind, Properties, no_properties, or-true}
-use Rattle.yaml_laws.specs.Grammar.BlockNodes.{Position, indent_at, sequence_indent_at, IsLead}
+use Rattle.yaml_laws.proofs.Common.{List, [], ap, append-nil, append_assoc, arith, inl, inr, refl, subst, sym, true, ℕ, ◌++◌, ◌∙◌, ◌∷◌, ◌≡◌, ◌≤◌, None, ◌||◌, Marker, spaces, IsFiller, IsLineEnd, State, Kind, Properties, no_properties, or-true, Position, indent_at, sequence_indent_at, IsLead}
 use Rattle.yaml_laws.proofs.Flow.Places.{moved_append}
 use Rattle.yaml_laws.proofs.InBlock.Lines.{FitsOnLines, fits_so}
 use Rattle.yaml_laws.proofs.Flow.ContentStarts.{StartsContent}

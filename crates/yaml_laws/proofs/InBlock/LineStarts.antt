@@ -1,9 +1,7 @@
 -- Where lines begin in a text, and pieces of which no document marker begins a line.
-use Rattle.yaml_laws.proofs.Common.{Bool, IsTrue, List, [], ap, append-nil, append_assoc, arith, false, inl, inr, refl, subst, sym, true, ℕ, ◌++◌, ◌∙◌, ◌∷◌, ◌≡◌, ◌⊎◌, nat_tests, ◌&&◌, ◌==◌, byte_order_mark, is_blank, is_yaml_non_break, line_feed, is_document_indicator, AreIn, IsComment, IsEol, IsFiller, IsLastFiller, IsLineRest, or_from, or_parts, full_stop, hyphen, has_marker, clash}
-use Rattle.scalar_laws.proofs.Breaks.Sides.{no_feed}
+use Rattle.yaml_laws.proofs.Common.{Bool, IsTrue, List, [], ap, append-nil, append_assoc, arith, false, inl, inr, refl, subst, sym, true, ℕ, ◌++◌, ◌∙◌, ◌∷◌, ◌≡◌, ◌⊎◌, nat_tests, ◌&&◌, ◌==◌, byte_order_mark, is_blank, is_yaml_non_break, line_feed, is_document_indicator, AreIn, IsComment, IsEol, IsFiller, IsLastFiller, IsLineRest, or_from, or_parts, full_stop, hyphen, has_marker, clash, no_feed, NoBreaks, no_breaks_in}
 use Rattle.yaml_laws.proofs.Flow.States.{marks_line}
 use Rattle.yaml_laws.proofs.InBlock.Skips.{IsSkipped, nothing, one_space, one_break, one_rest, filler_skipped}
-use Rattle.saphyr_scalar.proofs.NoBreaks.{NoBreaks, no_breaks_in}
 use Rattle.yaml_laws.proofs.Documents.Lines.{none_behind}
 
 feed_second : (c : ℕ) (t : List ℕ) → is_document_indicator (c ∷ line_feed ∷ t) ≡ false

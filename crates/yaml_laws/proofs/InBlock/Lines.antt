@@ -1,6 +1,5 @@
 -- Line numbers grow from line to line, in texts that are not longer than they can tell.
-use Rattle.yaml_laws.proofs.Common.{List, [], append_assoc, arith, length, min, suc, ℕ, ◌++◌, ◌+◌, ◌<◌, ◌^◌, ◌∷◌, ◌≡◌, ◌≤◌, ◌-◌, line_feed, Marker}
-use Rattle.std.proofs.lemmas.List.{length-append}
+use Rattle.yaml_laws.proofs.Common.{List, [], append_assoc, arith, length, min, suc, ℕ, ◌++◌, ◌+◌, ◌<◌, ◌^◌, ◌∷◌, ◌≡◌, ◌≤◌, ◌-◌, line_feed, Marker, length-append}
 use Rattle.yaml_laws.proofs.Flow.States.{moved, past, IsClear}
 use Rattle.yaml_laws.proofs.Flow.GapSteps.{by_steps}
 use Rattle.yaml_laws.proofs.Flow.Places.{behind_character, moved_append, moved_index, moved_count, clear_front, clear_back}

@@ -1,7 +1,6 @@
 -- Properties at block level are read: before a block scalar, and before a collection on the next lines
 -- (YAML 1.2.2, 6.9 and 8.2.3).
-use Rattle.yaml_laws.proofs.Common.{IsTrue, List, [], ap, append_assoc, arith, false, inl, inr, length, refl, slice_index, subst, sym, true, ℕ, ◌++◌, ◌<◌, ◌^◌, ◌∙◌, ◌∷◌, ◌≡◌, ◌≤◌, None, Option, is_blank_or_breakz, line_feed, Marker, spaces, IsGap, IsLineRest, is_too_far, Candidate, Properties, State, Kind, IsProperties, indent_at, or_true_swap, cursor_at}
-use Rattle.std.proofs.lemmas.List.{length-append}
+use Rattle.yaml_laws.proofs.Common.{IsTrue, List, [], ap, append_assoc, arith, false, inl, inr, length, refl, slice_index, subst, sym, true, ℕ, ◌++◌, ◌<◌, ◌^◌, ◌∙◌, ◌∷◌, ◌≡◌, ◌≤◌, None, Option, is_blank_or_breakz, line_feed, Marker, spaces, IsGap, IsLineRest, is_too_far, Candidate, Properties, State, Kind, IsProperties, indent_at, or_true_swap, cursor_at, length-append}
 use Rattle.saphyr_scanner.specs.Grammar.TokenGrammar as grammar
 use Rattle.saphyr_scanner.specs.declared.engine.level.Context.TheVariants as context
 use Rattle.yaml_laws.proofs.InFlow.States.{moment}

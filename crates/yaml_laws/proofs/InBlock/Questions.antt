@@ -1,11 +1,8 @@
 -- The `?` of a block mapping is read (YAML 1.2.2, 8.2.2).
-use Rattle.yaml_laws.proofs.Common.{Bool, IsTrue, List, Ok, [], ap, arith, false, inl, inr, length, refl, slice_index, suc, true, ℕ, ◌++◌, ◌+◌, ◌∙◌, ◌∷◌, ◌≡◌, ◌≤◌, ◌⊎◌, None, Option, nat_le, ◌==◌, is_blank, is_blank_or_breakz, line_feed, tab, Marker, along, ◌>>=◌, Candidate, behind_question, next, State, Kind, le_next, or-true, colon, question_mark, queue_of}
+use Rattle.yaml_laws.proofs.Common.{Bool, IsTrue, List, Ok, [], ap, arith, false, inl, inr, length, refl, slice_index, suc, true, ℕ, ◌++◌, ◌+◌, ◌∙◌, ◌∷◌, ◌≡◌, ◌≤◌, ◌⊎◌, None, Option, nat_le, ◌==◌, is_blank, is_blank_or_breakz, line_feed, tab, Marker, along, ◌>>=◌, Candidate, behind_question, next, State, Kind, le_next, or-true, colon, question_mark, queue_of, behind_start, cursor_at, SpacesEnd, spaces_at}
 use Rattle.saphyr_scanner.specs.declared.engine.level.Context.TheVariants as context
 use Rattle.saphyr_scanner.specs.Steps.Core.{least_column, Core, completed_step, from_to, roll, remove_key, with_context, in_block}
 use Rattle.saphyr_scanner.specs.Steps.Block as block
-use Rattle.saphyr_scanner.specs.Steps.Block.{behind_start}
-use Rattle.saphyr_scalar.proofs.Given.{cursor_at}
-use Rattle.saphyr_scanner.specs.Steps.Gap.{SpacesEnd, spaces_at}
 use Rattle.saphyr_scanner.specs.Grammar.Tokens as tokens
 use Rattle.saphyr_scanner.specs.Steps.Fetch.{state_behind_content, step}
 use Rattle.yaml_laws.specs.Grammar.BlockNodes as yaml

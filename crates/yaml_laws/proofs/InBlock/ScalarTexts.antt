@@ -1,14 +1,9 @@
 -- Block scalars are read, from their header on (YAML 1.2.2, 8.1).
-use Rattle.yaml_laws.proofs.Common.{Bool, List, Ok, [], ap, append-nil, append_assoc, arith, encode_utf8_all, false, inl, inr, length, refl, slice_index, subst, suc, sym, zero, ℕ, ◌++◌, ◌+◌, ◌<◌, ◌^◌, ◌∙◌, ◌∷◌, ◌≡◌, ◌⊎◌, not, ◌==◌, carriage_return, is_break, line_feed, BlockStyle, Marker, spaces, Cursor, AreIn, both_in, DoubleQuoted, Folded, Literal, Plain, Properties, SingleQuoted, Style, IsBlockScalarText, IsScalarFront, IsStyled}
-use Rattle.std.proofs.lemmas.List.{length-append, append_cancel_right}
+use Rattle.yaml_laws.proofs.Common.{Bool, List, Ok, [], ap, append-nil, append_assoc, arith, encode_utf8_all, false, inl, inr, length, refl, slice_index, subst, suc, sym, zero, ℕ, ◌++◌, ◌+◌, ◌<◌, ◌^◌, ◌∙◌, ◌∷◌, ◌≡◌, ◌⊎◌, not, ◌==◌, carriage_return, is_break, line_feed, BlockStyle, Marker, spaces, Cursor, AreIn, both_in, DoubleQuoted, Folded, Literal, Plain, Properties, SingleQuoted, Style, IsBlockScalarText, IsScalarFront, IsStyled, length-append, append_cancel_right, Chomping, Span, IsPassed, IsIndicator, IsChomping, IsHeader, IsBlockScalar, IsTaken}
 use Rattle.saphyr_scalar.specs.declared.values.BlockStyle.TheVariants as block_style
-use Rattle.saphyr_scalar.specs.declared.values.Chomping.{Chomping}
-use Rattle.saphyr_scalar.specs.declared.scalar.position.Span.{Span}
 use Rattle.saphyr_scalar.specs.Values.Block.{Line}
 use Rattle.saphyr_scalar.specs.Steps.Block.{block_scalar}
-use Rattle.saphyr_scalar.specs.Passing.{IsPassed}
 use Rattle.scalar_laws.specs.Spelling.Block as spelling
-use Rattle.scalar_laws.specs.Spelling.Block.{IsIndicator, IsChomping, IsHeader, IsBlockScalar, IsTaken}
 use Rattle.yaml_laws.proofs.Flow.States.{moved}
 use Rattle.yaml_laws.proofs.Flow.Places.{moved_append}
 use Rattle.yaml_laws.proofs.Flow.Quoted.{moved_passes}

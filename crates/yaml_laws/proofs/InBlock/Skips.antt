@@ -1,27 +1,12 @@
 -- Spaces, comments and breaks between two tokens at block level.
 use Rattle.std.proofs.Common.{◌≡◌, ℕ, zero, suc, ◌+◌, ◌≤◌, Bool, true, false, List, [], ◌∷◌, ◌++◌, slice_index, refl, sym, ap, ◌∙◌, arith, subst, append_assoc, append-nil, ◌⊎◌, inl, inr}
-use Rattle.std.specs.Prelude.{◌||◌, ◌&&◌, ◌==◌, if◌then◌else◌}
-use Rattle.std.proofs.lemmas.Bool.Decides.{nat_tests}
-use Rattle.saphyr_input.specs.Classes.{is_blank, is_break, is_yaml_non_break, line_feed}
-use Rattle.saphyr_scalar.specs.declared.scalar.position.Marker.{Marker}
-use Rattle.saphyr_scalar.specs.Reading.BlockLines.{spaces}
-use Rattle.saphyr_scalar.specs.Views.Cursor.{along, next_line}
-use Rattle.saphyr_scalar.specs.Spelling.Tag.{AreIn}
-use Rattle.scalar_laws.specs.Spelling.Spaces.{AreEach, joined_pieces, IsComment, IsLineRest, IsLineEnd, IsFillerLine, IsFiller, IsLinePrefix, IsNextLine, IsGap}
-use Rattle.scalar_laws.proofs.Beginnings.{both_in}
-use Rattle.saphyr_scalar.proofs.Given.{cursor_at}
-use Rattle.saphyr_scanner.specs.Steps.Gap.{Gap, SpacesEnd, end_of_gap, end_of_gap_in_comment, gap_here, is_tab_indentation, spaces_at, spaces_of}
-use Rattle.yaml_laws.specs.Grammar.BlockNodes.{Position, indent_at, IsGapAt}
+use Rattle.yaml_laws.proofs.Common.{◌||◌, ◌&&◌, ◌==◌, if◌then◌else◌, nat_tests, is_blank, is_break, is_yaml_non_break, line_feed, Marker, spaces, along, next_line, AreIn, AreEach, joined_pieces, IsComment, IsLineRest, IsLineEnd, IsFillerLine, IsFiller, IsLinePrefix, IsNextLine, IsGap, both_in, cursor_at, Gap, SpacesEnd, end_of_gap, end_of_gap_in_comment, gap_here, is_tab_indentation, spaces_at, spaces_of, Position, indent_at, IsGapAt, or_parts, no_blank_no_tab, le_next, and_false}
 use Rattle.yaml_laws.proofs.Flow.States.{moved, past, past_comment}
 use Rattle.yaml_laws.proofs.Flow.Places.{moved_append}
 use Rattle.yaml_laws.proofs.Flow.Gaps.{is_return_at}
 use Rattle.yaml_laws.proofs.Flow.Fillers.{blanks_past, front_past, behind_is, spaces_are_blank}
 use Rattle.yaml_laws.proofs.Flow.GapWalks.{OverGap, over_gap, no_stop}
 use Rattle.yaml_laws.proofs.InBlock.States.{tabbed, tabbed_comment, crosses, crosses_comment}
-use Rattle.std.proofs.lemmas.Bool.{or_parts}
-use Rattle.saphyr_input.proofs.Basics.Characters.{no_blank_no_tab}
-use Rattle.saphyr_input.proofs.Basics.Numbers.{le_next}
-use Rattle.saphyr_input.proofs.Basics.Booleans.{and_false}
 
 -- ## The text between two tokens
 

@@ -1,8 +1,7 @@
 -- What is shown of nodes and collections at block level.
-use Rattle.yaml_laws.proofs.Common.{Bool, IsFalse, List, [], false, inl, inr, length, slice_index, suc, true, ℕ, ◌++◌, ◌+◌, ◌∷◌, ◌≡◌, ◌≤◌, ◌⊎◌, None, Some, colon, is_blank_or_breakz, Marker, spaces, IsFiller, IsLineEnd, is_too_far, least_column, bare_place, Piece, State, Kind, Node, Properties, Scalar, Style, left_out, most_open, place_kinds, IsBeforeColon, IsFlowNode, IsKeyText, IsOnLine, IsPlainKeyNode, IsProperties}
+use Rattle.yaml_laws.proofs.Common.{Bool, IsFalse, List, [], false, inl, inr, length, slice_index, suc, true, ℕ, ◌++◌, ◌+◌, ◌∷◌, ◌≡◌, ◌≤◌, ◌⊎◌, None, Some, colon, is_blank_or_breakz, Marker, spaces, IsFiller, IsLineEnd, is_too_far, least_column, bare_place, Piece, State, Kind, Node, Properties, Scalar, Style, left_out, most_open, place_kinds, IsBeforeColon, IsFlowNode, IsKeyText, IsOnLine, IsPlainKeyNode, IsProperties, Position, BehindMark, BehindKey, is_start, indent_at, IsGapAt, IsFlowInBlock, IsStyled, IsScalarFront, IsScalarInBlock, BehindDash, BehindMarker, AtStart}
 use Rattle.saphyr_scanner.specs.Steps.Queue as queue
 use Rattle.saphyr_scanner.specs.Grammar.TokenGrammar as grammar
-use Rattle.yaml_laws.specs.Grammar.BlockNodes.{Position, BehindMark, BehindKey, is_start, indent_at, IsGapAt, IsFlowInBlock, IsStyled, IsScalarFront, IsScalarInBlock, BehindDash, BehindMarker, AtStart}
 use Rattle.yaml_laws.proofs.Flow.ContentStarts.{StartsContent}
 use Rattle.yaml_laws.proofs.InBlock.Lines.{FitsOnLines}
 use Rattle.yaml_laws.proofs.InBlock.States.{Frame, Moment, core_of, state_of, IsUntabbed, EndsDocument, IsLeftOf, GoesOnAs, At, Before, moved, past}

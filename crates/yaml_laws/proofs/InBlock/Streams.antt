@@ -1,8 +1,7 @@
 -- The scanner takes a text of YAML's grammar and makes tokens of its forest.
-use Rattle.yaml_laws.proofs.Common.{Bool, List, [], ap, append-nil, append_assoc, arith, false, inl, inr, length, refl, true, ℕ, ◌++◌, ◌∙◌, ◌∷◌, ◌≡◌, ◌≤◌, ◌⊎◌, None, not, ◌==◌, carriage_return, start_cursor, AreIn, Forest, most_open, Kind, State, start, LeadsTo, IsDocumentPrefix, IsYaml, end_prefix, mark_prefix, no_prefix, or-true, back_in, front_in, place_kinds, AreEach, joined_pieces}
+use Rattle.yaml_laws.proofs.Common.{Bool, List, [], ap, append-nil, append_assoc, arith, false, inl, inr, length, refl, true, ℕ, ◌++◌, ◌∙◌, ◌∷◌, ◌≡◌, ◌≤◌, ◌⊎◌, None, not, ◌==◌, carriage_return, start_cursor, AreIn, Forest, most_open, Kind, State, start, LeadsTo, IsDocumentPrefix, IsYaml, end_prefix, mark_prefix, no_prefix, or-true, back_in, front_in, place_kinds, AreEach, joined_pieces, AreEndsAndMarks, Yields, stream_start_place, fetches_stream_start}
 use Rattle.saphyr_scanner.specs.Grammar.Tokens as tokens
 use Rattle.saphyr_scanner.specs.Grammar.TokenGrammar as grammar
-use Rattle.saphyr_scanner.specs.Grammar.TokenGrammar.{AreEndsAndMarks, Yields}
 use Rattle.yaml_laws.specs.Grammar.Yaml as yaml
 use Rattle.yaml_laws.proofs.Flow.Fillers.{last_filler_past}
 use Rattle.yaml_laws.proofs.Documents.Lines.{passes_filler}
@@ -15,7 +14,6 @@ use Rattle.yaml_laws.proofs.InBlock.Documents.Ends.{AreBlockDocuments, HasNoRetu
 use Rattle.yaml_laws.proofs.InBlock.Documents.{reads_document}
 use Rattle.yaml_laws.proofs.InBlock.Documents.Comes.{ComesIn, comes_so, comes_behind_filler, comes_behind_mark, comes_behind_end, document_comes}
 use Rattle.yaml_laws.proofs.InBlock.LineStarts.{no_line, last_unmarked}
-use Rattle.saphyr_scanner.proofs.Root.{stream_start_place, fetches_stream_start}
 
 -- ## Between documents
 

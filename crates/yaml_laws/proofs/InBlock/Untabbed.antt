@@ -1,18 +1,13 @@
 -- Where no tab is left of a column on the line of a token, what is passed up to the next token doesn't depend on
 -- the column.
 use Rattle.std.proofs.Common.{◌≡◌, ℕ, ◌≤◌, Bool, true, false, List, ◌∷◌, slice_index, refl, arith}
-use Rattle.std.specs.Prelude.{◌&&◌, ◌==◌, not, nat_lt}
-use Rattle.saphyr_input.specs.Classes.{is_blank}
-use Rattle.saphyr_scalar.specs.declared.scalar.position.Marker.{Marker}
-use Rattle.saphyr_scalar.specs.Views.Cursor.{along}
+use Rattle.yaml_laws.proofs.Common.{◌&&◌, ◌==◌, not, nat_lt, is_blank, Marker, along, clash, and_true_left, and_true_right, end_of_gap, gap_here, stop}
 use Rattle.yaml_laws.proofs.Flow.States.{is_left_tab, is_filler_rest, is_comment_rest, past, past_comment}
 use Rattle.yaml_laws.proofs.Flow.Gaps.{stops_tab, stop_blank, tab_blank, tab_rest, rest_sign, no_rest, word_rest, return_rest, no_comment_rest, no_tab_before, no_tab_here}
 use Rattle.yaml_laws.proofs.Flow.GapWalks.{OverGap, over_gap, none_left}
 use Rattle.yaml_laws.proofs.InBlock.Gaps.{stop_no_blank, gap_stops}
 use Rattle.yaml_laws.proofs.InBlock.Skips.{IsClean}
 use Rattle.yaml_laws.proofs.InBlock.States.{IsStop, tabbed, tabbed_comment, crosses}
-use Rattle.saphyr_input.proofs.Basics.Booleans.{clash, and_true_left, and_true_right}
-use Rattle.saphyr_scanner.specs.Steps.Gap.{end_of_gap, gap_here, stop}
 
 -- ## No tab on the line of a token
 

@@ -1,10 +1,5 @@
 -- Each text of YAML's grammar gives tokens of its forest.
-use Rattle.yaml_laws.proofs.Common.{List, ap, arith, false, length, ℕ, ◌<◌, ◌^◌, ◌≤◌, normalized, Forest, most_open, Remaining, Kind, IsYamlText}
-use Rattle.saphyr_scanner.specs.Steps.Remaining.{Scans, scan}
-use Rattle.saphyr_scanner.specs.Grammar.TokenGrammar.{Yields}
-use Rattle.saphyr_scanner.proofs.Lazy.{handed_out}
-use Rattle.saphyr_scanner.proofs.Effects.Readers.{Readers}
-use Rattle.yaml_laws.specs.SameKinds.{HaveSameKinds}
+use Rattle.yaml_laws.proofs.Common.{List, ap, arith, false, length, ℕ, ◌<◌, ◌^◌, ◌≤◌, normalized, Forest, most_open, Remaining, Kind, IsYamlText, Scans, scan, Yields, handed_out, Readers, HaveSameKinds}
 use Rattle.yaml_laws.proofs.Breaks.Normal.{no_return_left, scans_too, beside, normal_shorter}
 use Rattle.yaml_laws.proofs.Flow.ContentStarts.{node_content, plain_key_node_content}
 use Rattle.yaml_laws.proofs.Flow.NoDashes.{node_no_dash}

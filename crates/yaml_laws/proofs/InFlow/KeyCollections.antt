@@ -1,8 +1,6 @@
 -- A flow collection that is a key on one line at block level.
-use Rattle.yaml_laws.proofs.Common.{Bool, List, Ok, [], ap, append-nil, append_assoc, arith, false, length, refl, slice_index, subst, suc, sym, true, ℕ, ◌++◌, ◌+◌, ◌<◌, ◌∙◌, ◌∷◌, ◌≡◌, ◌≤◌, None, Option, Some, Marker, Cursor, along, ◌>>=◌, cursor_at, IsSeparation, Context, Kind, Place, Queue, completed_step, from_to, Candidate, Level, behind_entry, ends_pair, is_block, State, after_step, on_core, most_open, LeadsTo, leads_on, onward, stay, le_next, le-leb, colon, place_kinds, place_kinds_append, queue_of, token_place, level_of}
-use Rattle.std.proofs.Math.Nat.{zero-add}
+use Rattle.yaml_laws.proofs.Common.{Bool, List, Ok, [], ap, append-nil, append_assoc, arith, false, length, refl, slice_index, subst, suc, sym, true, ℕ, ◌++◌, ◌+◌, ◌<◌, ◌∙◌, ◌∷◌, ◌≡◌, ◌≤◌, None, Option, Some, Marker, Cursor, along, ◌>>=◌, cursor_at, IsSeparation, Context, Kind, Place, Queue, completed_step, from_to, Candidate, Level, behind_entry, ends_pair, is_block, State, after_step, on_core, most_open, LeadsTo, leads_on, onward, stay, le_next, le-leb, colon, place_kinds, place_kinds_append, queue_of, token_place, level_of, zero-add, close_collection}
 use Rattle.saphyr_scanner.specs.declared.engine.level.Context.TheVariants as context
-use Rattle.saphyr_scanner.specs.Steps.Flow.{close_collection}
 use Rattle.saphyr_scanner.specs.Steps.Fetch.{step, state_behind_content, fetch_here, fetch, check_limit, fetch_within}
 use Rattle.yaml_laws.proofs.InFlow.States.{Around, core_at, state_at, drops_far_key, left_in_flow, behind_key, opening_steps_open, open_collection_gives, close_collection_gives, deepened, moment}
 use Rattle.yaml_laws.proofs.InFlow.OnLine.{separation_of_blanks}

@@ -1,5 +1,5 @@
 -- A key on one line at block level begins a token, which keeps the key's place.
-use Rattle.yaml_laws.proofs.Common.{List, [], ap, append_assoc, arith, false, inl, refl, sym, true, ℕ, ◌++◌, ◌∙◌, ◌∷◌, ◌≡◌, Option, Some, colon, Context, Kind, Quote, Double, Single, mark, Alias, DoubleQuoted, Folded, Literal, Map, Node, Plain, Properties, Scalar, Seq, SingleQuoted, Style, Tag, AreFlowPairs, AreItems, IsBeforeContent, IsFlowNode, IsPlainKeyNode, IsScalarNode, IsFlowScalar}
+use Rattle.yaml_laws.proofs.Common.{List, [], ap, append_assoc, arith, false, inl, refl, sym, true, ℕ, ◌++◌, ◌∙◌, ◌∷◌, ◌≡◌, Option, Some, colon, Context, Kind, Quote, Double, Single, mark, Alias, DoubleQuoted, Folded, Literal, Map, Node, Plain, Properties, Scalar, Seq, SingleQuoted, Style, Tag, AreFlowPairs, AreItems, IsBeforeContent, IsFlowNode, IsPlainKeyNode, IsScalarNode, IsFlowScalar, IsTag}
 use Rattle.saphyr_scanner.specs.declared.engine.level.Context.TheVariants as context
 use Rattle.saphyr_scanner.specs.Steps.Property as property
 use Rattle.saphyr_scanner.specs.Steps.Scalar as scalar
@@ -7,7 +7,6 @@ use Rattle.saphyr_scanner.specs.Steps.Flow as flow
 use Rattle.saphyr_scanner.specs.Steps.Flow.{open_collection}
 use Rattle.saphyr_scanner.specs.Steps.Fetch.{step}
 use Rattle.yaml_laws.specs.Grammar.FlowNodes as yaml
-use Rattle.yaml_laws.specs.Grammar.TagSpelling.{IsTag}
 use Rattle.yaml_laws.proofs.InFlow.States.{Around}
 use Rattle.yaml_laws.proofs.InFlow.KeyLines.{Fresh, requiring, KeepsPlace}
 use Rattle.yaml_laws.proofs.Flow.Names.{begins_anchor, begins_alias}

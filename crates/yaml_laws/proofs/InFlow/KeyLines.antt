@@ -1,8 +1,6 @@
 -- Tokens on the line of a key at block level: the scanner keeps the place where the key begins.
-use Rattle.yaml_laws.proofs.Common.{Bool, List, Ok, [], ap, arith, false, length, refl, slice_index, suc, true, ℕ, ◌++◌, ◌+◌, ◌∙◌, ◌∷◌, ◌≡◌, ◌≤◌, None, Option, Some, nat_le, nat_lt, not, ◌&&◌, ◌-◌, ◌==◌, nat_tests, is_blank, Marker, Cursor, along, ◌>>=◌, AreIn, Kind, GapEnd, end_of_gap, stop, Place, Candidate, Level, State, after_step, on_core, LeadsTo, onward, stay, cursor_at, le_next, no_return, le-leb, queue_of, token_place, Core, StepResult}
-use Rattle.std.proofs.Math.Nat.{zero-add}
+use Rattle.yaml_laws.proofs.Common.{Bool, List, Ok, [], ap, arith, false, length, refl, slice_index, suc, true, ℕ, ◌++◌, ◌+◌, ◌∙◌, ◌∷◌, ◌≡◌, ◌≤◌, None, Option, Some, nat_le, nat_lt, not, ◌&&◌, ◌-◌, ◌==◌, nat_tests, is_blank, Marker, Cursor, along, ◌>>=◌, AreIn, Kind, GapEnd, end_of_gap, stop, Place, Candidate, Level, State, after_step, on_core, LeadsTo, onward, stay, cursor_at, le_next, no_return, le-leb, queue_of, token_place, Core, StepResult, zero-add, gap_here, stop_here}
 use Rattle.saphyr_scanner.specs.declared.engine.level.Context.TheVariants as context
-use Rattle.saphyr_scanner.specs.Steps.Gap.{gap_here}
 use Rattle.saphyr_scanner.specs.Steps.Core.{is_too_far, drop_far_key, from_to, completed_step}
 use Rattle.saphyr_scanner.specs.Steps.Passing.{pass_gap, check_comment, behind_gap}
 use Rattle.saphyr_scanner.specs.Steps.Unrolling.{unroll}
@@ -11,7 +9,6 @@ use Rattle.yaml_laws.proofs.InFlow.States.{Around, core_at, state_at, least, rea
 use Rattle.yaml_laws.proofs.Flow.States.{moved, IsContentStart}
 use Rattle.yaml_laws.proofs.Flow.Fillers.{blanks_past}
 use Rattle.yaml_laws.proofs.Flow.Tokens.{BeginsToken}
-use Rattle.saphyr_scanner.proofs.Gaps.{stop_here}
 
 -- ## A key is kept on its line
 

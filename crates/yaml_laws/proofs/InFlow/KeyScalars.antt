@@ -1,5 +1,5 @@
 -- The content of a key on one line at block level: plain and quoted scalars.
-use Rattle.yaml_laws.proofs.Common.{Bool, List, Ok, [], ap, append-nil, arith, encode_utf8_all, false, inl, length, refl, slice_index, sym, true, ℕ, ◌++◌, ◌∙◌, ◌∷◌, ◌≡◌, ◌≢◌, ◌≤◌, None, Option, Some, ◌==◌, is_blank, is_blank_or_breakz, Marker, Quote, Double, Single, Cursor, along, mark, plain_value, mid_line, AreIn, cursor_at, EndsPlain, IsPlainText, is_tabbed, past_white, Kind, scalar_token, Place, completed_step, from_to, Candidate, Level, State, DoubleQuoted, Folded, Literal, Plain, SingleQuoted, Style, IsFlowScalar, IsPlainKey, IsQuoted, eq-eqb, apostrophe, colon, number_sign, clash}
+use Rattle.yaml_laws.proofs.Common.{Bool, List, Ok, [], ap, append-nil, arith, encode_utf8_all, false, inl, length, refl, slice_index, sym, true, ℕ, ◌++◌, ◌∙◌, ◌∷◌, ◌≡◌, ◌≢◌, ◌≤◌, None, Option, Some, ◌==◌, is_blank, is_blank_or_breakz, Marker, Quote, Double, Single, Cursor, along, mark, plain_value, mid_line, AreIn, cursor_at, EndsPlain, IsPlainText, is_tabbed, past_white, Kind, scalar_token, Place, completed_step, from_to, Candidate, Level, State, DoubleQuoted, Folded, Literal, Plain, SingleQuoted, Style, IsFlowScalar, IsPlainKey, IsQuoted, eq-eqb, apostrophe, colon, number_sign, clash, stop_here}
 use Rattle.saphyr_scalar.specs.Steps.Plain.{is_in_word, comment_of}
 use Rattle.saphyr_scanner.specs.declared.engine.level.Context.TheVariants as context
 use Rattle.saphyr_scanner.specs.Steps.Passing.{pass_gap, check_comment}
@@ -19,7 +19,6 @@ use Rattle.yaml_laws.proofs.Flow.Separates.{separates}
 use Rattle.yaml_laws.proofs.Flow.Quotes.{EndsQuotes, behind_step, quoted_step, quote_first}
 use Rattle.yaml_laws.proofs.Flow.Plains.{BeginsWord, word_begins, key_begins, token_begins, plain_step}
 use Rattle.yaml_laws.proofs.Flow.Words.{plain_text, key_text}
-use Rattle.saphyr_scanner.proofs.Gaps.{stop_here}
 use Rattle.yaml_laws.proofs.Flow.ContentStarts.{Begins, colon_content}
 
 -- the blanks between a key and its colon

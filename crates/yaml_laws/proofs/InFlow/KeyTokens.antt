@@ -1,11 +1,9 @@
 -- The tokens of a key on one line at block level, one after the other.
-use Rattle.yaml_laws.proofs.Common.{Bool, List, [], ap, append_assoc, arith, encode_utf8_all, false, inl, inr, length, refl, slice_index, subst, sym, true, ℕ, ◌++◌, ◌+◌, ◌∙◌, ◌∷◌, ◌≡◌, ◌≢◌, ◌≤◌, None, Option, Some, option_map, is_blank, is_break, Marker, Cursor, along, mid_line, AreIn, EndsTag, IsAnchorName, cursor_at, IsGap, Kind, alias_token, anchor_token, tag_token, Piece, Place, bare_place, Core, completed_step, from_to, Candidate, State, step, Tag, LeadsTo, leads_on, place_kinds, place_kinds_append, IsAlias, IsAnchor, IsOnLine}
-use Rattle.std.proofs.lemmas.List.{length-append}
+use Rattle.yaml_laws.proofs.Common.{Bool, List, [], ap, append_assoc, arith, encode_utf8_all, false, inl, inr, length, refl, slice_index, subst, sym, true, ℕ, ◌++◌, ◌+◌, ◌∙◌, ◌∷◌, ◌≡◌, ◌≢◌, ◌≤◌, None, Option, Some, option_map, is_blank, is_break, Marker, Cursor, along, mid_line, AreIn, EndsTag, IsAnchorName, cursor_at, IsGap, Kind, alias_token, anchor_token, tag_token, Piece, Place, bare_place, Core, completed_step, from_to, Candidate, State, step, Tag, LeadsTo, leads_on, place_kinds, place_kinds_append, IsAlias, IsAnchor, IsOnLine, length-append, IsTag}
 use Rattle.saphyr_scanner.specs.declared.engine.level.Context.TheVariants as context
 use Rattle.saphyr_scanner.specs.Grammar.Tokens as tokens
 use Rattle.saphyr_scanner.specs.Grammar.TokenGrammar as grammar
 use Rattle.saphyr_scanner.specs.Steps.Property as property
-use Rattle.yaml_laws.specs.Grammar.TagSpelling.{IsTag}
 use Rattle.yaml_laws.specs.Grammar.FlowNodes as yaml
 use Rattle.yaml_laws.proofs.InFlow.States.{Around, core_at, state_at, behind_key, moment}
 use Rattle.yaml_laws.proofs.InFlow.OnLine.{front_on_line, back_on_line, gap_of_blanks}

@@ -1,11 +1,7 @@
 -- A quoted scalar ends right of a column that its lines reach.
-use Rattle.yaml_laws.proofs.Common.{Bool, IsTrue, List, [], ap, arith, drop, false, inl, refl, slice_index, true, ℕ, ◌++◌, ◌+◌, ◌∷◌, ◌≡◌, ◌≤◌, ◌⊎◌, not, ◌==◌, false≢true, nat_tests, carriage_return, is_break, is_hex, line_feed, space, Marker, Quote, Double, Single, along, next_line, apostrophe, backslash, break_len, AreIn, le_next, back_in}
-use Rattle.scalar_laws.proofs.Breaks.Sides.{no_feed}
+use Rattle.yaml_laws.proofs.Common.{Bool, IsTrue, List, [], ap, arith, drop, false, inl, refl, slice_index, true, ℕ, ◌++◌, ◌+◌, ◌∷◌, ◌≡◌, ◌≤◌, ◌⊎◌, not, ◌==◌, false≢true, nat_tests, carriage_return, is_break, is_hex, line_feed, space, Marker, Quote, Double, Single, along, next_line, apostrophe, backslash, break_len, AreIn, le_next, back_in, no_feed, Item, IsText, closed, itself, broken, two_quotes, escaped, numbered, escaped_break, space_count, IsLine, LinesFit}
 use Rattle.saphyr_scalar.proofs.Readings.ItemsRead.{short_escape_no_feed}
-use Rattle.saphyr_scalar.specs.declared.values.Item.{Item}
 use Rattle.saphyr_scalar.specs.Spelling.OneLine.{IsNumber}
-use Rattle.saphyr_scalar.specs.Spelling.Quoted.{IsText, closed, itself, broken, two_quotes, escaped, numbered, escaped_break}
-use Rattle.scalar_laws.specs.Spelling.QuotedLines.{space_count, IsLine, LinesFit}
 use Rattle.saphyr_scanner.proofs.Taken.OnLine.{stands_unbroken}
 use Rattle.yaml_laws.proofs.Flow.States.{moved}
 use Rattle.yaml_laws.proofs.Flow.Places.{moved_append, right_along}

@@ -1,7 +1,5 @@
 -- The tabs and breaks that a plain scalar's reader passes after a scalar, where a token or the text's end is reached.
-use Rattle.yaml_laws.proofs.Common.{Bool, List, [], ap, arith, drop, false, inl, inr, refl, slice_index, sym, true, ℕ, ◌+◌, ◌∙◌, ◌∷◌, ◌≡◌, ◌≤◌, ◌⊎◌, if◌then◌else◌, nat_lt, not, ◌&&◌, ◌==◌, ◌||◌, nat_tests, is_blank, is_break, line_feed, is_blank_or_break, Marker, Cursor, along, next_line, behind_blanks, is_tabbed, past_white, reaches_tabbed, stands_behind_tab, blank_no_break, return_breaks, and_true_right, clash}
-use Rattle.std.specs.List.{prefix_len}
-use Rattle.saphyr_scalar.specs.Steps.Plain.{ends_line}
+use Rattle.yaml_laws.proofs.Common.{Bool, List, [], ap, arith, drop, false, inl, inr, refl, slice_index, sym, true, ℕ, ◌+◌, ◌∙◌, ◌∷◌, ◌≡◌, ◌≤◌, ◌⊎◌, if◌then◌else◌, nat_lt, not, ◌&&◌, ◌==◌, ◌||◌, nat_tests, is_blank, is_break, line_feed, is_blank_or_break, Marker, Cursor, along, next_line, behind_blanks, is_tabbed, past_white, reaches_tabbed, stands_behind_tab, blank_no_break, return_breaks, and_true_right, clash, prefix_len, ends_line}
 use Rattle.scalar_laws.proofs.Plain.Texts.{blanks_on}
 use Rattle.scalar_laws.proofs.Plain.White.{flag_on, tabbed_on, tabbed_stop, past_on, past_stop}
 use Rattle.yaml_laws.proofs.Flow.States.{is_filler_rest, past, EndsDocument, IsLeft}

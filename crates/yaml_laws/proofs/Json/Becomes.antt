@@ -1,6 +1,5 @@
 -- What a piece of a text becomes where the text's breaks are normalized.
-use Rattle.yaml_laws.proofs.Common.{List, [], append_assoc, arith, false, refl, true, ℕ, ◌++◌, ◌∷◌, ◌≡◌, ◌==◌, nat_tests, normal_break, normalized, AreIn}
-use Rattle.yaml_laws.specs.Grammar.Json.{IsWhite, IsWhiteSpace}
+use Rattle.yaml_laws.proofs.Common.{List, [], append_assoc, arith, false, refl, true, ℕ, ◌++◌, ◌∷◌, ◌≡◌, ◌==◌, nat_tests, normal_break, normalized, AreIn, IsWhite, IsWhiteSpace}
 use Rattle.yaml_laws.proofs.Json.White.{is_white}
 use Rattle.yaml_laws.proofs.Json.Calm.{is_no_break}
 

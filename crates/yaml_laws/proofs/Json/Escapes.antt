@@ -1,9 +1,7 @@
 -- The escapes of JSON's strings are escapes of double quoted scalars.
-use Rattle.yaml_laws.proofs.Common.{IsTrue, List, arith, refl, ℕ, ◌*◌, ◌+◌, ◌<◌, ◌≡◌, ◌≤◌, Some, nat_tests, IsHex, hex_value, is_hex}
+use Rattle.yaml_laws.proofs.Common.{IsTrue, List, arith, refl, ℕ, ◌*◌, ◌+◌, ◌<◌, ◌≡◌, ◌≤◌, Some, nat_tests, IsHex, hex_value, is_hex, IsSurrogate, IsJsonEscape, IsCode}
 use Rattle.saphyr_scalar.specs.Values.Escapes.{is_scalar_value, short_escape}
 use Rattle.saphyr_scalar.specs.Spelling.OneLine as spelling
-use Rattle.saphyr_scanner.specs.Grammar.Characters.{IsSurrogate}
-use Rattle.yaml_laws.specs.Grammar.Json.{IsJsonEscape, IsCode}
 
 pub short_fits : (letter c : ℕ) → IsJsonEscape letter c → short_escape letter ≡ Some c
 unfolding short_escape

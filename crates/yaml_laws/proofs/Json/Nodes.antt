@@ -1,6 +1,5 @@
 -- Each value of JSON becomes a node in flow style, with white space round it: by one recursion on the tree.
-use Rattle.yaml_laws.proofs.Common.{Bool, IsTrue, List, [], append-nil, append_assoc, arith, codes, inl, inr, refl, suc, sym, true, ℕ, ◌++◌, ◌+◌, ◌∷◌, ◌≡◌, ◌≤◌, max, zero, AreIn, Alias, DoubleQuoted, Folded, Literal, Map, MoreNodes, MorePairs, NoNode, NoPair, Node, Nodes, Pairs, Plain, Properties, Scalar, Seq, SingleQuoted, no_properties, open_collections, open_in_nodes, open_in_pairs, AreFlowPairs, AreItems, AreOtherFlowPairs, AreOtherItems, IsFlowNode}
-use Rattle.yaml_laws.specs.Grammar.Json.{IsWhiteSpace, IsStructural, IsMemberName, IsValue, AreElements, AreOtherElements, AreMembers, AreOtherMembers, IsString, IsWord}
+use Rattle.yaml_laws.proofs.Common.{Bool, IsTrue, List, [], append-nil, append_assoc, arith, codes, inl, inr, refl, suc, sym, true, ℕ, ◌++◌, ◌+◌, ◌∷◌, ◌≡◌, ◌≤◌, max, zero, AreIn, Alias, DoubleQuoted, Folded, Literal, Map, MoreNodes, MorePairs, NoNode, NoPair, Node, Nodes, Pairs, Plain, Properties, Scalar, Seq, SingleQuoted, no_properties, open_collections, open_in_nodes, open_in_pairs, AreFlowPairs, AreItems, AreOtherFlowPairs, AreOtherItems, IsFlowNode, IsWhiteSpace, IsStructural, IsMemberName, IsValue, AreElements, AreOtherElements, AreMembers, AreOtherMembers, IsString, IsWord}
 use Rattle.yaml_laws.proofs.Json.WordCharacters.{word_safe}
 use Rattle.yaml_laws.proofs.Json.White.{is_white}
 use Rattle.yaml_laws.proofs.Json.Calm.{IsCalm, is_no_break}

@@ -1,6 +1,5 @@
 -- A text of JSON is a text of YAML's grammar: its value is the node of a bare document, in flow style.
-use Rattle.yaml_laws.proofs.Common.{List, [], ap, append-nil, append_assoc, false, inl, inr, refl, sym, true, ℕ, ◌++◌, ◌∙◌, ◌∷◌, ◌≡◌, ◌≤◌, normalized, AreIn, Alias, Forest, Map, Node, Scalar, Seq, bare, open_collections, open_in_forest, AtStart, IsBlockNode, IsFlowInBlock, IsFlowNode, IsYaml, IsYamlText, has_marker, no_prefix}
-use Rattle.yaml_laws.specs.Grammar.Json.{IsJsonText, IsJson}
+use Rattle.yaml_laws.proofs.Common.{List, [], ap, append-nil, append_assoc, false, inl, inr, refl, sym, true, ℕ, ◌++◌, ◌∙◌, ◌∷◌, ◌≡◌, ◌≤◌, normalized, AreIn, Alias, Forest, Map, Node, Scalar, Seq, bare, open_collections, open_in_forest, AtStart, IsBlockNode, IsFlowInBlock, IsFlowNode, IsYaml, IsYamlText, has_marker, no_prefix, IsJsonText, IsJson}
 use Rattle.yaml_laws.proofs.Json.White.{is_white, white_gap, white_ends}
 use Rattle.yaml_laws.proofs.Json.Calm.{IsCalm, calm_both, white_calm}
 use Rattle.yaml_laws.proofs.Json.Becomes.{Becomes, Both, become_both, white_both, white_becomes}

@@ -1,7 +1,5 @@
 -- The characters of a word of JSON: each goes on with a plain scalar, and the first may begin one.
-use Rattle.yaml_laws.proofs.Common.{IsTrue, List, [], arith, codes, inl, inr, refl, ℕ, ◌++◌, ◌∷◌, ◌≡◌, ◌⊎◌, nat_tests, hyphen, IsDigit, AreIn, is_always_plain}
-use Rattle.saphyr_scanner.specs.Grammar.Characters.{AreAll}
-use Rattle.yaml_laws.specs.Grammar.Json.{IsInteger, IsFraction, IsExponent, IsJsonNumber, IsWord}
+use Rattle.yaml_laws.proofs.Common.{IsTrue, List, [], arith, codes, inl, inr, refl, ℕ, ◌++◌, ◌∷◌, ◌≡◌, ◌⊎◌, nat_tests, hyphen, IsDigit, AreIn, is_always_plain, AreAll, IsInteger, IsFraction, IsExponent, IsJsonNumber, IsWord}
 
 -- ## A word's characters
 

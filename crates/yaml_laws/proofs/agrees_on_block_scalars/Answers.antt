@@ -1,6 +1,4 @@
-use Rattle.std.proofs.Common.{ℕ, ◌<◌, List, length, encode_utf8_all, sym, ◌∙◌, ap, subst, arith}
-use Rattle.saphyr_scalar.specs.declared.values.Chomping.{Chomping}
-use Rattle.scalar_laws.specs.Spelling.Block.{IsHeader, digit_first, chomping_first, IsBlockScalar}
+use Rattle.yaml_laws.proofs.Common.{ℕ, ◌<◌, List, length, encode_utf8_all, sym, ◌∙◌, ap, subst, arith, Chomping, IsHeader, digit_first, chomping_first, IsBlockScalar}
 use Rattle.yaml_laws.proofs.agrees_on_block_scalars.Goals as goal
 
 -- a header begins its text

@@ -1,11 +1,6 @@
 use Rattle.std.proofs.Common.{◌≡◌, ◌<◌, ℕ, suc, ◌+◌, refl, List, [], ◌∷◌, length, slice_index, ap, ◌∙◌, arith}
-use Rattle.saphyr_input.specs.Classes.{is_break}
-use Rattle.saphyr_scalar.specs.declared.values.BlockStyle.{BlockStyle}
+use Rattle.yaml_laws.proofs.Common.{is_break, BlockStyle, along, mid_line, Marker, block_indicator}
 use Rattle.saphyr_scalar.specs.declared.values.BlockStyle.TheVariants as block_style
-use Rattle.saphyr_scalar.specs.Views.Cursor.{along}
-use Rattle.saphyr_scalar.specs.Steps.Quoted.{mid_line}
-use Rattle.saphyr_scalar.specs.declared.scalar.position.Marker.{Marker}
-use Rattle.saphyr_scanner.specs.TokensTaken.{block_indicator}
 use Rattle.yaml_laws.proofs.Breaks.Cores.{Laws}
 use Rattle.yaml_laws.proofs.Breaks.Forward.{Forwards, forward_plain, forward_passed, line_forward, break_forward}
 use Rattle.yaml_laws.proofs.Breaks.Runs.{scans_same}

@@ -1,25 +1,14 @@
 -- Collections in brackets and braces after their properties, and given how their entries are read.
-use Rattle.std.proofs.Common.{◌≡◌, ℕ, suc, ◌+◌, ◌≤◌, Bool, false, List, [], ◌∷◌, ◌++◌, length, arith, append_assoc, IsTrue}
-use Rattle.std.specs.List.{list_all}
-use Rattle.saphyr_input.specs.Classes.{is_blank}
-use Rattle.saphyr_scalar.specs.declared.scalar.position.Marker.{Marker}
-use Rattle.saphyr_scanner.specs.declared.engine.level.Context.{Context}
-use Rattle.saphyr_scanner.specs.Grammar.Tokens.{Kind}
+use Rattle.yaml_laws.proofs.Common.{◌≡◌, ℕ, suc, ◌+◌, ◌≤◌, Bool, false, List, [], ◌∷◌, ◌++◌, length, arith, append_assoc, IsTrue, list_all, is_blank, Marker, Context, Kind, is_block, Properties, Node, Seq, Map, Nodes, Pairs, most_open, allows_adjacent, IsOpening, IsFlowNode, AreItems, AreFlowPairs, level_of, clash}
 use Rattle.saphyr_scanner.specs.Grammar.TokenGrammar as grammar
-use Rattle.saphyr_scanner.specs.Steps.Level.{is_block}
-use Rattle.saphyr_scanner.specs.Grammar.Forest.{Properties, Node, Seq, Map, Nodes, Pairs}
-use Rattle.saphyr_scanner.specs.Limits.{most_open}
-use Rattle.yaml_laws.specs.Grammar.FlowNodes.{allows_adjacent, IsOpening, IsFlowNode, AreItems, AreFlowPairs}
 use Rattle.yaml_laws.proofs.InFlow.States.{Around, Calm, FlowMoment}
 use Rattle.yaml_laws.proofs.Flow.States.{moved, ReaderPromises, Follows, follows_inside, follows_outside, ReadsText}
 use Rattle.yaml_laws.proofs.Flow.Pieces.{fits_front, fits_back, fits_so, parted_by, behind_so}
 use Rattle.yaml_laws.proofs.Flow.Collections.{EndsAt, Brackets, AreBrackets, square, curly, are_square, are_curly, bracket_text, RunsInside, brackets_pass, ends_inside, ends_root, AreBracketed}
 use Rattle.yaml_laws.proofs.Flow.Items.{ReadsEntries}
-use Rattle.saphyr_scanner.proofs.Levels.{level_of}
 use Rattle.yaml_laws.proofs.Flow.Joins.{mapped}
 use Rattle.yaml_laws.proofs.Flow.Fronts.{behind_front}
 use Rattle.yaml_laws.proofs.Flow.Quotes.{ends_node_content}
-use Rattle.saphyr_input.proofs.Basics.Booleans.{clash}
 
 -- ## The text of a collection
 

@@ -1,8 +1,5 @@
 -- No document marker begins a line of directives.
-use Rattle.yaml_laws.proofs.Common.{List, [], arith, encode_utf8_all, false, refl, slice_index, subst, sym, ℕ, ◌++◌, ◌||◌, ◌∷◌, ◌≡◌, ◌==◌, nat_tests, is_alpha, exclamation_mark, percent_sign, Directive, Reserved, TagPrefix, Version, AreDirectives, IsDirective}
-use Rattle.saphyr_scalar.specs.Spelling.Directive.{ReadDirective, version, tag_prefix, reserved, AreSomeBlanks, IsTagDirective, IsReadTagDirective, IsReadDirective, IsLineTail}
-use Rattle.saphyr_scalar.proofs.NoBreaks.{NoBreaks, no_breaks_both, directive_no_break}
-use Rattle.saphyr_scanner.proofs.LineTexts.{tail_no_break}
+use Rattle.yaml_laws.proofs.Common.{List, [], arith, encode_utf8_all, false, refl, slice_index, subst, sym, ℕ, ◌++◌, ◌||◌, ◌∷◌, ◌≡◌, ◌==◌, nat_tests, is_alpha, exclamation_mark, percent_sign, Directive, Reserved, TagPrefix, Version, AreDirectives, IsDirective, ReadDirective, version, tag_prefix, reserved, AreSomeBlanks, IsTagDirective, IsReadTagDirective, IsReadDirective, IsLineTail, NoBreaks, no_breaks_both, directive_no_break, tail_no_break}
 use Rattle.yaml_laws.proofs.InBlock.Skips.{nothing, one_break, filler_skipped}
 use Rattle.yaml_laws.proofs.InBlock.LineStarts.{IsUnmarked, both_unmarked, line_unmarked, skipped_unmarked}
 
