@@ -1,5 +1,5 @@
 -- A claim on tokens and the parts that they stand for: where it holds of the pieces of a forest, it holds of the whole.
-use Rattle.event_laws.proofs.Common.{◌≡◌, ◌⊎◌, ℕ, Bool, true, false, List, [], ◌∷◌, ◌++◌, map, Option, Some, None, option_map, encode_utf8_all, refl, sym, ap, subst, inl, inr, append_assoc, append-nil, arith, Kind, alias_token, anchor_token, tag_token, scalar_token, directive_token, Context, InFlow, InBlock, InBlockMapping, AreBoth, YieldProperties, YieldsScalar, YieldsOptional, YieldsMarkedKey, YieldsMarkedValue, YieldsMarkedPair, YieldsSinglePair, YieldsFlowPair, YieldsBlockPair, IsListEnd, YieldsNode, YieldsPairEntry, YieldFlowEntries, YieldOtherFlowEntries, YieldFlowPairs, YieldOtherFlowPairs, YieldBlockEntries, YieldBlockPairs, YieldsDocument, AreMarks, AreEndsAndMarks, YieldsBehindDocument, YieldDocuments, Yields, anchor_of, Part, OpenStream, CloseStream, OpenDocument, CloseDocument, Reference, Leaf, OpenSequence, CloseSequence, OpenMapping, CloseMapping, node_parts, entry_parts, pair_parts, document_parts, parts}
+use Rattle.event_laws.proofs.Common.{◌≡◌, ◌⊎◌, ℕ, Bool, true, false, List, [], ◌∷◌, ◌++◌, map, Option, Some, None, option_map, encode_utf8_all, refl, sym, ap, subst, inl, inr, append_assoc, append-nil, arith, Kind, alias_token, anchor_token, tag_token, directive_token, Context, InFlow, InBlock, InBlockMapping, AreBoth, YieldProperties, YieldsScalar, YieldsOptional, YieldsMarkedKey, YieldsMarkedValue, YieldsMarkedPair, YieldsSinglePair, YieldsFlowPair, YieldsBlockPair, IsListEnd, YieldsNode, YieldsPairEntry, YieldFlowEntries, YieldOtherFlowEntries, YieldFlowPairs, YieldOtherFlowPairs, YieldBlockEntries, YieldBlockPairs, YieldsDocument, AreMarks, AreEndsAndMarks, YieldsBehindDocument, YieldDocuments, Yields, anchor_of, Part, OpenStream, CloseStream, OpenDocument, CloseDocument, Reference, Leaf, OpenSequence, CloseSequence, OpenMapping, CloseMapping, node_parts, entry_parts, pair_parts, document_parts, parts}
 use Rattle.saphyr_scanner.specs.Grammar.Forest.{Tag, Directive, Properties, no_properties, Style, Plain, Node, Alias, Scalar, Seq, Map, Nodes, NoNode, MoreNodes, Pairs, NoPair, MorePairs, left_out, Document, Forest}
 use Rattle.saphyr_scanner.specs.Grammar.Tokens as tokens
 use Rattle.saphyr_scanner.specs.Grammar.TokenGrammar as grammar

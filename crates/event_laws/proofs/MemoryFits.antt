@@ -1,9 +1,9 @@
 -- What a machine remembers agrees with what the parts before tell, so its events are those of the forest.
-use Rattle.event_laws.proofs.Common.{◌≡◌, ℕ, suc, ◌+◌, ◌^◌, ◌<◌, Bool, true, false, List, [], ◌∷◌, Option, Some, None, option_map, encode_utf8_all, refl, sym, ap, ◌∙◌, arith, if◌then◌else◌, option_or, bytes_eq, bytes_eq-Decides, Handle, handle_bytes, Tag, Properties, Directive, Version, TagPrefix, Reserved, GoesWithAll, AreCompatible, Part, OpenStream, CloseStream, OpenDocument, CloseDocument, Reference, Leaf, OpenSequence, CloseSequence, OpenMapping, CloseMapping, opens_document, Happening, ResolvedTag, Scalar, SequenceStart, MappingStart, anchor_of, one_more_anchor, anchors, is_named, latest_id, prefix_in, prefix_declared_for, event_of_part, events_behind, Names, meaning, with_meaning, next_id}
+use Rattle.event_laws.proofs.Common.{◌≡◌, ℕ, suc, ◌+◌, ◌^◌, ◌<◌, Bool, true, false, List, [], ◌∷◌, Option, Some, None, option_map, encode_utf8_all, refl, sym, ap, ◌∙◌, arith, if◌then◌else◌, option_or, bytes_eq, bytes_eq-Decides, Handle, handle_bytes, Properties, Directive, Version, TagPrefix, Reserved, GoesWithAll, AreCompatible, Part, OpenStream, CloseStream, OpenDocument, CloseDocument, Reference, Leaf, OpenSequence, CloseSequence, OpenMapping, CloseMapping, opens_document, Happening, ResolvedTag, Scalar, SequenceStart, MappingStart, anchor_of, one_more_anchor, anchors, is_named, latest_id, prefix_in, prefix_declared_for, event_of_part, events_behind, Names, meaning, with_meaning, next_id}
 use Rattle.event_laws.specs.Anchors as part
 use Rattle.event_laws.specs.TagResolution as tag
 use Rattle.event_laws.proofs.Emitted.Emitting.{Memory}
-use Rattle.event_laws.proofs.Remembering.{noted, declaring, after, own_id_in, resolve_any, with_properties, event_in, events_in}
+use Rattle.event_laws.proofs.Remembering.{noted, declaring, after, with_properties, event_in, events_in}
 use Rattle.event_laws.proofs.NameLaws.{different, given_meaning}
 
 -- inside a document

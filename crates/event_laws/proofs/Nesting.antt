@@ -1,10 +1,10 @@
 -- The events of a forest nest, and so do those that are taken from a text.
-use Rattle.event_laws.proofs.Common.{◌≡◌, Bool, List, [], ◌∷◌, ◌++◌, Option, Some, None, option_map, option_and_then, refl, sym, ap, ◌∙◌, append_assoc, ℕ, arith, Span, Part, node_parts, entry_parts, pair_parts, document_parts, Happening, event_of_part, first_and_others, events_behind, Ending, Answer, IsCut, AreTaken}
+use Rattle.event_laws.proofs.Common.{◌≡◌, Bool, List, [], ◌∷◌, ◌++◌, Option, Some, None, option_map, option_and_then, refl, sym, ap, ◌∙◌, append_assoc, ℕ, arith, Part, node_parts, entry_parts, pair_parts, document_parts, Happening, event_of_part, first_and_others, events_behind, Ending, Answer, IsCut, AreTaken}
 use Rattle.saphyr_scanner.specs.Grammar.Forest.{Node, Alias, Scalar, Seq, Map, Nodes, NoNode, MoreNodes, Pairs, NoPair, MorePairs, Forest}
 use Rattle.event_laws.specs.Preorder as parts
 use Rattle.saphyr_machine.specs.Events as events
 use Rattle.event_laws.specs.ForestEvents as forests
-use Rattle.event_laws.specs.Nesting.{NestPlace, InStream, BeforeRoot, BehindRoot, InSequence, BeforeKey, BeforeValue, Nest, nest_before_stream, nest_behind_stream, place_behind_node, with_next_place, nest_inside, nest_behind_event, nest_behind_all, happenings, IsWhole, IsNested, BeginsStream, IsAtStart}
+use Rattle.event_laws.specs.Nesting.{NestPlace, InStream, BeforeRoot, BehindRoot, InSequence, BeforeKey, BeforeValue, Nest, nest_before_stream, nest_behind_stream, place_behind_node, with_next_place, nest_inside, nest_behind_event, nest_behind_all, IsWhole, IsNested, IsAtStart}
 
 -- ## Steps
 

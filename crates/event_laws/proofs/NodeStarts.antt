@@ -1,5 +1,5 @@
 -- Which token a node begins with, and which may come after it.
-use Rattle.event_laws.proofs.Common.{◌≡◌, ◌≢◌, ℕ, Bool, true, false, arith, List, [], ◌∷◌, ◌++◌, Option, option_map, refl, ◌∙◌, ◌⊎◌, inl, inr, append_assoc, Span, Tag, NonSpecific, HasOne, HasProperty, Properties, Node, Nodes, NoNode, MoreNodes, Kind, alias_token, anchor_token, tag_token, scalar_token, InFlow, InBlock, InBlockMapping, AllowsBlock, IsInBlockMapping, AreBoth, YieldsOptional, YieldsNode, Piece, NodeContext, Flow, Block, BlockMapping, State, End, Part, Leaf, node_parts, Machine, emit, empty_scalar, node_without_content, node_content_at, event_step}
+use Rattle.event_laws.proofs.Common.{◌≡◌, ◌≢◌, ℕ, Bool, true, false, arith, List, [], ◌∷◌, ◌++◌, Option, option_map, refl, ◌∙◌, ◌⊎◌, inl, inr, append_assoc, Span, Tag, HasOne, HasProperty, Properties, Node, Nodes, NoNode, MoreNodes, Kind, alias_token, anchor_token, tag_token, InFlow, InBlock, InBlockMapping, AllowsBlock, IsInBlockMapping, AreBoth, YieldsOptional, YieldsNode, Piece, NodeContext, Flow, Block, BlockMapping, State, End, Part, Leaf, node_parts, Machine, emit, empty_scalar, node_without_content, node_content_at, event_step}
 use lib.Utf8.{encode}
 use Rattle.saphyr_scanner.specs.Grammar.Forest as forest
 use Rattle.saphyr_scanner.specs.Grammar.Tokens as tokens

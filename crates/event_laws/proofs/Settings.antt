@@ -1,6 +1,6 @@
 -- Whether prefixes of tags are kept counts at the end of a document alone: every other step leaves the same with
 -- each value.
-use Rattle.event_laws.proofs.Common.{◌≡◌, ◌≢◌, Bool, Option, Result, Ok, Err, refl, ap, ◌∙◌, inl, inr, arith, Span, Refusal, Kind, Piece, Remaining, State, Happening, ◌>>=◌, Machine, Emitted, ending_refusal, EventCursor, Kept, keeping_tags, Advances, Beside, Left, EmitsAlike, behind_by, steps_alike}
+use Rattle.event_laws.proofs.Common.{◌≡◌, ◌≢◌, Bool, Option, Result, Ok, Err, refl, ap, ◌∙◌, inl, inr, arith, Span, Refusal, Remaining, State, Happening, Machine, Emitted, ending_refusal, EventCursor, Kept, keeping_tags, Advances, Beside, Left, EmitsAlike, behind_by, steps_alike}
 use Rattle.saphyr_machine.specs.declared.state.State.TheVariants as state
 use Rattle.saphyr_machine.specs.Events as events
 use Rattle.saphyr_machine.specs.Steps.Documents as document

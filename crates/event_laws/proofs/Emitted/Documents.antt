@@ -1,5 +1,5 @@
 -- Documents and streams are told.
-use Rattle.event_laws.proofs.Common.{◌≡◌, ◌≢◌, true, false, List, [], ◌∷◌, ◌++◌, map, Some, Result, refl, ap, ◌∙◌, ◌⊎◌, inl, inr, arith, IsTrue, Refusal, Node, Directive, Version, TagPrefix, Reserved, Document, Forest, AreCompatible, Kind, VersionDirective, StreamEnd, DocumentStart, DocumentEnd, ByteOrderMark, directive_token, InBlock, YieldsOptional, YieldsNode, YieldsExplicitDocument, YieldsDocument, AreMarks, AreEndsAndMarks, YieldsBehindDocument, YieldDocuments, Piece, Block, State, Part, CloseStream, OpenDocument, node_parts, empty_scalar, ◌>>=◌, Machine, Emitted, emit}
+use Rattle.event_laws.proofs.Common.{◌≡◌, ◌≢◌, true, false, List, [], ◌∷◌, ◌++◌, map, Result, refl, ap, ◌∙◌, ◌⊎◌, inl, inr, arith, IsTrue, Refusal, Node, Directive, Version, TagPrefix, Reserved, Document, Forest, AreCompatible, Kind, VersionDirective, StreamEnd, DocumentStart, DocumentEnd, ByteOrderMark, directive_token, InBlock, YieldsOptional, YieldsNode, YieldsDocument, AreMarks, AreEndsAndMarks, YieldsBehindDocument, YieldDocuments, Piece, Block, State, Part, CloseStream, OpenDocument, node_parts, empty_scalar, ◌>>=◌, Machine, Emitted, emit}
 use Rattle.saphyr_machine.specs.declared.state.State.TheVariants as state
 use Rattle.saphyr_machine.specs.Events as events
 use Rattle.saphyr_machine.specs.Steps.Documents.{is_end_or_mark, directives, none_declared, explicit_document_at, explicit_document, bare_document, implicit_start_at, implicit_start, explicit_start_at, explicit_start, document_content}

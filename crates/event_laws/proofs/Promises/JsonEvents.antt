@@ -1,6 +1,6 @@
 -- A text of JSON has events, since its forest has no aliases, anchors and tags.
 use Rattle.event_laws.proofs.Common.{◌≡◌, ℕ, Bool, List, [], ◌∷◌, ◌++◌, Option, Some, None, option_map, encode_utf8_all, refl, ap, arith, IsMemberName, IsValue, AreElements, AreOtherElements, AreMembers, AreOtherMembers, IsJson, Part, CloseStream, CloseDocument, Reference, Leaf, OpenSequence, CloseSequence, OpenMapping, CloseMapping, node_parts, entry_parts, pair_parts, parts, Happening, Scalar, SequenceStart, MappingStart, anchors, own_id, any_resolution, event_of_part, events_behind, events}
-use Rattle.saphyr_scanner.specs.Grammar.Forest.{Plain, SingleQuoted, DoubleQuoted, Literal, Folded, Properties, no_properties, Node, Alias, Nodes, NoNode, MoreNodes, Pairs, NoPair, MorePairs, Forest}
+use Rattle.saphyr_scanner.specs.Grammar.Forest.{Plain, DoubleQuoted, Properties, Node, Nodes, NoNode, MoreNodes, Pairs, NoPair, MorePairs, Forest}
 use Rattle.saphyr_scanner.specs.Grammar.Forest as forest
 use Rattle.event_laws.proofs.BareParts.{IsBarePart, AreBare, bare_anchors}
 

@@ -1,6 +1,6 @@
 -- The content of a node is turned, after its properties.
 use Rattle.event_laws.proofs.OwnTokens.{HasOwn, whole, Shape, StartsAt, content_spans, content_is, alone_is}
-use Rattle.event_laws.proofs.Common.{AreContentTokens, SpansAll, IsOf, ◌≡◌, ◌≤◌, ℕ, Bool, true, false, List, [], ◌∷◌, ◌++◌, length, Option, Some, option_map, encode_utf8_all, Ok, Err, refl, sym, ◌∙◌, inr, append_assoc, arith, length-append, if◌then◌else◌, Span, ScalarStyle, Plain, Refusal, HasOne, Tag, Node, Pairs, NoPair, MorePairs, Kind, Piece, YieldProperties, YieldsScalar, YieldsBlockPair, YieldBlockPairs, NodeContext, BlockMapping, State, one_more_anchor, anchors, Part, Leaf, Happening, ResolvedTag, Scalar, kinds, NodeProperties, span_up_to, has_property, node_without_content}
+use Rattle.event_laws.proofs.Common.{AreContentTokens, SpansAll, IsOf, ◌≡◌, ◌≤◌, ℕ, Bool, true, false, List, [], ◌∷◌, ◌++◌, length, Option, Some, option_map, encode_utf8_all, Ok, Err, refl, sym, ◌∙◌, inr, append_assoc, arith, length-append, if◌then◌else◌, Span, ScalarStyle, Plain, Refusal, HasOne, Tag, Kind, Piece, YieldProperties, YieldsScalar, NodeContext, BlockMapping, State, one_more_anchor, anchors, Part, Leaf, Happening, ResolvedTag, Scalar, kinds, NodeProperties, span_up_to, has_property, node_without_content}
 use Rattle.saphyr_scalar.specs.declared.scalar.fault.FaultText.TheVariants as fault
 use Rattle.saphyr_scanner.specs.Grammar.Forest as forest
 use Rattle.saphyr_scanner.specs.Grammar.TokenGrammar as grammar

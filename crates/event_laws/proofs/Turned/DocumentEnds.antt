@@ -1,13 +1,13 @@
 -- The steps at the content and the end of documents are turned.
 use Rattle.event_laws.proofs.OwnTokens.{ArePassed}
-use Rattle.event_laws.proofs.Common.{BelongsToNone, ◌≡◌, Bool, true, false, List, [], ◌∷◌, ◌++◌, map, Option, Result, Ok, Err, refl, sym, ap, ◌∙◌, ◌⊎◌, inl, inr, append_assoc, append-nil, arith, if◌then◌else◌, Marker, Span, Refusal, Directive, Version, TagPrefix, Reserved, Forest, Kind, directive_token, Piece, InBlock, AreMarks, AreEndsAndMarks, YieldDocuments, Block, State, Part, CloseDocument, kinds, ◌>>=◌, Machine, with_pieces, node}
+use Rattle.event_laws.proofs.Common.{BelongsToNone, ◌≡◌, Bool, true, false, List, [], ◌∷◌, ◌++◌, map, Option, Result, Ok, Err, refl, sym, ap, ◌∙◌, ◌⊎◌, inl, inr, append_assoc, append-nil, arith, if◌then◌else◌, Marker, Span, Refusal, Directive, Version, TagPrefix, Reserved, Forest, Kind, directive_token, Piece, InBlock, AreMarks, AreEndsAndMarks, YieldDocuments, State, Part, CloseDocument, kinds, ◌>>=◌, Machine, with_pieces, node}
 use Rattle.saphyr_scanner.specs.Grammar.Tokens as tokens
 use Rattle.saphyr_machine.specs.declared.state.State.TheVariants as state
 use Rattle.saphyr_machine.specs.Steps.Block.{block_node}
 use Rattle.saphyr_machine.specs.Steps.Documents.{is_mark, unpassed_token_from, unpassed_token, no_content, document_content_at, document_content, token_behind_marks_at, token_behind_marks, token_behind_document_at, token_behind_document, without_prefixes, document_end_at, document_end}
 use Rattle.event_laws.proofs.Emitted.Emitting.{Memory}
 use Rattle.event_laws.proofs.Turned.Following.{Then, IsNodeOf, IsOptionalOf, AreExplicit, Outside, IsFree, BeginsFreely}
-use Rattle.event_laws.proofs.Turned.Turning.{piece_of, machine, Turned, weaker}
+use Rattle.event_laws.proofs.Turned.Turning.{machine, Turned, weaker}
 use Rattle.event_laws.proofs.Turned.Content.{split, taken_one}
 use Rattle.event_laws.proofs.Turned.Nodes.{node_turned}
 use Rattle.event_laws.proofs.Turned.Entries.{Turns, TurnsBehind, TurnsAt, by_token, skip_optional, some_node}

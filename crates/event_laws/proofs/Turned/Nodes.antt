@@ -1,6 +1,6 @@
 -- A node is turned, with its properties.
 use Rattle.event_laws.proofs.OwnTokens.{HasOwn, whole, StartsAt, content_spans, content_is, no_opening}
-use Rattle.event_laws.proofs.Common.{IsTagKind, ◌≡◌, ℕ, List, [], ◌∷◌, ◌++◌, Option, Some, None, option_map, encode_utf8_all, Result, Ok, Err, refl, sym, ap, subst, ◌⊎◌, inl, inr, append_assoc, arith, Marker, Span, ScalarStyle, Refusal, Tag, Nodes, Kind, tag_token, Piece, InBlockMapping, YieldBlockEntries, HasNode, NodeContext, BlockMapping, State, Part, Reference, OpenSequence, CloseSequence, OpenMapping, CloseMapping, entry_parts, kinds, ◌>>=◌, Machine, Emitted, taken_token, meaning, next_id, if◌then◌else◌, resolved_tag_at, IsWellFormed, AreWellFormed}
+use Rattle.event_laws.proofs.Common.{◌≡◌, ℕ, List, [], ◌∷◌, ◌++◌, Option, Some, None, option_map, encode_utf8_all, Result, Ok, Err, refl, sym, ap, subst, ◌⊎◌, inl, inr, append_assoc, arith, Marker, Span, ScalarStyle, Refusal, Tag, Nodes, Kind, tag_token, Piece, InBlockMapping, YieldBlockEntries, HasNode, NodeContext, BlockMapping, State, Part, Reference, OpenSequence, CloseSequence, OpenMapping, CloseMapping, entry_parts, kinds, ◌>>=◌, Machine, Emitted, taken_token, meaning, next_id, if◌then◌else◌, resolved_tag_at, IsWellFormed, AreWellFormed}
 use Rattle.saphyr_scanner.specs.Grammar.Forest as forest
 use Rattle.saphyr_scanner.specs.Grammar.Tokens as tokens
 use Rattle.saphyr_scanner.specs.Grammar.TokenGrammar as grammar

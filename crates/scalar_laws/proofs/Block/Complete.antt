@@ -1,6 +1,6 @@
 -- Where a block scalar is spelled, it is read.
 use Rattle.std.proofs.Common.{◌≡◌, ◌≢◌, ℕ, zero, suc, ◌+◌, ◌<◌, ◌≤◌, Bool, true, false, List, [], ◌∷◌, ◌++◌, length, slice_index, max, Ok, refl, sym, ap, inl, inr, ◌∙◌, arith, subst, nat_eq, nat_lt, nat_le, encode_utf8_all}
-use Rattle.scalar_laws.proofs.Common.{◌&&◌, ◌==◌, Option, Some, None, unwrap_or, ◌⊎◌, nat_tests, is_break, is_z, is_yaml_non_break, is_document_indicator, BlockStyle, Chomping, Marker, Cursor, along, spaces, IsIndentation, IsBehind, IsBody, leading, first, first_and_last, AreEmptyLines, no_empty_lines, empty_line, empty_line_and_spaces, IsEmptyBody, empty_lines, spaces_alone, IsBlockScalar, IsTaken, Line, Empty, has_content, chomped_alone, lines_value, line_feeds, no_line_at, and_false, clash, by_test}
+use Rattle.scalar_laws.proofs.Common.{◌&&◌, ◌==◌, Option, Some, None, unwrap_or, ◌⊎◌, nat_tests, is_break, is_z, is_yaml_non_break, is_document_indicator, BlockStyle, Chomping, Marker, Cursor, along, spaces, IsIndentation, IsBehind, IsBody, first, AreEmptyLines, no_empty_lines, empty_line, empty_line_and_spaces, IsEmptyBody, empty_lines, spaces_alone, IsBlockScalar, IsTaken, Line, Empty, has_content, chomped_alone, lines_value, line_feeds, no_line_at, and_false, clash, by_test}
 use Rattle.saphyr_scalar.specs.declared.scalar.position.Span.{Span}
 use Rattle.saphyr_scalar.specs.Steps.Block.{BlockHeaderRead, EmptyLinesRead, pass_empty_lines, pass_empty_lines_at, between_at, tail, tail_alone, is_unfinished, is_indentation, line_starts, line_cursor, with_column, lines_ended, chomped_lines, content, behind_leading_lines, behind_header, block_scalar, header, no_lines, given_indentation, BlockScalarRead}
 use Rattle.saphyr_scalar.proofs.Block.Reads.{same_gift}
@@ -250,9 +250,7 @@ some_behind (suc j) c cs e = cc
 
 -- nothing comes after the header
 body_some : {i : ℕ} {is_given : Bool} {x : List ℕ} {ls : List Line} {t : List ℕ} → IsBody i is_given x ls t → t ≢ []
-body_some {i} (leading j ls t low h) e = some_behind j 10 t e
-body_some {i} (first c cs ls t some h k) e = some_behind i c (cs ++ (10 ∷ t)) e
-body_some {i} (first_and_last c cs some h k) e = some_behind i c cs e
+body_some {i} h e = grind (arith, some_behind)
 
 some_spaces : (j : ℕ) → 1 ≤ j → spaces j ≢ []
 some_spaces zero some e = omega arith

@@ -1,19 +1,15 @@
 -- Where the lines of a block scalar are, what is read has their value, with the breaks at their end.
-use Rattle.std.proofs.Common.{◌≡◌, ℕ, suc, ◌+◌, ◌<◌, ◌≤◌, Bool, true, false, List, [], ◌∷◌, ◌++◌, length, slice_index, refl, sym, ap, ◌∙◌, arith, append_assoc, ◌≢◌, zero, nat_eq, nat_lt, inl, inr}
-use Rattle.scalar_laws.proofs.Common.{◌&&◌, Option, Some, not, is_some, ◌⊎◌, nat_tests, append-nil, is_blank, line_feed, is_z, is_break, is_yaml_non_break, carriage_return, BlockStyle, Marker, Cursor, along, next_line, spaces, Chomping, Line, is_more_indented, contents_behind, empty_at_end, is_document_indicator, AreIn, along_none, along_more, line_begins, line_on, no_line_at, and_false, ne_eqb}
+use Rattle.std.proofs.Common.{◌≡◌, ℕ, suc, ◌+◌, ◌<◌, ◌≤◌, Bool, true, false, List, [], ◌∷◌, ◌++◌, length, slice_index, refl, sym, ap, ◌∙◌, arith, append_assoc, ◌≢◌, zero, inl, inr}
+use Rattle.scalar_laws.proofs.Common.{Option, Some, is_some, ◌⊎◌, nat_tests, append-nil, is_blank, line_feed, is_break, is_yaml_non_break, carriage_return, BlockStyle, Marker, Cursor, along, next_line, spaces, Chomping, Line, is_more_indented, contents_behind, empty_at_end, is_document_indicator, AreIn, along_none, along_more, line_begins, line_on, no_line_at, and_false, ne_eqb}
 use Rattle.saphyr_scalar.specs.Steps.Block.{line_cursor, break_before, LinesRead, lines_behind_text, between, tail, is_unfinished, is_indentation, line_starts, lines_ended, line}
 use Rattle.saphyr_scalar.proofs.Block.Values.{cut_tail, same_break}
 use Rattle.scalar_laws.specs.Spelling.Block.{IsContent, AreLines, no_lines, empty, content, last, last_empty, left_of, IsBehind}
 use Rattle.saphyr_scalar.specs.Values.Block as reading
 
--- the spaces of an indentation
-pub space_left : (i col : ℕ) → col < i → is_indentation (Some i) col 32 ≡ true
-space_left i col h = let left : nat_lt col i ≡ true = grind (arith, nat_tests) in rw left refl
-
 one_space : (st : BlockStyle) (i : ℕ) (ab : Option Bool) (k : ℕ) (b : Bool) (m : Marker) (t : List ℕ) → m.col < i
     → between st i ab k b m (32 ∷ t) ≡ between st i ab k b (along m 1) t
 unfolding between
-one_space st i ab k b m t h = rw (space_left i m.col h) refl
+one_space st i ab k b m t h = grind (arith, nat_tests)
 
 pub spaces_on : (st : BlockStyle) (i : ℕ) (ab : Option Bool) (k : ℕ) (b : Bool) (j : ℕ) (m : Marker) (t : List ℕ)
     → m.col + j ≤ i → between st i ab k b m (spaces j ++ t) ≡ between st i ab k b (along m j) t
@@ -67,17 +63,7 @@ pub none_starts : (i n : ℕ) (xs : List ℕ)
     → (n ≡ i → (is_yaml_non_break (slice_index xs 0) ≡ false) ⊎ ((i ≡ 0) × (is_document_indicator xs ≡ true)))
     → line_starts i n xs ≡ false
 unfolding line_starts
-none_starts i n xs h = by_column (nat_eq n i) refl
-  where
-    by_end : (is_yaml_non_break (slice_index xs 0) ≡ false) ⊎ ((i ≡ 0) × (is_document_indicator xs ≡ true))
-        → (is_yaml_non_break (slice_index xs 0) && not (nat_eq i 0 && is_document_indicator xs)) ≡ false
-    by_end (inl e) = rw e refl
-    by_end (inr e) = rw (e.0, e.1) (and_false (is_yaml_non_break (slice_index xs 0)))
-
-    by_column : (a : Bool) → nat_eq n i ≡ a
-        → (a && is_yaml_non_break (slice_index xs 0) && not (nat_eq i 0 && is_document_indicator xs)) ≡ false
-    by_column true e = by_end (h (grind (arith, nat_tests)))
-    by_column false e = refl
+none_starts i n xs h = grind (arith, and_false, nat_tests)
 
 pub no_break_at : (x : ℕ) → x ≢ line_feed → x ≢ carriage_return → is_break x ≡ false
 no_break_at x a d = rw (ne_eqb x 10 a, ne_eqb x 13 d) refl
@@ -156,15 +142,6 @@ lines_left st i n x ab k b m _ _ others col (left_of j less none) h =
 abbrev pub Value : Chomping → ℕ → LinesRead → List ℕ
 Value c i r = r.0 ++ tail c (is_unfinished i r.2) r.1
 
-ended_tail : (c : Chomping) (k : ℕ)
-    → tail c false (record { broken = true; empty_lines = k }) ≡ reading.chomped c true k
-ended_tail c k = grind arith
-
-not_unfinished : (i n : ℕ) (s : Cursor) → s.mark.col ≡ n → (is_z (slice_index s.rest 0) ≡ true → n ≡ 0)
-    → is_unfinished i s ≡ false
-unfolding is_unfinished
-not_unfinished i n s e h = grind arith
-
 unfinished : (i : ℕ) (s : Cursor) → i < s.mark.col → s.rest ≡ [] → is_unfinished i s ≡ true
 unfolding is_unfinished
 unfinished i s h e = grind arith
@@ -183,29 +160,15 @@ few_spaces st c i more k b j m col less = grind (arith, spaces_end)
 behind_value : (st : BlockStyle) (c : Chomping) (i : ℕ) (more : Bool) (k : ℕ) (b : Bool) (m : Marker) (n : ℕ)
     (x others : List ℕ) → m.col ≡ 0 → IsBehind i n x others
     → Value c i (between st i (Some more) k b m x) ≡ reading.chomped c true k
-behind_value st c i more k b m n x others col h =
-    cc (
-      behind_same st i (Some more) k b m n x others col h,
-      not_unfinished i n (line_cursor b (along m n) others) (omega arith) h.finished,
-      ended_tail c k,
-    )
+unfolding is_unfinished
+behind_value st c i more k b m n x others col h = grind (arith, behind_same)
 
 pub content_value : (st : BlockStyle) (c : Chomping) (i : ℕ) (ab : Option Bool) (k : ℕ) (b : Bool) (m : Marker) (x : ℕ)
     (cs t later : List ℕ) → m.col ≡ i → IsContent i x cs (line_feed ∷ t)
     → ((p : Marker) → p.col ≡ 0 → Value c i (between st i (Some (is_blank x)) 0 true p t) ≡ later)
     → Value c i (between st i ab k b m (x ∷ (cs ++ (line_feed ∷ t))))
     ≡ break_before st ab k (is_blank x) ++ ((x ∷ cs) ++ later)
-content_value st c i ab k b m x cs t later col h after =
-    let p = along m (length (x ∷ cs)) in
-    let bb = break_before st ab k (is_blank x) in
-    let r = between st i (Some (is_blank x)) 0 true (next_line p 1) t in
-    let same = begun_on st i ab k b m x cs (10 ∷ t) col h
-    ∙ ap (λ y. lines_behind_text bb (lines_behind_text (x ∷ cs) y)) (line_feed_on st i (is_blank x) b p t) in
-    cc (
-      append_assoc bb ((x ∷ cs) ++ r.0) (tail c (is_unfinished i r.2) r.1),
-      append_assoc (x ∷ cs) r.0 (tail c (is_unfinished i r.2) r.1),
-      after (next_line p 1) refl,
-    )
+content_value st c i ab k b m x cs t later col h after = grind (arith, begun_on, line_feed_on, append_assoc)
 
 pub last_value : (st : BlockStyle) (c : Chomping) (i : ℕ) (ab : Option Bool) (k : ℕ) (b : Bool) (m : Marker) (x : ℕ)
     (cs : List ℕ) → m.col ≡ i → IsContent i x cs [] → Value c i (between st i ab k b m (x ∷ cs))

@@ -1,5 +1,5 @@
 -- Block scalars are read alike.
-use Rattle.scalar_laws.proofs.Common.{◌≡◌, ℕ, ◌+◌, Bool, true, false, List, [], ◌∷◌, ◌++◌, slice_index, refl, ap, cond, arith, ◌==◌, not, Option, Some, None, is_breakz, is_blank, is_z, is_digit, is_yaml_non_break, tab, space, BlockStyle, Chomping, Strip, Clip, Keep, Marker, Cursor, along, next_line, pass, both_by, AreAlike, AreSame, AreBlocksAlike, not-false, no_return}
+use Rattle.scalar_laws.proofs.Common.{◌≡◌, ℕ, ◌+◌, Bool, true, false, List, [], ◌∷◌, ◌++◌, slice_index, refl, ap, cond, arith, ◌==◌, not, Option, Some, None, is_breakz, is_blank, is_z, is_digit, is_yaml_non_break, tab, space, BlockStyle, Chomping, Marker, Cursor, along, next_line, pass, both_by, AreAlike, AreSame, AreBlocksAlike, not-false, no_return}
 use Rattle.saphyr_input.specs.declared.input.SkipTabs.TheVariants as skip
 use Rattle.saphyr_scalar.specs.Steps.Block.{EmptyLinesRead, chomping, indicator, header_break, header_end, last_chomping, header_behind, header, is_indentation, inside_break, with_empty_line, pass_empty_lines, line_starts, break_before, LinesRead, lines_behind_text, between, line, is_unfinished, tail_alone, given_indentation, chomped_lines, content, behind_leading_lines, no_lines, behind_header, block_scalar}
 use Rattle.scalar_laws.proofs.Breaks.Sides.{Normal, nothing, character, feed, return, pair, no_feed, first_in, first_same, Places, over_pair, moved_along, moved_down, marks_alike, alike, normal_of, places_of, NoBreak, no_break_in, one_passed}
@@ -144,9 +144,7 @@ unfinished_alike i e = let first = first_in is_z refl (normal_of e) in rw (first
 tail_alike : (c : Chomping) (k : ℕ) {text : List ℕ} {s t : Cursor} → AreAlike text s t
     → tail_alone c k s ≡ tail_alone c k t
 unfolding tail_alone
-tail_alike Strip k e = refl
-tail_alike Clip k e = refl
-tail_alike Keep k e = rw (e.blank, e.col) refl
+tail_alike c k h = grind arith
 
 module _ {text : List ℕ} (style : BlockStyle) (indent : ℕ) where
   content_alike : (c : Chomping) (i k : ℕ) (s t : Cursor) → AreAlike text s t

@@ -23,13 +23,7 @@ two_quotes_alike {r = r} {q = q} n =
 
 slash_alike : {r q : List ℕ} → Normal r q → ((slice_index r 0 == backslash) && not (is_break (slice_index r 1))) ≡
     ((slice_index q 0 == backslash) && not (is_break (slice_index q 1)))
-slash_alike {r = r} {q = q} n =
-    cc (
-      second_is r,
-      behind_first (λ c. c == 92) refl refl (λ r. not (is_break (slice_index r 0)))
-          (λ r q n. first_in (λ c. not (is_break c)) refl n) n,
-      second_is q,
-    )
+slash_alike {r = r} {q = q} n = grind (arith, second_is, behind_first, first_in)
 
 module _ {text : List ℕ} (a b : Marker) where
   digits_alike : (k v : ℕ) (s t : Cursor) → AreAlike text s t → Both (AreSame text) (digits a k v s) (digits b k v t)
@@ -111,9 +105,7 @@ gap_alike text i a b (over_lines escaped n) s t e = let marker = indicator_alike
 blank_alike : (i : ℕ) (gap : QuotedGap) (m n : Marker) (c : ℕ) → m.col ≡ n.col
     → Both AreEqual (blank_in i gap m c) (blank_in i gap n c)
 unfolding blank_in
-blank_alike i (on_line bytes) m n c e = gives refl
-blank_alike i (over_lines escaped k) m n c e =
-    choose_same ((c == 9) && is_left i m) ((c == 9) && is_left i n) (rw e refl) (λ _. refused) (λ _. gives refl)
+blank_alike i gap m n c h = grind (arith, gives, choose_same, refused)
 
 -- ## Scalars
 

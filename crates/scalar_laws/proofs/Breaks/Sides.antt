@@ -57,25 +57,13 @@ normal r q e = subst (Normal r) e (normal_by_two r).0
 
 -- a class that has both breaks or neither
 pub first_in : (p : ℕ → Bool) → p 13 ≡ p 10 → {r q : List ℕ} → Normal r q → p (slice_index r 0) ≡ p (slice_index q 0)
-first_in p e nothing = refl
-first_in p e (character c h n) = refl
-first_in p e (feed n) = refl
-first_in p e (return h n) = e
-first_in p e (pair n) = e
+first_in p h k = grind arith
 
 pub first_same : {r q : List ℕ} → is_break (slice_index r 0) ≡ false → Normal r q → slice_index r 0 ≡ slice_index q 0
-first_same h nothing = refl
-first_same h (character c e n) = refl
-first_same h (feed n) = absurd (cc)
-first_same h (return e n) = absurd (cc)
-first_same h (pair n) = absurd (cc)
+first_same h k = grind arith
 
 pub past_first : {r q : List ℕ} → is_break (slice_index r 0) ≡ false → Normal r q → Normal (drop 1 r) (drop 1 q)
-past_first h nothing = nothing
-past_first h (character c e n) = n
-past_first h (feed n) = absurd (cc)
-past_first h (return e n) = absurd (cc)
-past_first h (pair n) = absurd (cc)
+past_first h k = grind arith
 
 pub second_in : (p : ℕ → Bool) → p 13 ≡ p 10 → {r q : List ℕ} → is_break (slice_index r 0) ≡ false → Normal r q
     → p (slice_index r 1) ≡ p (slice_index q 1)
@@ -123,14 +111,10 @@ pub record Places (text r q : List ℕ) (m n : Marker) : Type 0 where
   pub here : drop m.index text ≡ r
   pub there : drop n.index (normalized text) ≡ q
 
--- so many characters further
-dropped_further : (text r : List ℕ) (i j a : ℕ) → drop i text ≡ r → j ≡ i + a → drop j text ≡ drop a r
-dropped_further text r i j a e f = rw f (sym (drop-drop a i text) ∙ ap (drop a) e)
-
 pub places_moved : {text r q : List ℕ} {m n : Marker} (a b : ℕ) (k l : Marker) → Places text r q m n
     → k.index ≡ m.index + a
     → l.index ≡ n.index + b → k.line ≡ l.line → k.col ≡ l.col → Places text (drop a r) (drop b q) k l
-places_moved {text = text} {r = r} {q = q} {m = m} {n = n} a b k l p e f line col = search (dropped_further)
+places_moved {text = text} {r = r} {q = q} {m = m} {n = n} a b k l p e f line col = grind (arith, drop-drop)
 
 pub moved_along : {text r q : List ℕ} {m n : Marker} (a b : ℕ) → a ≡ b → Places text r q m n
     → Places text (drop a r) (drop b q) (along m a) (along n b)

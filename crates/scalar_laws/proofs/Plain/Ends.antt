@@ -1,5 +1,5 @@
 -- Where a plain scalar ends.
-use Rattle.scalar_laws.proofs.Common.{◌≡◌, ℕ, ◌<◌, Bool, true, false, List, [], slice_index, Ok, refl, arith, ◌&&◌, not, nat_lt, nat_tests, is_blank_or_break, is_document_indicator, Marker, Cursor, word_over, goes_not, past_white, is_tabbed, StopsPlain, EndsPlain, by_test, number_sign}
+use Rattle.scalar_laws.proofs.Common.{◌≡◌, ℕ, ◌<◌, Bool, true, false, List, [], slice_index, Ok, refl, arith, nat_lt, nat_tests, is_blank_or_break, is_document_indicator, Marker, Cursor, word_over, goes_not, past_white, is_tabbed, StopsPlain, EndsPlain, by_test, number_sign}
 use Rattle.saphyr_scalar.specs.Steps.Plain.{is_in_word, word_starts, next_word_starts, comment_of, word}
 use Rattle.scalar_laws.proofs.Plain.White.{past_stop, gap_past}
 
@@ -8,25 +8,15 @@ pub white_stops : (f : Bool) (xs : List ℕ) → is_blank_or_break (slice_index 
 unfolding is_in_word
 white_stops f xs h = grind arith
 
-comment_starts_not : (f : Bool) (s : Cursor) → slice_index s.rest 0 ≡ number_sign → word_starts f s ≡ Ok (false, s)
-unfolding word_starts
-comment_starts_not f s e = rw e refl
-
 comment_stops : (f : Bool) (i : ℕ) (s : Cursor) → slice_index s.rest 0 ≡ number_sign
     → next_word_starts f i s ≡ Ok (false, s)
-unfolding next_word_starts
-comment_stops f i s h = by_test (s.blank_so_far && not f && nat_lt s.mark.col i) _ _ (λ r. r ≡ Ok (false, s))
-    (λ _. refl) (λ _. comment_starts_not f s h)
-
-marker_starts_not : (f : Bool) (s : Cursor) → s.mark.col ≡ 0 → is_document_indicator s.rest ≡ true
-    → word_starts f s ≡ Ok (false, s)
-unfolding word_starts
-marker_starts_not f s col is = grind arith
+unfolding next_word_starts word_starts
+comment_stops f i s h = grind (arith, by_test)
 
 marker_stops : (f : Bool) (i : ℕ) (s : Cursor) → s.mark.col ≡ 0 → is_document_indicator s.rest ≡ true
     → next_word_starts f i s ≡ Ok (false, s)
-unfolding next_word_starts
-marker_stops f i s col is = grind (arith, marker_starts_not)
+unfolding next_word_starts word_starts
+marker_stops f i s col is = grind arith
 
 left_stops : (f : Bool) (i : ℕ) (s : Cursor) → f ≡ false → s.blank_so_far ≡ true → s.mark.col < i
     → next_word_starts f i s ≡ Ok (false, s)

@@ -1,5 +1,5 @@
 -- A plain scalar of several words and lines is read, without a fault.
-use Rattle.scalar_laws.proofs.Common.{◌≡◌, ◌≢◌, ℕ, suc, ◌+◌, ◌<◌, Bool, true, false, List, [], ◌∷◌, ◌++◌, length, slice_index, Ok, refl, sym, ap, ◌∙◌, arith, subst, encode_utf8_all, append_assoc, IsTrue, inl, prefix_len, nat_tests, take-append_seam, normalized, is_blank, is_break, is_flow, is_blank_or_break, is_document_indicator, AreIn, Marker, Cursor, along, next_line, along_none, along_more, no_text, text_twice, word_on, word_over, plain_starts, behind_blanks, past_white, reaches_tabbed, is_tabbed, EndsPlain, is_plain_safe, AreSafeBefore, IsWordBefore, has_line_end, IsPlainGap, words_text, IsNoMarker, AreFurtherWords, IsPlainText, some_length, none_of_three, or_assoc, or-false, colon, hyphen, number_sign, cursor_at}
+use Rattle.scalar_laws.proofs.Common.{◌≡◌, ◌≢◌, ℕ, suc, ◌+◌, ◌<◌, Bool, true, false, List, [], ◌∷◌, ◌++◌, length, slice_index, Ok, refl, sym, ap, ◌∙◌, arith, subst, encode_utf8_all, append_assoc, inl, prefix_len, nat_tests, take-append_seam, normalized, is_blank, is_break, is_flow, is_blank_or_break, is_document_indicator, AreIn, Marker, Cursor, along, next_line, along_none, along_more, no_text, text_twice, word_on, word_over, plain_starts, behind_blanks, past_white, reaches_tabbed, is_tabbed, EndsPlain, AreSafeBefore, IsWordBefore, has_line_end, IsPlainGap, words_text, IsNoMarker, AreFurtherWords, IsPlainText, some_length, none_of_three, or_assoc, or-false, hyphen, number_sign, cursor_at}
 use Rattle.std.specs.Prelude.{◌||◌, ◌&&◌, ◌==◌, not, nat_lt, encode_utf8, if◌then◌else◌}
 use Rattle.saphyr_scalar.specs.Values.Flow.{plain_value}
 use Rattle.saphyr_scalar.specs.Steps.Plain.{is_in_word, word_starts, next_word_starts, comment_of, ends_line, with_text, PlainScalarRead, word, plain}
@@ -11,13 +11,9 @@ use Rattle.scalar_laws.proofs.Plain.Ends.{word_ends, white_stops}
 
 -- words
 
-one_in_word : (f : Bool) (c : ℕ) (cs : List ℕ) → IsTrue (is_plain_safe f c)
-    → (c ≡ colon → IsTrue (is_plain_safe f (slice_index cs 0))) → is_in_word f (c ∷ cs) ≡ true
-unfolding is_in_word
-one_in_word f c cs h next = grind (arith, none_of_three, nat_tests)
-
 safe_in_word : (f : Bool) (c : ℕ) (cs y : List ℕ) → AreSafeBefore f (c ∷ cs) y → is_in_word f (c ∷ (cs ++ y)) ≡ true
-safe_in_word f c cs y h = one_in_word f c (cs ++ y) h.0 h.1
+unfolding is_in_word
+safe_in_word f c cs y h = grind (arith, none_of_three, nat_tests)
 
 read_word : (f : Bool) (i : ℕ) (a m : Marker) (w y : List ℕ) → AreSafeBefore f w y
     → word f i a m (w ++ y) ≡ with_text (encode_utf8_all w) (word f i a (along m (length w)) y)

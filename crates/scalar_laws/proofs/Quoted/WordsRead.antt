@@ -1,5 +1,5 @@
 -- Blanks, breaks and words of a quoted scalar are read, after each gap that fits, and so is its closing quote.
-use Rattle.scalar_laws.proofs.Common.{◌≡◌, ℕ, Bool, true, false, List, [], ◌∷◌, ◌++◌, drop, slice_index, Ok, refl, ◌∙◌, arith, subst, IsTrue, nat_tests, apostrophe, backslash, is_blank, is_break, tab, Marker, Item, Raw, Escaped, EscapedBreak, Blank, Break, Quote, Single, Double, along, next_line, IsPassed, nothing, character, line_break, along_more, quoted_behind_gap, behind_no_gap, IsQuotedContent, stands, one_blank, at_break, escape_content, gap_bytes, gap_front, closed_bytes, raw_bytes, escaped_bytes, escaped_break_bytes, blank_bytes, break_bytes, blank_cases, blank_no_break, IsLine}
+use Rattle.scalar_laws.proofs.Common.{◌≡◌, ℕ, Bool, true, false, List, [], ◌∷◌, ◌++◌, drop, slice_index, Ok, refl, ◌∙◌, arith, IsTrue, nat_tests, apostrophe, backslash, is_blank, is_break, tab, Marker, Item, Raw, Escaped, EscapedBreak, Blank, Break, Quote, Single, Double, along, next_line, IsPassed, nothing, character, line_break, along_more, quoted_behind_gap, behind_no_gap, IsQuotedContent, stands, one_blank, at_break, escape_content, gap_bytes, gap_front, closed_bytes, raw_bytes, escaped_bytes, escaped_break_bytes, blank_bytes, break_bytes, blank_cases, blank_no_break, IsLine}
 use Rattle.std.specs.Prelude.{◌&&◌, ◌==◌, encode_utf8}
 use Rattle.saphyr_scalar.specs.Values.Flow as flow
 use Rattle.saphyr_scalar.specs.Steps.Quoted.{is_literal, mid_line, QuotedGap, on_line, over_lines, no_gap, is_left, quoted_line, end_gap, escaped_gap, break_len, is_closing, escaped_character, inner_text, blank_in, break_in}
@@ -61,10 +61,6 @@ closed_read q indent start m x h = record {
 pub record ItselfRead (q : Quote) (c : ℕ) : Type 0 where
   pub content : is_blank c ≡ false → IsQuotedContent c
   pub literal : is_blank c ≡ false → is_literal q c ≡ true
-
-pub reads_itself : (q : Quote) (c : ℕ) → IsTrue (quotes.stands_for_itself q c) → ItselfRead q c
-unfolding is_literal
-reads_itself q c h = grind arith
 
 pub literal_read : (q : Quote) (indent : ℕ) (start m : Marker) (c : ℕ) (t : List ℕ) (items : List Item) (x : List ℕ)
     → IsQuotedContent c → is_literal q c ≡ true → Read q indent start no_gap (along m 1) t items x
@@ -189,18 +185,8 @@ pub itself_read : (q : Quote) (indent : ℕ) (start : Marker) (gap : QuotedGap) 
     (items : List Item) (x : List ℕ) → IsTrue (quotes.stands_for_itself q c) → GapFits indent gap m (c ∷ t)
     → ReadsBehindBlank q indent start (along m 1) t items x
     → Read q indent start gap m (c ∷ t) (flow.raw_item c ∷ items) x
-itself_read q indent start gap m c t items x h fits r = by_blank (is_blank c) refl
-  where
-    blank_item : is_blank c ≡ true → Blank c ≡ flow.raw_item c
-    blank_item b = blank_cases c b (λ k. Blank k ≡ flow.raw_item k) refl refl
-
-    by_blank : (b : Bool) → is_blank c ≡ b → Read q indent start gap m (c ∷ t) (flow.raw_item c ∷ items) x
-    by_blank true b = subst (λ (i : Item). Read q indent start gap m (c ∷ t) (i ∷ items) x) (blank_item b)
-        (blank_read q indent start gap m c t items x b fits r)
-    by_blank false b =
-        let is = reads_itself q c h in
-        rw (content_item c (is.content b)) (with_gap q indent start gap m (c ∷ t) (Raw c ∷ items) x fits
-        (literal_read q indent start m c t items x (is.content b) (is.literal b) (r no_gap tt)))
+unfolding is_literal
+itself_read q indent start gap m c t items x h fits r = grind (arith, blank_cases, blank_read, content_item, with_gap, literal_read)
 
 pub broken_read : (q : Quote) (indent : ℕ) (start : Marker) (gap : QuotedGap) (m : Marker) (t : List ℕ)
     (items : List Item) (x : List ℕ) → is_break (slice_index t 0) ≡ true → IsLine indent (drop (break_len t) t)

@@ -1,6 +1,6 @@
 -- Collections in brackets and braces, given the run over what is inside them.
 pub mod Runs
-use Rattle.yaml_laws.proofs.Common.{◌≡◌, ℕ, ◌<◌, ◌≤◌, Bool, true, false, List, [], ◌∷◌, ◌++◌, length, Ok, refl, sym, ap, ◌∙◌, subst, append_assoc, inl, inr, arith, Option, None, list_all, is_blank, SkipTabs, Yes, Marker, Cursor, along, separation, cursor_at, IsSeparation, Context, Kind, Piece, Place, bare_place, Core, Candidate, Level, is_block, behind_entry, ends_pair, close_collection, State, most_open, le_next, true≢false, begins_sequence, begins_mapping, level_of}
+use Rattle.yaml_laws.proofs.Common.{◌≡◌, ℕ, ◌<◌, ◌≤◌, Bool, true, false, List, [], ◌∷◌, ◌++◌, length, Ok, refl, sym, ap, ◌∙◌, subst, append_assoc, arith, Option, None, list_all, is_blank, SkipTabs, Yes, Marker, Cursor, along, separation, cursor_at, IsSeparation, Context, Kind, Piece, Place, bare_place, Core, Candidate, Level, is_block, behind_entry, ends_pair, close_collection, State, most_open, le_next, true≢false, begins_sequence, begins_mapping, level_of}
 use Rattle.saphyr_scanner.specs.declared.engine.level.Context.TheVariants as context
 use Rattle.saphyr_scanner.specs.Grammar.Tokens as tokens
 use Rattle.saphyr_scanner.specs.Steps.Flow as flow

@@ -4,7 +4,7 @@ use Rattle.yaml_laws.proofs.Common.{◌||◌, ◌==◌, Option, None, is_blank, 
 use Rattle.saphyr_scanner.specs.declared.engine.level.Context.TheVariants as context
 use Rattle.saphyr_scanner.specs.Grammar.Tokens as tokens
 use Rattle.saphyr_scanner.specs.Steps.Scalar as scalar
-use Rattle.saphyr_scanner.specs.Steps.Scalar.{quote_style, disallow_key, behind_quotes, behind_quoted_line, goes_on_behind_quotes, adjacent_here}
+use Rattle.saphyr_scanner.specs.Steps.Scalar.{quote_style, behind_quotes, goes_on_behind_quotes}
 use Rattle.saphyr_scanner.specs.Steps.Fetch.{step}
 use Rattle.yaml_laws.proofs.InFlow.States.{Around, core_at, reach, reach_low, Placed, placed_right, saves_key, FlowMoment}
 use Rattle.yaml_laws.proofs.InFlow.Tabs.{lands_on_content}

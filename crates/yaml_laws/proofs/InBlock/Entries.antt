@@ -117,6 +117,8 @@ forgets : (g : Frame) (n : Moment) → n.required ≡ false
 unfolding remove_key
 forgets g n free = rw free refl
 
+-- What the step at a `-` gives, taken apart in its order: a sequence begins if the `-` is right of the innermost
+-- collection (`further`), what is behind it on its line is passed, and no key is kept.
 dash_step : {colon : Bool} {indent : ℕ} (f : Frame) (m : Marker) (o : List ℕ) (h : IsBehindIndicator colon indent o)
     (blank : Bool) (key : Option Candidate) (ad : ℕ) (deeper further : Bool) → nat_le f.indent m.col ≡ further → (i : ℕ)
     → (d : Bool) × (step 45 (slice_index o 0) i (core_of f (moment_at m (hyphen ∷ o) blank key true ad deeper))
@@ -168,7 +170,8 @@ pub least_within : (further : Bool) (column : ℕ) (f : Frame) (n : Moment) → 
     → least_column (core_of (frame_behind further column f) n) ≤ suc column
 least_within further column f n far = grind arith
 
--- A raw state after a token, told at the next one.
+-- A raw state after an indicator, told at the next token, which blanks, breaks and comments may come before. It is
+-- as `Before` asks: no key is kept there, and one may begin if a break was passed or the place allows it.
 pub before_next : {limit : ℕ} {start : State} {ts : List Kind} (place : Position) (g : Frame) (n : Moment)
     (qs : List Place) (m : Marker) (o : List ℕ) → LeadsTo limit (state_of g n qs) start → place_kinds qs ≡ ts
     → n.key ≡ None → n.required ≡ false → n.comment ≡ None → n.adjacent ≤ m.index
@@ -197,7 +200,8 @@ before_next {limit} {start} {ts} place g n qs m o leads are none free quiet low 
       placed = placed;
     }
 
--- `-` is read, which begins a sequence or goes on with one
+-- `-` is read, which begins a sequence or goes on with one: from where the scanner stands the step is taken
+-- (`steps_on`), and its state is told at the next token (`before_next`).
 pub reads_dash : {colon : Bool} {limit : ℕ} {start : State} {ts : List Kind} (f : Frame) (m : Marker) (o : List ℕ)
     (further : Bool) → nat_le f.indent m.col ≡ further → f.indent ≤ m.col + 1 → IsBehindIndicator colon (suc m.col) o
     → m.index + length (hyphen ∷ o) ≤ limit → (v : At limit start f m (hyphen ∷ o) ts) → v.allowed ≡ true

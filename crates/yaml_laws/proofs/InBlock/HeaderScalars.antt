@@ -113,7 +113,9 @@ arrives_behind f left key ad qs ts k o leads are text clean low ends =
     by_end (inl none) = inr (ap (λ (c : Option Candidate). left_key c (past 0 k o).0) none, or-true (crosses left.rest))
     by_end (inr over) = inl (inl (ap (λ (y : List ℕ). (past 0 k y).1) over))
 
--- from its header on
+-- From its header on. The scalar is one token, after which the scanner is on a later line, behind some of its
+-- spaces. So a key that was saved at the header is too far away then, and dropped; and from there on comes what
+-- comes from the scalar's end on, which is where its node ends.
 pub reads_scalar : ReadsBlocks
     → {limit : ℕ} {start : State} {ts : List Kind} (f : Frame) (style : BlockStyle) (value : List ℕ) (m : Marker)
     (more t o : List ℕ) → limit < 2 ^ 63 → f.indent ≤ m.col

@@ -24,7 +24,8 @@ plain_lead {limit} {start} {ts} p place f m w y none h b opens v =
 true_crosses : (place : Position) (t : List ℕ) → crosses t ≡ true → (is_compact place || crosses t) ≡ true
 true_crosses place t e = rw e (or-true (is_compact place))
 
--- up to the first token of a collection, given its lead
+-- Up to the first token of a collection, given its lead: properties or none, and then what is skipped up to the
+-- collection's column. A key may begin there, since a break was passed, or since the place is compact.
 pub reads_lead : {limit : ℕ} → ReadsLeaves limit → (p : Properties) (place : Position) (least column : ℕ) (f : Frame)
     → f.indent ≡ indent_at place → (m : Marker) (lead y : List ℕ) → IsLead p place least column lead → StartsContent y
     → FitsOnLines limit m lead y → (start : State) (ts : List Kind) → Before limit start place f m (lead ++ y) ts

@@ -17,7 +17,9 @@ use Rattle.yaml_laws.proofs.Flow.Brackets.{mark_begins, mark_moved, mark_places,
 use Rattle.yaml_laws.proofs.Flow.Collections.{Brackets, AreBrackets, bracket_text, RunsInside, AreBracketed}
 use Rattle.yaml_laws.proofs.Flow.ContentStarts.{starts, colon_content}
 
--- inside a key's brackets nothing is required at block level
+-- Inside a key's brackets nothing is required at block level, and what is there is read by the runs of `Flow`. So
+-- the opening bracket leads from the key's surroundings to these, and the closing one back; states inside flow are
+-- the same in both.
 abbrev pub calmed : Around → Around
 calmed around = record around { pending = false }
 
@@ -147,6 +149,8 @@ all_kinds : (opens closes : Kind) (ts ends : List Kind)
     → (opens ∷ []) ++ (ts ++ (ends ++ closes ∷ [])) ≡ opens ∷ ((ts ++ ends) ++ closes ∷ [])
 all_kinds opens closes ts ends = ap (λ (x : List Kind). opens ∷ x) (sym (append_assoc ts ends (closes ∷ [])))
 
+-- The run over a collection that is a key: over its opening bracket, what is inside (`runs`), and its closing one.
+-- The text is cut at the same places, and each part is still the key's.
 pub collection_along : (around : Around) → around.pending ≡ around.required → (Is : List Kind → Type 0) (b : Brackets)
     → AreBrackets b → (w inside : List ℕ) (n : Blanks) (r : List ℕ) → IsSeparation around.indent w
     → IsParted around.indent (w ++ (inside ++ (b.closing ∷ colon_text n r)))

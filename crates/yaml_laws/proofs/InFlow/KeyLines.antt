@@ -10,6 +10,10 @@ use Rattle.yaml_laws.proofs.Flow.States.{moved, IsContentStart}
 use Rattle.yaml_laws.proofs.Flow.Fillers.{blanks_past}
 use Rattle.yaml_laws.proofs.Flow.Tokens.{BeginsToken}
 
+-- To drop a key that is required is a refusal. So each token of a key has to be on its line and near its start,
+-- which a run over a node (`Flow`) doesn't tell. Here is how one token of a key is read: blanks before it are
+-- passed, and then the step is taken.
+
 -- ## A key is kept on its line
 
 -- a place on the line of a key, at most 1,024 characters after its start
@@ -146,7 +150,9 @@ KeepsPlace around does = (d : Bool) (s : Cursor) (k : Option Candidate) (ad n : 
 abbrev pub Fresh : Around → List ℕ → Type 0
 Fresh around t = KeepsPlace around (step (slice_index t 0) (slice_index t 1))
 
--- the first token of a key
+-- The first token of a key. It saves the key's place, and the tokens after it find that saved. So that one lemma on
+-- a token is enough for both, it is told as if the place had been saved before it, which gives the same (`Fresh`,
+-- shown of each kind of token in `KeyFirsts`).
 pub first_ready : (around : Around) → around.pending ≡ false
     → (d blank : Bool) (k : Option Candidate) (ad : ℕ) (ps : List Place) (m : Marker) (c : ℕ) (cs : List ℕ)
     → IsContentStart c → (right : around.column ≤ m.col + 1) → BeginsToken m (c ∷ cs) → Fresh around (c ∷ cs)

@@ -178,7 +178,9 @@ pub record ComesAround (around : Around) (start : Bool → State) (comment : Opt
     pub same : is_block next.context ≡ false → key ≡ next.key
     pub kept : (key ≡ None) ⊎ (key ≡ next.key)
 
--- where a step gives this, it leads there
+-- Where a step gives this, it leads there. Behind the step the limit is tested, and a key outside flow is dropped if
+-- it is too far away. So the key is the step's or none: which of them isn't told, since nothing that is read depends
+-- on it.
 pub comes : (around : Around) (start : Bool → State) (comment : Option Marker) (next : FlowMoment) (to : Bool → Bool)
     → ((d : Bool) → (start d).core.ended ≡ false)
     → ((d : Bool) → fetch (start d) ≡ Ok (noted comment (state_at around next (to d))))
