@@ -151,7 +151,10 @@ impl<T: Input> Machine<T> {
             ≡ Ok (emitted_of (machine_in more self.new) next.new) }
     {
         self.state.set(state);
-        self.write_over(&mut next.0, Event::SequenceStart(0, None));
+        // Many may begin one in another. The event is then there already.
+        if !matches!(next.0, Event::SequenceStart(0, None)) {
+            self.write_over(&mut next.0, Event::SequenceStart(0, None));
+        }
     }
 
     // A mapping without properties begins. Its event has the span that is there.

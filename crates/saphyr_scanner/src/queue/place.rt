@@ -269,25 +269,6 @@ impl Place {
         Place::of_extent(kind, Extent::of_texts(span, handle, count), texts)
     }
 
-    /// Reads a plain scalar, whose text is put behind the others. Returns the place of its token, and a comment that
-    /// ended it. After an error nothing is known of the texts.
-    #[inline(always)]
-    pub(super) fn read_plain<T: Input>(
-        alloc: Global,
-        reader: &mut Reader<T>,
-        in_flow: bool,
-        indent: usize,
-        texts: &mut Texts,
-    ) -> Result<(Place, Option<Marker>), Stop>
-        ensures { PlacesToken (tokens.Scalar Plain) (cursor_of reader.old).mark texts.old texts.new
-            (cursor_of reader.new) result (plain in_flow indent (cursor_of reader.old)) }
-    {
-        let start = reader.mark();
-        let (scalar, count) = texts.read_plain(alloc, reader, in_flow, indent)?;
-        let place = Place::of_text(TokenKind::Plain, &start, &scalar.end, count, texts)?;
-        Ok((place, scalar.comment))
-    }
-
     /// Reads a quoted scalar in the same way, and passes what separates it from what comes after it. Returns whether
     /// that is an indicator.
     #[inline(always)]
