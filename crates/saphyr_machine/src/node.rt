@@ -84,38 +84,38 @@ impl<T: Input> Machine<T> {
         Ok(())
     }
 
+    // A sequence with properties begins. The span that is there ends where its event's does.
     #[inline(always)]
     fn open_sequence<'input>(
         &mut self,
         state: State,
         properties: Properties,
-        place: Marker,
         next: &mut (Event<'input>, Span),
     )
         ensures { (more : List ℕ) → emitted_of (machine_in more self.new) next.new
-            ≡ spec.opened_sequence state (seen properties) place (machine_in more self.old) }
+            ≡ spec.opened_sequence state (seen properties) next.old.1.end (machine_in more self.old) }
     {
         self.state.set(state);
-        let span = properties.up_to(place);
+        next.1.start = properties.start;
         let Properties { anchor, tag, .. } = properties;
-        self.emit(next, Event::SequenceStart(anchor, tag), span);
+        self.write_over(&mut next.0, Event::SequenceStart(anchor, tag));
     }
 
+    // A mapping with properties begins, in the same way.
     #[inline(always)]
     fn open_mapping<'input>(
         &mut self,
         state: State,
         properties: Properties,
-        place: Marker,
         next: &mut (Event<'input>, Span),
     )
         ensures { (more : List ℕ) → emitted_of (machine_in more self.new) next.new
-            ≡ spec.opened_mapping state (seen properties) place (machine_in more self.old) }
+            ≡ spec.opened_mapping state (seen properties) next.old.1.end (machine_in more self.old) }
     {
         self.state.set(state);
-        let span = properties.up_to(place);
+        next.1.start = properties.start;
         let Properties { anchor, tag, .. } = properties;
-        self.emit(next, Event::MappingStart(anchor, tag), span);
+        self.write_over(&mut next.0, Event::MappingStart(anchor, tag));
     }
 
     // The sequence that is open ends. Its event has the span that is there. For speed this is a function of its own, as
@@ -180,28 +180,28 @@ impl<T: Input> Machine<T> {
     {
         match self.peek()? {
             TokenKind::FlowSequenceStart => {
-                let end = self.skip().end;
-                self.open_sequence(State::FlowSequenceFirstEntry, properties, end, next);
+                self.skip_into(&mut next.1);
+                self.open_sequence(State::FlowSequenceFirstEntry, properties, next);
                 Ok(())
             }
             TokenKind::FlowMappingStart => {
-                let end = self.skip().end;
-                self.open_mapping(State::FlowMappingFirstKey, properties, end, next);
+                self.skip_into(&mut next.1);
+                self.open_mapping(State::FlowMappingFirstKey, properties, next);
                 Ok(())
             }
             TokenKind::BlockSequenceStart if context.allows_block() => {
-                let end = self.skip().end;
-                self.open_sequence(State::BlockSequenceEntry, properties, end, next);
+                self.skip_into(&mut next.1);
+                self.open_sequence(State::BlockSequenceEntry, properties, next);
                 Ok(())
             }
             TokenKind::BlockMappingStart if context.allows_block() => {
-                let end = self.skip().end;
-                self.open_mapping(State::BlockMappingKey, properties, end, next);
+                self.skip_into(&mut next.1);
+                self.open_mapping(State::BlockMappingKey, properties, next);
                 Ok(())
             }
             TokenKind::BlockEntry if context.allows_indentless() => {
-                let end = self.span().end;
-                self.open_sequence(State::IndentlessSequenceEntry, properties, end, next);
+                self.span_into(&mut next.1);
+                self.open_sequence(State::IndentlessSequenceEntry, properties, next);
                 Ok(())
             }
             kind => match kind.style() {
@@ -225,12 +225,13 @@ impl<T: Input> Machine<T> {
             (stopped_by result self.new.scanner.stop)
             (Ok (spec.emitted_scalar text style (seen properties) t.span.end m)) }
     {
-        let span = properties.up_to(self.span().end);
+        self.span_into(&mut next.1);
+        next.1.start = properties.start;
         let text = self.take_text()?;
         self.pop();
         let Properties { anchor, tag, .. } = properties;
         let event = Event::Scalar(CowStr::Owned(text), style, anchor, tag);
-        self.emit(next, event, span);
+        self.write_over(&mut next.0, event);
         Ok(())
     }
 
