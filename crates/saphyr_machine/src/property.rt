@@ -1,5 +1,5 @@
-//! A node that begins with an alias, an anchor or a tag, or that is left out, and the content after its properties (YAML
-//! 1.2.2, 6.9 and 7.1).
+//! A node that begins with an alias, an anchor or a tag, or that is left out, and the content after its properties
+//! (YAML 1.2.2, 6.9 and 7.1).
 
 ghost use Rattle.std.specs.Prelude.{◌≡◌};
 ghost use Rattle.saphyr_machine.specs.Steps.Nodes as spec;
@@ -54,7 +54,6 @@ impl<T: Input> Machine<T> {
     ghost use Rattle.saphyr_scanner.specs.Views.Scanning.{IsReady};
     ghost use Rattle.saphyr_scanner.specs.Views.Tokens.{Piece};
     ghost use Rattle.saphyr_scanner.specs.Grammar.Tokens as tokens;
-    ghost use Rattle.saphyr_scanner.specs.declared.token.TokenKind.TheVariants as code;
     ghost use Rattle.saphyr_machine.specs.Views.Machines.{IsNext, machine_in, resolved_tag, emitted_of, EmitsBy};
     ghost use Rattle.saphyr_machine.specs.Views.Nodes.{properties as seen};
     ghost use Rattle.saphyr_machine.specs.Steps.Machine.{Machine as Seen, next_id, taken_token};

@@ -46,7 +46,10 @@ impl Queue {
                         Ok(comment)
                     }
                     Err(error) => {
-                        Err(self.texts.forget(&mut self.places, &mut self.spent, error.into()))
+                        Err(
+                            self.texts
+                                .forget(&mut self.places, &mut self.spent, error.into()),
+                        )
                     }
                 }
             }

@@ -7,7 +7,8 @@ ghost use Rattle.saphyr_scalar.specs.Views.Reader.{GivesBy, cursor_of};
 ghost use Rattle.saphyr_scanner.specs.Grammar.Tokens as tokens;
 ghost use Rattle.saphyr_scanner.specs.Steps.Scalar.{quote_style};
 ghost use Rattle.saphyr_scanner.specs.Views.Reads as spec;
-ghost use Rattle.saphyr_scanner.specs.Views.Reads.{PlacesToken, name_kind, name_whole, quote_kind, quoted_whole, tag_kind, tag_whole};
+ghost use Rattle.saphyr_scanner.specs.Views.Reads.{PlacesToken, name_kind, name_whole, quote_kind, quoted_whole};
+ghost use Rattle.saphyr_scanner.specs.Views.Reads.{tag_kind, tag_whole};
 ghost use Rattle.saphyr_scanner.specs.Views.Tokens.{kind_with, text_parts};
 
 use crate::queue::place::Place;
