@@ -18,6 +18,7 @@ mod name_list;
 mod node;
 mod prefixes;
 mod progress;
+mod property;
 mod reader;
 mod receiver;
 mod state;

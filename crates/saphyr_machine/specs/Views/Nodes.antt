@@ -1,6 +1,6 @@
 -- What contracts see of a node's properties.
 use Rattle.std.specs.Prelude.{option_map}
-use Rattle.saphyr_machine.specs.declared.node.Properties as declared
+use Rattle.saphyr_machine.specs.declared.property.Properties as declared
 use Rattle.saphyr_machine.specs.Steps.Nodes.{NodeProperties}
 use Rattle.saphyr_machine.specs.Views.Machines.{resolved_tag}
 

@@ -47,7 +47,7 @@ impl<T: Input> Engine<T> {
     pub(crate) fn needs_token(&self) -> bool
         ensures { result ≡ fetch.needs_token (state self.now) }
     {
-        !self.ended && (self.is_held() || self.queue.is_empty())
+        (self.queue.is_empty() || self.is_held()) && !self.ended
     }
 
     // Puts the next token into the queue, if the text is not too long.

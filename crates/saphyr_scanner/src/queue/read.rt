@@ -36,10 +36,22 @@ impl Queue {
             (plain in_flow indent (cursor_of reader.old))) }
     {
         self.make_room()?;
-        match Place::read_plain(alloc, reader, in_flow, indent, &mut self.texts) {
-            Ok((place, comment)) => {
-                self.places.push_reserved(place);
-                Ok(comment)
+        let start = reader.mark();
+        match self.texts.read_plain(alloc, reader, in_flow, indent) {
+            Ok((scalar, count)) => {
+                let (end, comment) = (scalar.end, scalar.comment);
+                match Place::of_text(TokenKind::Plain, &start, &end, count, &mut self.texts) {
+                    Ok(place) => {
+                        self.places.push_reserved(place);
+                        Ok(comment)
+                    }
+                    Err(error) => {
+                        Err(
+                            self.texts
+                                .forget(&mut self.places, &mut self.spent, error.into()),
+                        )
+                    }
+                }
             }
             Err(stop) => Err(self.texts.forget(&mut self.places, &mut self.spent, stop)),
         }
