@@ -7,3 +7,4 @@ pub mod Queue
 pub mod Scanning
 pub mod Engine
 pub mod Ahead
+pub mod TooLong

@@ -8,6 +8,7 @@ ghost use Rattle.saphyr_scanner.specs.Steps.State as spec;
 ghost use Rattle.saphyr_scanner.specs.declared.growth.Growth.TheVariants.{Starved, Whole};
 ghost use Rattle.saphyr_scanner.specs.Views.Engine.{Keeps};
 ghost use Rattle.saphyr_scanner.specs.Views.Scanning.{IsReady, IsUndecided, PeeksToken, Readies, is_growing, tokens_in};
+ghost use Rattle.saphyr_scanner.specs.Views.TooLong as long;
 ghost use Rattle.saphyr_scanner.specs.Views.Tokens.{Piece, Remaining, before, kind_with, parts_view, text_of, token_kind};
 ghost use Rattle.saphyr_scanner.specs.SpansInOrder.{AreInOrder};
 ghost use Rattle.saphyr_scanner.specs.TokensTaken.{AreTakenFrom};
@@ -21,6 +22,17 @@ use saphyr_input::input::{CloneInput, Input};
 use saphyr_scalar::{Span, Stop, TagParts};
 use std::alloc::{AllocError, Global};
 use std::marker::Model;
+
+// What a call told that reads up to a limit: it stopped where the limit was passed.
+#[inline(always)]
+fn within(read: Result<bool, Stopped>) -> Result<(), Stopped>
+    ensures { result ≡ long.within read }
+{
+    match read {
+        Ok(true) => Ok(()),
+        _ => Err(Stopped),
+    }
+}
 
 /// The tokens of a text, one after the other.
 ///
@@ -138,7 +150,7 @@ impl<T: Input> Scanner<T> {
         }
         // A law. It does nothing when it runs.
         takes_characters_off();
-        self.engine.read_tokens(self.limit)
+        within(self.engine.read_tokens(self.limit))
     }
 
     // Reads on where more of the text may come. It is separate for speed: a text is mostly whole.
@@ -157,10 +169,10 @@ impl<T: Input> Scanner<T> {
         let starts = self.engine.is_at_start();
         let read = self.engine.read_tokens(self.limit);
         if starts {
-            return read;
+            return within(read);
         }
         if self.engine.is_decided(read) {
-            return read;
+            return within(read);
         }
         self.growth = Growth::Starved;
         Err(self.stop_at(Stop::OutOfMemory))

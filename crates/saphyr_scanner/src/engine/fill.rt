@@ -9,13 +9,14 @@ use crate::law::takes_characters_off;
 use crate::stopped::{Stopped, keep};
 use crate::token::{TokenKind, TokenParts};
 use saphyr_input::input::Input;
-use saphyr_scalar::{FaultText, Span, Stop, TagParts};
+use saphyr_scalar::{FaultText, Refusal, Span, Stop, TagParts};
 
 impl<T: Input> Engine<T> {
     ghost use Rattle.saphyr_scanner.specs.Views.Engine.{state, MovesBy};
     ghost use Rattle.saphyr_scanner.specs.Views.Queue.{first_of, kind_shown};
     ghost use Rattle.saphyr_scanner.specs.Views.Scanning.{is_decided};
     ghost use Rattle.saphyr_scanner.specs.Views.Tokens.{Piece, kind_with, parts_view, text_of, token_kind};
+    ghost use Rattle.saphyr_scanner.specs.Views.TooLong.{as_read, within, TurnsTooLong};
 
     // Whether the token at a place may still become a key in what is open around the level.
     #[inline(always)]
@@ -50,16 +51,22 @@ impl<T: Input> Engine<T> {
         !self.ended && (self.is_held() || self.queue.is_empty())
     }
 
-    // Puts the next token into the queue, if the text is not too long.
+    // Puts the next token into the queue. `false`: with it the text is too long, and refused.
+    #[inline(always)]
     #[tactic(auto, unfolding(crate::specs::Steps::Fetch::fetch_within))]
-    fn fetch_within(&mut self, limit: usize) -> Result<(), Stopped>
-        ensures { MovesBy (fetch.fetch_within limit) self.old result self.new }
+    fn fetch_within(&mut self, limit: usize) -> Result<bool, Stopped>
+        ensures moves { MovesBy (fetch.fetch_within limit) self.old (within result) self.new }
+        ensures long { TurnsTooLong (fetch.fetch_within limit) (state self.old) result
+            (state self.new) self.new.stop }
     {
         self.fetch()?;
-        if self.reader.mark().index > limit {
-            return Err(self.refuse_here(FaultText::TextTooLong));
+        let mark = self.reader.mark();
+        if mark.index > limit {
+            let text = FaultText::TextTooLong;
+            self.stop = Stop::Refused(Refusal { text, mark });
+            return Ok(false);
         }
-        Ok(())
+        Ok(true)
     }
 
     /// Whether nothing that is open has a candidate. Then no token is held.
@@ -92,20 +99,24 @@ impl<T: Input> Engine<T> {
     }
 
     /// Reads tokens until the head of the queue can be handed out, unless all were. To be called where the next token
-    /// must be read.
+    /// must be read. `false`: the text is too long, and refused.
     #[inline(never)]
-    pub(crate) fn read_tokens(&mut self, limit: usize) -> Result<(), Stopped>
+    pub(crate) fn read_tokens(&mut self, limit: usize) -> Result<bool, Stopped>
         requires needed { fetch.needs_token (state self.old) ≡ true }
         requires settled { fetch.without_far_key (state self.old) ≡ Ok (state self.old) }
-        ensures { MovesBy (fetch.fill limit) self.old result self.new }
+        ensures moves { MovesBy (fetch.fill limit) self.old (within result) self.new }
+        ensures long { TurnsTooLong (fetch.fill limit) (state self.old) result
+            (state self.new) self.new.stop }
     {
         // A law. It does nothing when it runs.
         takes_characters_off();
         loop {
-            self.fetch_within(limit)?;
+            if !self.fetch_within(limit)? {
+                return Ok(false);
+            }
             self.drop_far_key()?;
             if !self.needs_token() {
-                return Ok(());
+                return Ok(true);
             }
         }
     }
@@ -126,14 +137,14 @@ impl<T: Input> Engine<T> {
     }
 
     /// Whether what was read is so whatever comes behind what came of the text.
-    pub(crate) fn is_decided(&mut self, read: Result<(), Stopped>) -> bool
+    pub(crate) fn is_decided(&mut self, read: Result<bool, Stopped>) -> bool
         ensures decided { result
-            ≡ is_decided read (state self.old).core.cursor.rest self.old.stop }
+            ≡ is_decided (as_read read) (state self.old).core.cursor.rest self.old.stop }
         ensures same { state self.new ≡ state self.old }
         ensures stop { self.new.stop ≡ self.old.stop }
     {
         match read {
-            Ok(()) => !self.reader.is_at_open_end(),
+            Ok(_) => !self.reader.is_at_open_end(),
             Err(Stopped) => match self.stop {
                 Stop::Refused(refusal) => refusal.text.is_seen(),
                 Stop::OutOfMemory => true,
