@@ -131,7 +131,7 @@ long_from limit s t end needs h more (known, fails) =
 
 -- ## The stream's start is told by no character
 
-no_key : (k : Option Candidate) → not (has_key k) ≡ true → k ≡ None
+pub no_key : (k : Option Candidate) → not (has_key k) ≡ true → k ≡ None
 no_key None e = refl
 no_key (Some k) e = absurd (cc)
 
@@ -185,7 +185,7 @@ text_stays growth.Growing more rest e = absurd (cc)
 text_stays growth.Whole more rest e = refl
 text_stays growth.Starved more rest e = refl
 
-text_grows : (g : Growth) (more rest : List ℕ) → is_growing g ≡ true → text_in g more rest ≡ rest ++ more
+pub text_grows : (g : Growth) (more rest : List ℕ) → is_growing g ≡ true → text_in g more rest ≡ rest ++ more
 text_grows growth.Growing more rest e = refl
 text_grows growth.Whole more rest e = absurd (cc)
 text_grows growth.Starved more rest e = absurd (cc)

@@ -8,3 +8,4 @@ pub mod Scanning
 pub mod Engine
 pub mod Ahead
 pub mod TooLong
+pub mod Lines

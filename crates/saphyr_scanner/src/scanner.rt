@@ -1,6 +1,6 @@
 //! The scanner as its callers see it. It reads as far into the text as the next token needs.
 
-ghost use Rattle.std.specs.Prelude.{◌≡◌, ◌+◌, ◌<◌, ◌^◌, true, false, List, ℕ, IfOk, OnErr, OnOk, Some, length, string_bytes};
+ghost use Rattle.std.specs.Prelude.{◌≡◌, ◌+◌, ◌<◌, ◌^◌, true, false, List, ℕ, IfOk, IsTrue, OnErr, OnOk, Some, length, string_bytes};
 ghost use Rattle.saphyr_scalar.specs.declared.scalar.fault.Stop.TheVariants.{OutOfMemory};
 ghost use Rattle.saphyr_scanner.specs.Steps.Fetch.{fill, is_at_start, needs_token, without_far_key};
 ghost use Rattle.saphyr_scanner.specs.Steps.Remaining.{scan};
@@ -176,6 +176,20 @@ impl<T: Input> Scanner<T> {
         }
         self.growth = Growth::Starved;
         Err(self.stop_at(Stop::OutOfMemory))
+    }
+
+    /// Passes lines that have no token, so many at most, if the next token was not read yet. The text should have so many
+    /// line feeds. `false`: it ended within a line, and nothing is known of the scanner any more.
+    pub fn pass_lines(&mut self, lines: usize) -> bool
+        ensures { IsTrue result → (more : List ℕ)
+            → tokens_in more self.new ≡ tokens_in more self.old }
+    {
+        if !matches!(self.growth, Growth::Growing) || !self.engine.is_between() {
+            return true;
+        }
+        // A law. It does nothing when it runs.
+        takes_characters_off();
+        self.engine.pass_lines(lines)
     }
 
     /// The span of the next token goes into the place of another. To be called where it was peeked.

@@ -1,6 +1,7 @@
 //! How many tokens are read before the first of them is handed out, and handing it out.
 
-ghost use Rattle.std.specs.Prelude.{◌≡◌, ◌+◌, ◌<◌, ◌^◌, List, ℕ, true, false, IfOk, IsTrue, Ok, OnErr, OnOk, Some, string_bytes};
+ghost use Rattle.std.specs.Prelude.{◌≡◌, ◌+◌, ◌<◌, ◌≤◌, ◌^◌, List, ℕ, true, false, IfOk, IsTrue, Ok, OnErr, OnOk, Some, slice_index, string_bytes};
+ghost use Rattle.saphyr_input.specs.Classes.{is_z};
 ghost use Rattle.saphyr_scalar.specs.declared.scalar.fault.Stop.TheVariants.{OutOfMemory};
 ghost use Rattle.saphyr_scanner.specs.Steps.Fetch as fetch;
 
@@ -12,7 +13,9 @@ use saphyr_input::input::Input;
 use saphyr_scalar::{FaultText, Refusal, Span, Stop, TagParts};
 
 impl<T: Input> Engine<T> {
+    ghost use Rattle.saphyr_scalar.specs.Views.Reader.{loaded};
     ghost use Rattle.saphyr_scanner.specs.Views.Engine.{state, MovesBy};
+    ghost use Rattle.saphyr_scanner.specs.Views.Lines.{PassesOn};
     ghost use Rattle.saphyr_scanner.specs.Views.Queue.{first_of, kind_shown};
     ghost use Rattle.saphyr_scanner.specs.Views.Scanning.{is_decided};
     ghost use Rattle.saphyr_scanner.specs.Views.Tokens.{Piece, kind_with, parts_view, text_of, token_kind};
@@ -119,6 +122,59 @@ impl<T: Input> Engine<T> {
                 return Ok(true);
             }
         }
+    }
+
+    /// Whether the next token must be read, and none is there that may be a key.
+    pub(crate) fn is_between(&self) -> bool
+        ensures needed { IsTrue result → fetch.needs_token (state self.now) ≡ true }
+        ensures settled { IsTrue result
+            → fetch.without_far_key (state self.now) ≡ Ok (state self.now) }
+        ensures free { IsTrue result → fetch.has_no_candidate (state self.now).core ≡ true }
+        ensures started { IsTrue result → (state self.now).core.started ≡ true }
+    {
+        self.started && self.has_no_candidate() && self.has_none()
+    }
+
+    // Passes spaces and a comment. Returns the character behind them.
+    fn pass_comment(&mut self) -> char
+        ensures first { result ≡ slice_index (state self.new).core.cursor.rest 0 }
+        ensures loaded { 1 ≤ loaded self.new.reader }
+        ensures passed { is_z result ≡ false → PassesOn (state self.old) (state self.new) }
+    {
+        self.reader.skip_spaces(usize::MAX);
+        let c = self.reader.look();
+        if c != '#' {
+            return c;
+        }
+        self.reader.skip_comment();
+        self.reader.look()
+    }
+
+    // Passes a line feed.
+    fn pass_line_feed(&mut self, c: char)
+        requires first { c ≡ slice_index (state self.old).core.cursor.rest 0 }
+        requires loaded { 1 ≤ loaded self.old.reader }
+        requires feed { c ≡ 10 }
+        ensures { PassesOn (state self.old) (state self.new) }
+    {
+        self.reader.skip_seen_break(c);
+        if self.in_block() {
+            self.key_allowed = true;
+        }
+    }
+
+    /// Passes lines that have no token, so many at most. `false`: the text ended within one, and nothing is known.
+    pub(crate) fn pass_lines(&mut self, lines: usize) -> bool
+        ensures { IsTrue result → PassesOn (state self.old) (state self.new) }
+    {
+        for _ in 0..lines {
+            let c = self.pass_comment();
+            if c != '\n' {
+                return c != '\0';
+            }
+            self.pass_line_feed(c);
+        }
+        true
     }
 
     /// The kind of the first token, unless all were handed out.
