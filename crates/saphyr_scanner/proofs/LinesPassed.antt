@@ -1,5 +1,5 @@
 -- Lines that have no token are passed, and the next token is the same, whatever comes.
-use Rattle.std.proofs.Common.{◌≡◌, ℕ, suc, ◌-◌, ◌^◌, ◌<◌, ◌≤◌, nat_le, Bool, true, false, List, [], ◌∷◌, ◌++◌, drop, slice_index, None, Ok, refl, sym, ap, subst, ◌∙◌, arith}
+use Rattle.std.proofs.Common.{◌≡◌, ℕ, ◌-◌, ◌^◌, ◌<◌, ◌≤◌, nat_le, Bool, true, false, List, [], ◌∷◌, ◌++◌, drop, slice_index, None, refl, sym, ap, subst, ◌∙◌, arith}
 use Rattle.std.specs.Prelude.{◌||◌, ◌==◌, min}
 use Rattle.std.specs.List.{prefix_len}
 use Rattle.std.proofs.lemmas.Bool.Decides.{nat_tests}
@@ -106,10 +106,7 @@ lined_ahead s e = rw (gap_lined s.core e) refl
 
 -- ## What is passed
 
-pub on_here : (s : State) → PassesOn s s
-on_here s = record { moved = refl; same = λ more. refl }
-
-pub spaces_on : (s : State) → is_nothing (pass_spaces (2 ^ 64 - 1) s.core.cursor).rest ≡ false
+spaces_on : (s : State) → is_nothing (pass_spaces (2 ^ 64 - 1) s.core.cursor).rest ≡ false
     → PassesOn s (placed (pass_spaces (2 ^ 64 - 1) s.core.cursor) s)
 spaces_on s known = record {
   moved = refl;
@@ -122,7 +119,7 @@ first_longer : (r more : List ℕ) (c : ℕ) → (0 == c) ≡ false → slice_in
 first_longer [] more c some first = absurd (cc)
 first_longer (x ∷ xs) more c some first = first
 
-pub comment_on : (s : State) → slice_index s.core.cursor.rest 0 ≡ 35
+comment_on : (s : State) → slice_index s.core.cursor.rest 0 ≡ 35
     → is_nothing (pass_comment s.core.cursor).rest ≡ false → PassesOn s (placed (pass_comment s.core.cursor) s)
 comment_on s sign known = record {
   moved = refl;
@@ -131,7 +128,7 @@ comment_on s sign known = record {
       ∙ commented_ahead (extended_by more s) (first_longer s.core.cursor.rest more 35 refl sign);
 }
 
-pub line_on : (s : State) → slice_index s.core.cursor.rest 0 ≡ 10 → PassesOn s (with_core (behind_line s.core) s)
+line_on : (s : State) → slice_index s.core.cursor.rest 0 ≡ 10 → PassesOn s (with_core (behind_line s.core) s)
 line_on s feed = record {
   moved = refl;
   same = λ more. ap (λ (u : Cursor). fetched (with_core (record s.core {
@@ -141,7 +138,7 @@ line_on s feed = record {
       ∙ lined_ahead (extended_by more s) (first_longer s.core.cursor.rest more 10 refl feed);
 }
 
-pub on_further : (s t u : State) → PassesOn s t → PassesOn t u → PassesOn s u
+on_further : (s t u : State) → PassesOn s t → PassesOn t u → PassesOn s u
 on_further s t u h k = record {
   moved = k.moved ∙ ap (λ (v : State). with_core (record v.core {
         cursor = u.core.cursor;
