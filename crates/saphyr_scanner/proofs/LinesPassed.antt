@@ -58,8 +58,11 @@ module _ (more : List ℕ) (s : Cursor) where
   commented_longer : is_nothing (pass_comment s).rest ≡ false
       → pass_comment (longer more s) ≡ longer more (pass_comment s)
   commented_longer known =
-      rw (run_known more is_yaml_non_break s.rest known, drop_known more (prefix_len is_yaml_non_break s.rest) s.rest
-      known) refl
+      rw (
+        run_known more is_yaml_non_break s.rest known,
+        drop_known more (prefix_len is_yaml_non_break s.rest) s.rest
+            known,
+      ) refl
 
 fed_longer : (more : List ℕ) (s : Cursor) → slice_index s.rest 0 ≡ 10
     → pass_break (longer more s) ≡ longer more (pass_break s)
@@ -132,18 +135,18 @@ line_on : (s : State) → slice_index s.core.cursor.rest 0 ≡ 10 → PassesOn s
 line_on s feed = record {
   moved = refl;
   same = λ more. ap (λ (u : Cursor). fetched (with_core (record s.core {
-        cursor = u;
-        key_allowed = in_block s.core || s.core.key_allowed;
-      }) s)) (sym (fed_longer more s.core.cursor feed))
+    cursor = u;
+    key_allowed = in_block s.core || s.core.key_allowed;
+  }) s)) (sym (fed_longer more s.core.cursor feed))
       ∙ lined_ahead (extended_by more s) (first_longer s.core.cursor.rest more 10 refl feed);
 }
 
 on_further : (s t u : State) → PassesOn s t → PassesOn t u → PassesOn s u
 on_further s t u h k = record {
   moved = k.moved ∙ ap (λ (v : State). with_core (record v.core {
-        cursor = u.core.cursor;
-        key_allowed = u.core.key_allowed;
-      }) v) h.moved;
+    cursor = u.core.cursor;
+    key_allowed = u.core.key_allowed;
+  }) v) h.moved;
   same = λ more. k.same more ∙ h.same more;
 }
 
