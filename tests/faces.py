@@ -23,7 +23,7 @@ from refused_memory import DATA, ROOT, cases_of, judge_lines, program, refuser, 
 
 CRATE = f"{ROOT}/crates/saphyr_parser_c"
 PROGRAMS = ("cases", "dump_events", "misuse", "pieces", "refusals", "trees")
-PIECES = (1, 2, 3, 4096)
+PIECES = (1, 2, 3, 4096, "cuts")  # bytes, or two pieces, cut at each place
 REFUSED_PIECES = (0, 2, 4096)  # 0: the whole text
 HOW = ["-std=c11", "-D_GNU_SOURCE", "-O2", "-Wall", "-Wextra", f"-I{CRATE}"]
 WRAP = [f"-Wl,--wrap={name}" for name in ("malloc", "realloc", "free")]  # two programs refuse by functions of their own
@@ -119,7 +119,7 @@ def check_lists(made, cases):
 
 
 def check_pieces(made, count, cases):
-    """Each case through C in one process, in pieces of so many bytes."""
+    """Each case through C in one process, in pieces of so many bytes, or in two."""
     texts = b"".join(map(framed, cases))
     answers = subprocess.run([made["pieces"], str(count)], input=texts, capture_output=True).stdout.split(b"\xff")[:-1]
     if len(answers) != len(cases):

@@ -229,8 +229,9 @@ int32_t saphyr_new_utf8(const uint8_t *text, size_t len, bool keep_tags, saphyr_
  * `parser` held, whatever it returns. saphyr_add takes the next bytes. `keep_tags` is as for saphyr_new.
  *
  * The limits are for texts that you don't trust, and 0 sets none. A text of more than `most_characters` characters is
- * refused, and so is one of more than 4,294,967,295. If more than `most_waiting` bytes came of which no event can be
- * told, as of a quote that is not closed, saphyr_next returns SAPHYR_TOO_MUCH.
+ * refused, and so is one of more than 4,294,967,295: once the token that passes the limit has ended, or with the text's
+ * end. That fault names 4,294,967,295 characters, whatever the limit. If more than `most_waiting` bytes came of which
+ * no event can be told, as of a quote that is not closed, saphyr_next returns SAPHYR_TOO_MUCH.
  *
  * Returns SAPHYR_OK; or SAPHYR_NO_MEMORY, and then `parser` is empty.
  */

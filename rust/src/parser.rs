@@ -139,7 +139,8 @@ impl<'input, T: Input> Parser<'input, T> {
 
     /// Sets limits for an input that you don't trust. A text of more than `characters` is refused, and these and one are
     /// all that is parsed of it. It is refused too if more than `waiting` bytes of it were read, and no event can be
-    /// told of them, as of a quote that is not closed.
+    /// told of them, as of a quote that is not closed. The fault of a text with more characters names 4,294,967,295,
+    /// whatever the limit.
     ///
     /// To be called before the first event. A text in memory has no limits.
     ///

@@ -354,8 +354,11 @@ static size_t add_again(saphyr_parser *parser, const char *piece, size_t most, i
 static void keeps_to_what_may_wait(void) {
     static const struct {
         const char *begins, *goes_on;
-    } waits[] = {{"[", "a, "}, {"\"", "a"}, {"# ", "a"}, {"- [", "a,\n"}, {"\n", "\n"}, {"? |\n", " a\n"}, {"a", "\n a"}};
-    static const char *const flows[] = {"- a\n", "a: b\n", "--- [a]\n", "'a':\n - b\n", "- |\n a\n"};
+    } waits[] = {{"[", "a, "},       {"\"", "a"},    {"# ", "a"},          {"- [", "a,\n"},
+                 {"? |\n", " a\n"}, {"a", "\n a"}, {"...\n", "...\n"}, {"%A\n", "%A\n"}};
+    static const char *const flows[] = {"- a\n", "a: b\n", "--- [a]\n", "'a':\n - b\n", "- |\n a\n", "- \n",
+                                        "--- {a: b}\n", "\xef\xbb\xbf--- a\n", "a:\n  # c\n", "---\n...\n",
+                                        "\n", "# a\n", "  # a\n\n"};
     saphyr_parser parser = {0};
     saphyr_event event = {0};
     int32_t status;
@@ -379,7 +382,53 @@ static void keeps_to_what_may_wait(void) {
     saphyr_free(&parser);
 }
 
-/* A text of more characters than may be is refused once its end is told, or before. */
+/* What is behind a bracket that is not closed is not kept without an end. */
+static void tells_an_unclosed_bracket(void) {
+    saphyr_parser parser = {0};
+    int32_t status;
+    expect(saphyr_new_pieces(false, 0, 1000, &parser), SAPHYR_OK, "a text of which little may wait");
+    expect(add(&parser, "---\n{\"a\": [1, 2\n"), SAPHYR_OK, "a bracket that is not closed");
+    size_t came = add_again(&parser, "---\n{\"a\": [1, 2]}\n", 2000, &status);
+    expect(status == SAPHYR_REFUSED || status == SAPHYR_TOO_MUCH, true, "a bracket that is not closed");
+    expect(came < 1100, true, "a bracket that is not closed");
+    saphyr_free(&parser);
+}
+
+/* Long texts in pieces. Each piece is looked at a few times, so this ends soon. */
+static void reads_long_texts(void) {
+    static const struct {
+        const char *begins, *goes_on, *ends;
+    } texts[] = {{"", "- &a b\n", ""}, {"", "- ", "a"}, {"[", "a, ", "]"}, {"\"", "a b ", "\""}, {"", "\n", ""},
+                 {"", "# a\n", ""},    {"", "...\n", ""}, {"--- [", "{a: b},\n", "]"}};
+    static const size_t pieces[] = {1, 64, 4096};
+    enum { TIMES = 20000 };
+    char *text = malloc(TIMES * 10);
+    for (size_t at = 0; text && at < sizeof texts / sizeof *texts; at++) {
+        size_t len = (size_t)sprintf(text, "%s", texts[at].begins);
+        for (size_t times = 0; times < TIMES; times++) {
+            len += (size_t)sprintf(text + len, "%s", texts[at].goes_on);
+        }
+        len += (size_t)sprintf(text + len, "%s", texts[at].ends);
+        for (size_t size = 0; size < sizeof pieces / sizeof *pieces; size++) {
+            saphyr_parser parser = {0};
+            int32_t status;
+            expect(saphyr_new_pieces(false, 0, 0, &parser), SAPHYR_OK, "a long text in pieces");
+            for (size_t came = 0; came < len; came += pieces[size]) {
+                size_t left = len - came;
+                const uint8_t *next = (const uint8_t *)text + came;
+                expect(saphyr_add(&parser, next, left < pieces[size] ? left : pieces[size]), SAPHYR_OK, "a piece");
+                documents(&parser, &status);
+            }
+            expect(add(&parser, ""), SAPHYR_OK, "the end of a long text in pieces");
+            documents(&parser, &status);
+            expect(status, SAPHYR_END, texts[at].goes_on);
+            saphyr_free(&parser);
+        }
+    }
+    free(text);
+}
+
+/* A text of more characters than may be is refused once a token that passes the limit has ended, or with the end. */
 static void keeps_to_how_many_characters_may_come(void) {
     saphyr_parser parser = {0};
     saphyr_event event = {0};
@@ -391,6 +440,12 @@ static void keeps_to_how_many_characters_may_come(void) {
         while ((status = saphyr_next(&parser, &event)) == SAPHYR_EVENT) {
         }
         expect(status, limit < 9 ? SAPHYR_REFUSED : SAPHYR_END, "a text of nine characters");
+    }
+    for (size_t limit = 1; limit < 100; limit++) {
+        expect(saphyr_new_pieces(false, limit, 0, &parser), SAPHYR_OK, "a text of few characters");
+        size_t came = add_again(&parser, "- a\n", 2000, &status);
+        expect(status, SAPHYR_REFUSED, "a text without an end, of few characters");
+        expect(limit < came && came < limit + 12, true, "a text without an end, of few characters");
     }
     saphyr_free(&parser);
 }
@@ -412,6 +467,8 @@ int main(void) {
     says_what_a_status_means();
     keeps_to_what_may_wait();
     keeps_to_how_many_characters_may_come();
+    tells_an_unclosed_bracket();
+    reads_long_texts();
     adds_where_it_may();
     return failed;
 }

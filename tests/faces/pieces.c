@@ -2,9 +2,10 @@
  * Reads texts from standard input, and prints the events of each with their places, as the cases of
  * crates/test_cases have them. Each comes in pieces of as many bytes as the argument says. Now and then the next event
  * is peeked before it is taken, and clones have to give it too. With `lines` each piece is a line. Behind each comes a line
- * with `~` and how many bytes came.
+ * with `~` and how many bytes came. With `cuts` the text comes whole, and a text of at most 200 bytes also in two
+ * pieces, cut at each place: it says where that gives something else.
  *
- *     pieces COUNT | lines
+ *     pieces COUNT | lines | cuts
  *
  * A text comes behind a line with `1` or `0`, for `keep_tags`, and how many bytes it has. Its lines end in the byte FF.
  */
@@ -18,14 +19,14 @@ static void print_answer(int32_t status, const saphyr_event *event) {
         print_bytes(&line, "> ", 2);
         print_event(&line, event);
         flush(&line);
-        printf("%s @ %zu,%zu,%zu", event->is_explicit ? " ---" : "", start->index, start->line, start->col);
-        printf(" %zu,%zu,%zu\n", end->index, end->line, end->col);
+        fprintf(line.file, "%s @ %zu,%zu,%zu", event->is_explicit ? " ---" : "", start->index, start->line, start->col);
+        fprintf(line.file, " %zu,%zu,%zu\n", end->index, end->line, end->col);
     } else if (status == SAPHYR_REFUSED) {
-        fputs("! ", stdout);
-        print_fault(stdout, event);
-        putchar('\n');
+        fputs("! ", line.file);
+        print_fault(line.file, event);
+        putc('\n', line.file);
     } else if (status != SAPHYR_END) {
-        printf("status %d\n", (int)status);
+        fprintf(line.file, "status %d\n", (int)status);
     }
 }
 
@@ -47,7 +48,7 @@ static int32_t next_in_each_way(saphyr_parser *parser, saphyr_event *event) {
     if (cloned != SAPHYR_OK || saphyr_next(&before, &first) != status || saphyr_next(&behind, &second) != status ||
         saphyr_next(parser, event) != status || !is_same(&peeked, event) || !is_same(&first, event) ||
         !is_same(&second, event)) {
-        printf("a peek or a clone gives something else\n");
+        fprintf(line.file, "a peek or a clone gives something else\n");
     }
     saphyr_free(&before);
     saphyr_free(&behind);
@@ -63,7 +64,8 @@ static size_t piece_of(const uint8_t *text, size_t len, size_t count) {
     return piece;
 }
 
-static void print_case(const uint8_t *text, size_t len, bool keep_tags, size_t count) {
+/* In pieces of `count` bytes, or of lines, of which the first has `first` bytes, unless that is 0. */
+static void print_case(const uint8_t *text, size_t len, bool keep_tags, size_t count, size_t first) {
     saphyr_parser parser = {0};
     saphyr_event event = {0};
     size_t added = 0, calls = 0;
@@ -79,33 +81,64 @@ static void print_case(const uint8_t *text, size_t len, bool keep_tags, size_t c
             continue;
         }
         /* A copy, so that valgrind sees a read past the piece, or after the call. */
-        size_t piece = piece_of(text + added, len - added, count);
+        size_t piece = first && !added ? first : piece_of(text + added, len - added, count);
         uint8_t *bytes = malloc(piece + 1);
         memcpy(bytes, text + added, piece);
         status = saphyr_add(&parser, bytes, piece);
         free(bytes);
         added += piece;
         if (!count) {
-            printf("~ %zu\n", added);
+            fprintf(line.file, "~ %zu\n", added);
         }
         if (status != SAPHYR_OK) {
             print_answer(status, &event);
         }
     }
     saphyr_free(&parser);
-    putchar(0xff);
+}
+
+/* A buffer with the lines of a text that is cut behind so many bytes. */
+static char *lines_of(const uint8_t *text, size_t len, bool keep_tags, size_t cut, size_t *size) {
+    char *lines = NULL;
+    line.file = open_memstream(&lines, size);
+    if (!line.file) {
+        exit(2);
+    }
+    print_case(text, len, keep_tags, len + 1, cut);
+    fclose(line.file);
+    return lines;
+}
+
+static void print_cuts(const uint8_t *text, size_t len, bool keep_tags) {
+    size_t size, other_size;
+    char *whole = lines_of(text, len, keep_tags, 0, &size);
+    fwrite(whole, 1, size, stdout);
+    for (size_t cut = 1; cut < len && len <= 200; cut++) {
+        char *other = lines_of(text, len, keep_tags, cut, &other_size);
+        if (size != other_size || memcmp(whole, other, size)) {
+            printf("something else, cut behind %zu bytes\n", cut);
+        }
+        free(other);
+    }
+    free(whole);
 }
 
 int main(int argc, char **argv) {
     size_t len, count = argc == 2 ? strtoul(argv[1], NULL, 10) : 1; /* `lines` is no number, and so 0. */
+    bool cuts = argc == 2 && !strcmp(argv[1], "cuts");
     int keep_tags;
-    line.file = stdout;
     while (scanf("%d %zu", &keep_tags, &len) == 2 && getchar() == '\n') {
         uint8_t *text = malloc(len + 1);
         if (!text || fread(text, 1, len, stdin) != len) {
             return 2;
         }
-        print_case(text, len, keep_tags == 1, count);
+        if (cuts) {
+            print_cuts(text, len, keep_tags == 1);
+        } else {
+            line.file = stdout;
+            print_case(text, len, keep_tags == 1, count, 0);
+        }
+        putchar(0xff);
         free(text);
     }
     return 0;

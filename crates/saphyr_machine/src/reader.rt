@@ -1,6 +1,6 @@
 //! A machine with at most one event read ahead, so that an event can be shown before it is handed out.
 
-ghost use Rattle.std.specs.Prelude.{◌≡◌, ◌+◌, ◌<◌, ◌^◌, ℕ, List, None, Some, true, false, IfNone, length};
+ghost use Rattle.std.specs.Prelude.{◌≡◌, ◌+◌, ◌<◌, ◌^◌, ℕ, List, None, Some, true, false, IfNone, IsTrue, length};
 ghost use Rattle.saphyr_scanner.specs.Steps.State.{with_rest};
 ghost use Rattle.saphyr_scanner.specs.Views.Scanning.{tokens_in};
 ghost use Rattle.saphyr_machine.specs.Answer.{OutOfMemory};
@@ -126,6 +126,15 @@ impl<'input, T: Input> EventReader<'input, T> {
         ensures { T.rest result.now ≡ (scanning_of self.now).state.core.cursor.rest }
     {
         self.machine.scanner.input()
+    }
+
+    /// Passes lines that have no token, so many at most, if the next token was not read yet. The text should have so
+    /// many line feeds. `false`: it ended within a line, and nothing is known of the reader any more.
+    pub fn pass_lines(&mut self, lines: usize) -> bool
+        ensures { IsTrue result → (more : List ℕ)
+            → cursor_in more self.new ≡ cursor_in more self.old }
+    {
+        self.machine.scanner.pass_lines(lines)
     }
 
     /// How many characters are before the place that is reached.

@@ -26,7 +26,7 @@ either_way false x y u v d e = e
 
 mutual
   -- it is known from then on
-  kept : (l : ℕ) (m : Marker) (blank broke tabbed : Bool) (t : List ℕ)
+  pub kept : (l : ℕ) (m : Marker) (blank broke tabbed : Bool) (t : List ℕ)
       → end_of_gap true l m blank true tabbed t ≡ with_break (end_of_gap true l m blank broke tabbed t)
   kept l m blank broke tabbed [] = refl
   kept l m blank broke tabbed (c ∷ cs) =
@@ -49,7 +49,7 @@ absorbed true true k = refl
 absorbed true false k = refl
 absorbed false b k = refl
 
-behind_break : (c : Core) (g : Gap)
+pub behind_break : (c : Core) (g : Gap)
     → (stop (with_break g) >>= λ p. check_comment (behind_gap c p))
     ≡ (stop g >>= λ p. check_comment (behind_gap (behind_feed c) p))
 unfolding stop

@@ -4,27 +4,29 @@ use Rattle.saphyr_scalar.specs.Views.Cursor.{◌>>=◌, refuse}
 use Rattle.saphyr_scalar.specs.declared.scalar.fault.FaultText.TheVariants as fault
 use Rattle.saphyr_scalar.specs.declared.scalar.fault.Refusal.{Refusal}
 use Rattle.std.proofs.Math.Bool.{not-not}
+use Rattle.std.proofs.lemmas.Bool.Decides.{nat_tests}
 use Rattle.saphyr_scalar.specs.declared.scalar.fault.Stop.{Stop}
 use Rattle.saphyr_scalar.specs.declared.scalar.fault.Stop.TheVariants as stops
-use Rattle.saphyr_scalar.specs.Views.Reader.{Moves}
-use Rattle.saphyr_scalar.specs.Known.{may_be_open}
-use Rattle.saphyr_scalar.proofs.WhatCame.Rests.{not_open}
+use Rattle.saphyr_scalar.specs.Views.Reader.{Fails, Moves}
+use Rattle.saphyr_scalar.specs.Known.{is_open, may_be_open}
+use Rattle.saphyr_scalar.proofs.WhatCame.Rests.{known_before, not_open}
 use Rattle.saphyr_scalar.proofs.WhatCame.Steps.{Came, choose, stays, and_known}
 use Rattle.saphyr_scanner.specs.declared.growth.Growth.{Growth}
 use Rattle.saphyr_scanner.specs.declared.growth.Growth.TheVariants as growth
 use Rattle.saphyr_scanner.specs.declared.stopped.Stopped.{Stopped}
 use Rattle.saphyr_scanner.specs.Longer.{extended_by}
 use Rattle.saphyr_scanner.specs.Steps.Core.{Core, drop_far_key, forget_key, in_block, is_too_far}
-use Rattle.saphyr_scanner.specs.Steps.Fetch.{any_holds, begin, fetch, fetch_within, fill, fill_in, has_key, is_at_start, needs_token, size, without_far_key}
+use Rattle.saphyr_scanner.specs.Steps.Fetch.{any_holds, begin, check_limit, fetch, fetch_within, fill, fill_in, has_key, is_at_start, needs_token, size, without_far_key}
 use Rattle.saphyr_scanner.specs.Steps.Level.{Candidate, Level}
 use Rattle.saphyr_scanner.specs.Steps.Queue.{Place, is_empty_list}
 use Rattle.saphyr_scanner.specs.Steps.State.{State, on_core, with_rest}
 use Rattle.saphyr_scanner.specs.Views.Engine.{stopped_by}
+use Rattle.saphyr_scanner.specs.Views.TooLong.{TurnsTooLong, as_read, within}
 use Rattle.saphyr_scanner.specs.Views.Scanning.{Scanning, is_decided, is_growing, text_in}
 use Rattle.saphyr_scanner.proofs.Effects.Readers.{Readers}
-use Rattle.saphyr_scanner.proofs.Filling.{no_key_settles, smaller_read}
+use Rattle.saphyr_scanner.proofs.Filling.{fetched_is_one_more, no_key_settles, read, settled_fill, smaller_read}
 use Rattle.saphyr_scanner.proofs.WhatCame.Cores.{states, core_came, far_came}
-use Rattle.saphyr_scanner.proofs.WhatCame.Fetches.{token_came}
+use Rattle.saphyr_scanner.proofs.WhatCame.Fetches.{fetch_came, token_came}
 
 -- ## Tokens that are read are the same, whatever comes
 
@@ -80,9 +82,56 @@ pub far_refused : (x : List ℕ) (s : State) (e : Refusal) → without_far_key s
     → without_far_key (with_rest x s) ≡ Err e
 far_refused x s e h = far_over x s ∙ ap (before_others x) h
 
+-- ## A text that is too long
+
+-- Reading on is reading on from an earlier state, whatever comes, where what is left is not open.
+abbrev pub GoesOn : ℕ → State → State → Type 0
+GoesOn limit s t = (more : List ℕ) → is_open t.core.cursor.rest ≡ false
+    → (is_open s.core.cursor.rest ≡ false)
+    × (fill_in (suc (size (extended_by more t).core)) limit (extended_by more t) ≡ fill limit (extended_by more s))
+
+pub goes_on_here : (limit : ℕ) (s : State) → without_far_key s ≡ Ok s → GoesOn limit s s
+goes_on_here limit s settled =
+    λ more known. (known, settled_fill limit (extended_by more s) (far_dropped _ s s settled))
+
+pub goes_on_further : Readers → (limit : ℕ) (s t u : State) → needs_token t ≡ true → read limit t ≡ Ok u
+    → GoesOn limit s t → GoesOn limit s u
+goes_on_further laws limit s t u needs e h = λ more known.
+    let came = token_came more limit t in
+    let before = h more (known_before (came.later u e) known) in (
+      before.0,
+      fetched_is_one_more laws limit (extended_by more t) (extended_by more u) needs (came.same u e known) ∙ before.1,
+    )
+
+refused_on : (n limit : ℕ) (s : State) (end : Stop) → needs_token s ≡ true → Fails end (fetch_within limit s)
+    → Fails end (fill_in (suc n) limit s)
+refused_on n limit s stops.OutOfMemory needs f = tt
+refused_on n limit s (stops.Refused e) needs f = rw (needs, f) refl
+
+-- the token that passed the limit passes it whatever comes
+pub long_always : (limit : ℕ) (s t : State) → fetch s ≡ Ok t → (more : List ℕ)
+    → may_be_open t.core.cursor.rest ≡ false → (is_open s.core.cursor.rest ≡ false)
+    × (fetch_within limit (extended_by more s) ≡ check_limit limit (extended_by more t))
+unfolding fetch_within
+long_always limit s t e more known =
+    let came = fetch_came more s in
+    let left = not_open t.core.cursor.rest known in
+    (known_before (came.later t e) left, rw (came.same t e left) refl)
+
+pub over_limit : (limit : ℕ) (s : State) → limit < s.core.cursor.mark.index
+    → check_limit limit s ≡ refuse fault.TextTooLong s.core.cursor.mark
+over_limit limit s over = grind (arith, nat_tests)
+
+pub long_from : (limit : ℕ) (s t : State) (end : Stop) → needs_token t ≡ true → GoesOn limit s t → (more : List ℕ)
+    → (is_open t.core.cursor.rest ≡ false) × Fails end (fetch_within limit (extended_by more t))
+    → (is_open s.core.cursor.rest ≡ false) × Fails end (fill limit (extended_by more s))
+long_from limit s t end needs h more (known, fails) =
+    let before = h more known in
+    (before.0, subst (Fails end) before.1 (refused_on (size (extended_by more t).core) limit _ end needs fails))
+
 -- ## The stream's start is told by no character
 
-no_key : (k : Option Candidate) → not (has_key k) ≡ true → k ≡ None
+pub no_key : (k : Option Candidate) → not (has_key k) ≡ true → k ≡ None
 no_key None e = refl
 no_key (Some k) e = absurd (cc)
 
@@ -136,7 +185,7 @@ text_stays growth.Growing more rest e = absurd (cc)
 text_stays growth.Whole more rest e = refl
 text_stays growth.Starved more rest e = refl
 
-text_grows : (g : Growth) (more rest : List ℕ) → is_growing g ≡ true → text_in g more rest ≡ rest ++ more
+pub text_grows : (g : Growth) (more rest : List ℕ) → is_growing g ≡ true → text_in g more rest ≡ rest ++ more
 text_grows growth.Growing more rest e = refl
 text_grows growth.Whole more rest e = absurd (cc)
 text_grows growth.Starved more rest e = absurd (cc)
@@ -155,6 +204,9 @@ pub record FillsAlways (old new : Scanning) (r : Result Unit Stopped) : Type 0 w
   pub with_more : (more : List ℕ) → FillsOver (text_in old.growth more old.state.core.cursor.rest)
       (text_in new.growth more new.state.core.cursor.rest) old new new.stop r
 
+pub fills_as : {old new : Scanning} {r q : Result Unit Stopped} → r ≡ q → FillsAlways old new q → FillsAlways old new r
+fills_as {old} {new} is h = subst (FillsAlways old new) (sym is) h
+
 over : (old new : Scanning) (r : Result Unit Stopped) (x y before behind : List ℕ) → x ≡ before
     → y ≡ behind → FillsOver before behind old new new.stop r → FillsOver x y old new new.stop r
 over old new r x y before behind e f h = subst (λ z. FillsOver z y old new new.stop r) (sym e)
@@ -164,25 +216,30 @@ pub fills_whole : (old new : Scanning) (r : Result Unit Stopped) → is_growing 
     → new.growth ≡ old.growth → Fills old new r → FillsAlways old new r
 fills_whole old new r whole same f = grind arith
 
-pub fills_growing : Readers → (old new : Scanning) (r : Result Unit Stopped)
+pub fills_growing : Readers → (old new : Scanning) (r : Result Bool Stopped)
     → is_growing old.growth ≡ true → new.growth ≡ old.growth
-    → is_decided r new.state.core.cursor.rest new.stop ≡ true
-    → Fills old new r → FillsAlways old new r
-fills_growing laws old new r grows same decided f = record {
-  with_more = λ more. over old new r _ _ _ _ (text_grows old.growth more _ grows)
-      (text_grows new.growth more _ (ap is_growing same ∙ grows)) (by more r new.stop decided f);
+    → is_decided (as_read r) new.state.core.cursor.rest new.stop ≡ true
+    → Fills old new (within r) → TurnsTooLong (fill old.limit) old.state r new.state new.stop
+    → FillsAlways old new (within r)
+fills_growing laws old new r grows same decided f long = record {
+  with_more = λ more. over old new (within r) _ _ _ _ (text_grows old.growth more _ grows)
+      (text_grows new.growth more _ (ap is_growing same ∙ grows)) (by more r new.stop decided f long);
 }
   where
     rest : List ℕ
     rest = new.state.core.cursor.rest
 
-    by : (more : List ℕ) (q : Result Unit Stopped) (end : Stop)
-        → is_decided q rest end ≡ true → FillsOver old.state.core.cursor.rest rest old new end q
-        → FillsOver (old.state.core.cursor.rest ++ more) (rest ++ more) old new end q
-    by more (Ok u) end known g = (fill_came laws old.limit more old.state).same new.state g
-        (not_open rest (sym (not-not (may_be_open rest)) ∙ ap not known))
-    by more (Err e) stops.OutOfMemory known g = tt
-    by more (Err e) (stops.Refused d) seen g = (fill_came laws old.limit more old.state).reported d g seen
+    known : not (may_be_open rest) ≡ true → may_be_open rest ≡ false
+    known e = sym (not-not (may_be_open rest)) ∙ ap not e
+
+    by : (more : List ℕ) (q : Result Bool Stopped) (end : Stop)
+        → is_decided (as_read q) rest end ≡ true → FillsOver old.state.core.cursor.rest rest old new end (within q)
+        → TurnsTooLong (fill old.limit) old.state q new.state end
+        → FillsOver (old.state.core.cursor.rest ++ more) (rest ++ more) old new end (within q)
+    by more (Ok true) end e g l = (fill_came laws old.limit more old.state).same new.state g (not_open rest (known e))
+    by more (Ok false) end e g l = (l.1 more (known e)).1
+    by more (Err e) stops.OutOfMemory known g l = tt
+    by more (Err e) (stops.Refused d) seen g l = (fill_came laws old.limit more old.state).reported d g seen
 
 -- The stream's start is put whatever comes.
 pub fills_at_start : (old new : Scanning) (r : Result Unit Stopped) → is_at_start old.state.core ≡ true

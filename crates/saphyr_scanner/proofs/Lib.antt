@@ -16,6 +16,7 @@ pub mod Stacks
 pub mod Counted
 pub mod Ordered
 pub mod LineTails
+pub mod LinesPassed
 pub mod Added
 pub mod Effects
 pub mod ReadersCounted

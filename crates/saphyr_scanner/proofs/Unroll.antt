@@ -25,7 +25,7 @@ same_hands (p ∷ ps) go ho s h = by (needs_token s) refl (same_hands ps go ho (
         → hand_out (p ∷ ps) go s ≡ hand_out (p ∷ ps) ho s
     by b e others = grind arith
 
-remaining_after_so : (r : Result State Refusal) (f g : State → Remaining) → ((u : State) → r ≡ Ok u → f u ≡ g u)
+pub remaining_after_so : (r : Result State Refusal) (f g : State → Remaining) → ((u : State) → r ≡ Ok u → f u ≡ g u)
     → remaining_after r f ≡ remaining_after r g
 remaining_after_so r f g h = grind arith
 
@@ -57,7 +57,7 @@ pub settled_is : (s : State) → IsSettled s → without_far_key s ≡ Ok s
 settled_is s e = rw e refl
 
 -- what is read first changes nothing
-hand_nothing : (s : State) (ps : List Place) (go : State → Remaining) → needs_token s ≡ true → hand_out ps go s ≡ go s
+pub hand_nothing : (s : State) (ps : List Place) (go : State → Remaining) → needs_token s ≡ true → hand_out ps go s ≡ go s
 hand_nothing s [] go needs = refl
 hand_nothing s (p ∷ ps) go needs = rw needs refl
 

@@ -7,3 +7,5 @@ pub mod Queue
 pub mod Scanning
 pub mod Engine
 pub mod Ahead
+pub mod TooLong
+pub mod Lines

@@ -1,6 +1,6 @@
 //! The scanner as its callers see it. It reads as far into the text as the next token needs.
 
-ghost use Rattle.std.specs.Prelude.{◌≡◌, ◌+◌, ◌<◌, ◌^◌, true, false, List, ℕ, IfOk, OnErr, OnOk, Some, length, string_bytes};
+ghost use Rattle.std.specs.Prelude.{◌≡◌, ◌+◌, ◌<◌, ◌^◌, true, false, List, ℕ, IfOk, IsTrue, OnErr, OnOk, Some, length, string_bytes};
 ghost use Rattle.saphyr_scalar.specs.declared.scalar.fault.Stop.TheVariants.{OutOfMemory};
 ghost use Rattle.saphyr_scanner.specs.Steps.Fetch.{fill, is_at_start, needs_token, without_far_key};
 ghost use Rattle.saphyr_scanner.specs.Steps.Remaining.{scan};
@@ -8,6 +8,7 @@ ghost use Rattle.saphyr_scanner.specs.Steps.State as spec;
 ghost use Rattle.saphyr_scanner.specs.declared.growth.Growth.TheVariants.{Starved, Whole};
 ghost use Rattle.saphyr_scanner.specs.Views.Engine.{Keeps};
 ghost use Rattle.saphyr_scanner.specs.Views.Scanning.{IsReady, IsUndecided, PeeksToken, Readies, is_growing, tokens_in};
+ghost use Rattle.saphyr_scanner.specs.Views.TooLong as long;
 ghost use Rattle.saphyr_scanner.specs.Views.Tokens.{Piece, Remaining, before, kind_with, parts_view, text_of, token_kind};
 ghost use Rattle.saphyr_scanner.specs.SpansInOrder.{AreInOrder};
 ghost use Rattle.saphyr_scanner.specs.TokensTaken.{AreTakenFrom};
@@ -21,6 +22,17 @@ use saphyr_input::input::{CloneInput, Input};
 use saphyr_scalar::{Span, Stop, TagParts};
 use std::alloc::{AllocError, Global};
 use std::marker::Model;
+
+// What a call told that reads up to a limit: it stopped where the limit was passed.
+#[inline(always)]
+fn within(read: Result<bool, Stopped>) -> Result<(), Stopped>
+    ensures { result ≡ long.within read }
+{
+    match read {
+        Ok(true) => Ok(()),
+        _ => Err(Stopped),
+    }
+}
 
 /// The tokens of a text, one after the other.
 ///
@@ -138,7 +150,7 @@ impl<T: Input> Scanner<T> {
         }
         // A law. It does nothing when it runs.
         takes_characters_off();
-        self.engine.read_tokens(self.limit)
+        within(self.engine.read_tokens(self.limit))
     }
 
     // Reads on where more of the text may come. It is separate for speed: a text is mostly whole.
@@ -157,13 +169,27 @@ impl<T: Input> Scanner<T> {
         let starts = self.engine.is_at_start();
         let read = self.engine.read_tokens(self.limit);
         if starts {
-            return read;
+            return within(read);
         }
         if self.engine.is_decided(read) {
-            return read;
+            return within(read);
         }
         self.growth = Growth::Starved;
         Err(self.stop_at(Stop::OutOfMemory))
+    }
+
+    /// Passes lines that have no token, so many at most, if the next token was not read yet. The text should have so
+    /// many line feeds. `false`: it ended within a line, and nothing is known of the scanner any more.
+    pub fn pass_lines(&mut self, lines: usize) -> bool
+        ensures { IsTrue result → (more : List ℕ)
+            → tokens_in more self.new ≡ tokens_in more self.old }
+    {
+        if !matches!(self.growth, Growth::Growing) || !self.engine.is_between() {
+            return true;
+        }
+        // A law. It does nothing when it runs.
+        takes_characters_off();
+        self.engine.pass_lines(lines)
     }
 
     /// The span of the next token goes into the place of another. To be called where it was peeked.

@@ -1,11 +1,12 @@
 //! The copy of a reader that it goes back to, and the events that it handed out since.
 
-ghost use Rattle.std.specs.Prelude.{◌≡◌, IfOk, OnErr, None};
+ghost use Rattle.std.specs.Prelude.{◌≡◌, List, ℕ, IfOk, OnErr, None};
+ghost use Rattle.saphyr_machine.specs.Views.Readers.{cursor_in};
 ghost use Rattle.saphyr_pieces.specs.Views as spec;
 
 use crate::owned::OwnedText;
 use crate::pieces::PieceReader;
-use crate::pieces::waiting::{is_far, weight_behind};
+use crate::pieces::waiting::{is_far, line_feeds, weight_behind};
 use saphyr_machine::{Event, EventReader, Fault, Progress, no_event};
 use std::alloc::AllocError;
 use std::mem::replace;
@@ -23,6 +24,19 @@ fn read_again(reader: &mut EventReader<'static, OwnedText>, events: usize) -> Re
         }
     }
     Ok(())
+}
+
+// Passes the lines that wait and have no token, so that their text is not kept.
+fn pass_lines(reader: &mut EventReader<'static, OwnedText>) -> Result<(), AllocError>
+    ensures { IfOk result (λ _. (more : List ℕ)
+        → cursor_in more reader.new ≡ cursor_in more reader.old) }
+{
+    let lines = line_feeds(reader.input().as_str());
+    if reader.pass_lines(lines) {
+        Ok(())
+    } else {
+        Err(AllocError)
+    }
 }
 
 impl PieceReader {
@@ -71,7 +85,8 @@ impl PieceReader {
         }
     }
 
-    /// Goes back to the copy, and reads its events again. If memory runs out, the reader stays.
+    /// Goes back to the copy, reads its events again, and passes the lines without a token behind them. If memory runs
+    /// out, the reader stays.
     pub(super) fn go_back(&mut self) -> Result<(), AllocError>
         ensures back { IfOk result
             (λ _. spec.GoesBack self.old.copy self.old.events self.new.reader) }
@@ -84,6 +99,7 @@ impl PieceReader {
             return Err(AllocError);
         };
         read_again(&mut copy, self.events)?;
+        pass_lines(&mut copy)?;
         drop(replace(&mut self.reader, copy));
         self.starved = true;
         Ok(())

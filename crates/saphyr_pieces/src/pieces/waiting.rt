@@ -30,6 +30,19 @@ fn may_decide(came: &str) -> bool {
     came.len() > 3 && came.starts_with("---") || came.bytes().any(ends)
 }
 
+/// How many line feeds a text has that may begin with lines without a token.
+pub(super) fn line_feeds(text: &str) -> usize {
+    let mut count: usize = 0;
+    if text.starts_with("\n") || text.starts_with(" ") || text.starts_with("#") {
+        for b in text.bytes() {
+            if b == b'\n' {
+                count = count.saturating_add(1);
+            }
+        }
+    }
+    count
+}
+
 /// What there is to copy behind an event.
 pub(super) fn weight_behind(event: &Event<'_>, weight: usize) -> usize {
     match event {

@@ -133,7 +133,7 @@ module _ (more : List ℕ) where
   arrive_came s = and_known _ (core_came more 0 _ _ s.queue (and_known _ (pass_gap_came more s.core)
       (λ c _. far_came more 0 c))) (λ t _. unroll_came more 0 (Some t.core.cursor.mark.col) t.core.cursor.mark t)
 
-  fetch_came : (s : State) → Came states more s.core.cursor.rest (fetch s) (fetch (extended_by more s))
+  pub fetch_came : (s : State) → Came states more s.core.cursor.rest (fetch s) (fetch (extended_by more s))
   unfolding fetch
   fetch_came s =
       choose s.core.started (λ _. and_known _ (arrive_came s) (λ t _. here_came t)) (λ _. stays)

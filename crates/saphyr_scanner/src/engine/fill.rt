@@ -1,6 +1,7 @@
 //! How many tokens are read before the first of them is handed out, and handing it out.
 
-ghost use Rattle.std.specs.Prelude.{◌≡◌, ◌+◌, ◌<◌, ◌^◌, List, ℕ, true, false, IfOk, IsTrue, Ok, OnErr, OnOk, Some, string_bytes};
+ghost use Rattle.std.specs.Prelude.{◌≡◌, ◌+◌, ◌<◌, ◌≤◌, ◌^◌, List, ℕ, true, false, IfOk, IsTrue, Ok, OnErr, OnOk, Some, slice_index, string_bytes};
+ghost use Rattle.saphyr_input.specs.Classes.{is_z};
 ghost use Rattle.saphyr_scalar.specs.declared.scalar.fault.Stop.TheVariants.{OutOfMemory};
 ghost use Rattle.saphyr_scanner.specs.Steps.Fetch as fetch;
 
@@ -9,13 +10,16 @@ use crate::law::takes_characters_off;
 use crate::stopped::{Stopped, keep};
 use crate::token::{TokenKind, TokenParts};
 use saphyr_input::input::Input;
-use saphyr_scalar::{FaultText, Span, Stop, TagParts};
+use saphyr_scalar::{FaultText, Refusal, Span, Stop, TagParts};
 
 impl<T: Input> Engine<T> {
+    ghost use Rattle.saphyr_scalar.specs.Views.Reader.{loaded};
     ghost use Rattle.saphyr_scanner.specs.Views.Engine.{state, MovesBy};
+    ghost use Rattle.saphyr_scanner.specs.Views.Lines.{PassesOn};
     ghost use Rattle.saphyr_scanner.specs.Views.Queue.{first_of, kind_shown};
     ghost use Rattle.saphyr_scanner.specs.Views.Scanning.{is_decided};
     ghost use Rattle.saphyr_scanner.specs.Views.Tokens.{Piece, kind_with, parts_view, text_of, token_kind};
+    ghost use Rattle.saphyr_scanner.specs.Views.TooLong.{as_read, within, TurnsTooLong};
 
     // Whether the token at a place may still become a key in what is open around the level.
     #[inline(always)]
@@ -50,16 +54,22 @@ impl<T: Input> Engine<T> {
         (self.queue.is_empty() || self.is_held()) && !self.ended
     }
 
-    // Puts the next token into the queue, if the text is not too long.
+    // Puts the next token into the queue. `false`: with it the text is too long, and refused.
+    #[inline(always)]
     #[tactic(auto, unfolding(crate::specs::Steps::Fetch::fetch_within))]
-    fn fetch_within(&mut self, limit: usize) -> Result<(), Stopped>
-        ensures { MovesBy (fetch.fetch_within limit) self.old result self.new }
+    fn fetch_within(&mut self, limit: usize) -> Result<bool, Stopped>
+        ensures moves { MovesBy (fetch.fetch_within limit) self.old (within result) self.new }
+        ensures long { TurnsTooLong (fetch.fetch_within limit) (state self.old) result
+            (state self.new) self.new.stop }
     {
         self.fetch()?;
-        if self.reader.mark().index > limit {
-            return Err(self.refuse_here(FaultText::TextTooLong));
+        let mark = self.reader.mark();
+        if mark.index > limit {
+            let text = FaultText::TextTooLong;
+            self.stop = Stop::Refused(Refusal { text, mark });
+            return Ok(false);
         }
-        Ok(())
+        Ok(true)
     }
 
     /// Whether nothing that is open has a candidate. Then no token is held.
@@ -92,22 +102,79 @@ impl<T: Input> Engine<T> {
     }
 
     /// Reads tokens until the head of the queue can be handed out, unless all were. To be called where the next token
-    /// must be read.
+    /// must be read. `false`: the text is too long, and refused.
     #[inline(never)]
-    pub(crate) fn read_tokens(&mut self, limit: usize) -> Result<(), Stopped>
+    pub(crate) fn read_tokens(&mut self, limit: usize) -> Result<bool, Stopped>
         requires needed { fetch.needs_token (state self.old) ≡ true }
         requires settled { fetch.without_far_key (state self.old) ≡ Ok (state self.old) }
-        ensures { MovesBy (fetch.fill limit) self.old result self.new }
+        ensures moves { MovesBy (fetch.fill limit) self.old (within result) self.new }
+        ensures long { TurnsTooLong (fetch.fill limit) (state self.old) result
+            (state self.new) self.new.stop }
     {
         // A law. It does nothing when it runs.
         takes_characters_off();
         loop {
-            self.fetch_within(limit)?;
+            if !self.fetch_within(limit)? {
+                return Ok(false);
+            }
             self.drop_far_key()?;
             if !self.needs_token() {
-                return Ok(());
+                return Ok(true);
             }
         }
+    }
+
+    /// Whether the next token must be read, and none is there that may be a key.
+    pub(crate) fn is_between(&self) -> bool
+        ensures needed { IsTrue result → fetch.needs_token (state self.now) ≡ true }
+        ensures settled { IsTrue result
+            → fetch.without_far_key (state self.now) ≡ Ok (state self.now) }
+        ensures free { IsTrue result → fetch.has_no_candidate (state self.now).core ≡ true }
+        ensures started { IsTrue result → (state self.now).core.started ≡ true }
+    {
+        self.started && self.has_no_candidate() && self.has_none()
+    }
+
+    // Passes spaces and a comment. Returns the character behind them.
+    fn pass_comment(&mut self) -> char
+        ensures first { result ≡ slice_index (state self.new).core.cursor.rest 0 }
+        ensures loaded { 1 ≤ loaded self.new.reader }
+        ensures passed { is_z result ≡ false → PassesOn (state self.old) (state self.new) }
+    {
+        self.reader.skip_spaces(usize::MAX);
+        let c = self.reader.look();
+        if c != '#' {
+            return c;
+        }
+        self.reader.skip_comment();
+        self.reader.look()
+    }
+
+    // Passes a line feed.
+    fn pass_line_feed(&mut self, c: char)
+        requires first { c ≡ slice_index (state self.old).core.cursor.rest 0 }
+        requires loaded { 1 ≤ loaded self.old.reader }
+        requires feed { c ≡ 10 }
+        ensures { PassesOn (state self.old) (state self.new) }
+    {
+        self.reader.skip_seen_break(c);
+        if self.in_block() {
+            self.key_allowed = true;
+        }
+    }
+
+    /// Passes lines that have no token, so many at most. `false`: the text ended within one, and nothing is known.
+    pub(crate) fn pass_lines(&mut self, lines: usize) -> bool
+        ensures { IsTrue result → PassesOn (state self.old) (state self.new) }
+    {
+        for _ in 0..lines {
+            let c = self.pass_comment();
+            if c != '\n' {
+                return c != '\0';
+            }
+            self.pass_line_feed(c);
+        }
+        true
     }
 
     /// The kind of the first token, unless all were handed out.
@@ -126,14 +193,14 @@ impl<T: Input> Engine<T> {
     }
 
     /// Whether what was read is so whatever comes behind what came of the text.
-    pub(crate) fn is_decided(&mut self, read: Result<(), Stopped>) -> bool
+    pub(crate) fn is_decided(&mut self, read: Result<bool, Stopped>) -> bool
         ensures decided { result
-            ≡ is_decided read (state self.old).core.cursor.rest self.old.stop }
+            ≡ is_decided (as_read read) (state self.old).core.cursor.rest self.old.stop }
         ensures same { state self.new ≡ state self.old }
         ensures stop { self.new.stop ≡ self.old.stop }
     {
         match read {
-            Ok(()) => !self.reader.is_at_open_end(),
+            Ok(_) => !self.reader.is_at_open_end(),
             Err(Stopped) => match self.stop {
                 Stop::Refused(refusal) => refusal.text.is_seen(),
                 Stop::OutOfMemory => true,
