@@ -17,11 +17,7 @@ property_count a g t h = grind arith
 -- a collection has its properties' anchor, and those inside
 around : (c : Collection) (p : Properties) (ps : List Part) → anchors (opening_part c p ∷ (ps ++ closing_part c ∷ []))
     ≡ one_more_anchor (option_map encode_utf8_all p.anchor) 0 + anchors ps
-around c p ps = cc (sum (opening_part c p ∷ []) (ps ++ closing_part c ∷ []), sum ps (closing_part c ∷ []), by c)
-  where
-    by : (c : Collection) → anchors (opening_part c p ∷ []) + (anchors ps + anchors (closing_part c ∷ []))
-        ≡ one_more_anchor (option_map encode_utf8_all p.anchor) 0 + anchors ps
-    by c = grind arith
+around c p ps = grind (arith, sum, opening_part, closing_part)
 
 pub forest_count : (f : Forest) (t : List Kind) → Yields f t → anchors (parts f) ≤ length t
 forest_count = of_forest (λ t ps. anchors ps ≤ length t) (record {

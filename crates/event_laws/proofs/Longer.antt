@@ -132,17 +132,13 @@ abbrev pub PassesAll : More → Machine → (Machine → Result Emitted Refusal)
 PassesAll z m go = (z.marker ≡ Ends) × (go m ≡ Err (ending_refusal m.tokens.refusal))
     × (go (longer z m) ≡ go (longer z (with_pieces [] m)))
 
-none_start : (s : State) (m : Machine) → IsBetweenDocuments s
-    → event_step_at s (with_pieces [] m) ≡ Err (ending_refusal m.tokens.refusal)
-unfolding implicit_start explicit_start unpassed_token
-none_start k m i = grind arith
-
 last_marker : (d : DocumentMarker) → marker_token d ≡ tokens.DocumentEnd → d ≡ Ends
 last_marker u0 e = grind arith
 
 all_passed : (z : More) (o : Option Refusal) (s : State) (m : Machine) → IsBetweenDocuments s
     → PassedAll (with_longer z o) m (longer z m) (event_step_at s) → PassesAll z m (event_step_at s)
-all_passed z o s m i u0 = grind (arith, last_marker, none_start)
+unfolding implicit_start explicit_start unpassed_token
+all_passed z o s m i u0 = grind (arith, last_marker)
 
 pub steps_agree : (z : More) (s : State) (m : Machine) → s ≢ state.End → End z m.tokens.pieces
     → AgreesOrEndsEarly z m.tokens.refusal (event_step_at s m) (event_step_at s (longer z m))

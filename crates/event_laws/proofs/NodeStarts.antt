@@ -19,9 +19,6 @@ place_of Flow = InFlow
 place_of Block = InBlock
 place_of BlockMapping = InBlockMapping
 
-context_is : (d : NodeContext) → context_of (place_of d) ≡ d
-context_is d = grind arith
-
 -- ## The first token
 
 abbrev pub Starts : grammar.Context → Kind → Type 0
@@ -181,7 +178,7 @@ ends_there o k h = grind arith
 begins_at : (o x : State) (f : SpansByKinds) (j : Kind) (l : List Kind) (ss : List State) (e : Memory) (span : Span)
     (b : Bool) → b ≡ false → steps.node_or_nothing_at b o span (record { span = f l; kind = j }) (at f l x ss e)
     ≡ next_node (context_of (place_before o)) (at f (j ∷ l) x (o ∷ ss) e)
-begins_at o x f j l ss e span b h = rw (h, context_is (steps.context_before o)) refl
+begins_at o x f j l ss e span b h = grind arith
 
 ends_at : (o x : State) (f : SpansByKinds) (k : Kind) (ks : List Kind) (ss : List State) (e : Memory) (span : Span)
     (b : Bool) → b ≡ true → steps.node_or_nothing_at b o span (record { span = f ks; kind = k }) (at f ks x ss e)

@@ -74,18 +74,13 @@ abbrev EndsDocument : Result Emitted Refusal → Type 0
 EndsDocument (Ok x) = x.what ≡ events.DocumentEnd
 EndsDocument (Err e) = Unit {0}
 
--- at the end of a document no other event is told
-other_state : (m : Machine) (x : Emitted) → event_step m ≡ Ok x → x.what ≢ events.DocumentEnd
-    → m.state ≢ state.DocumentEnd
-unfolding event_step document.document_end
-other_state m x is other at_end = grind arith
-
 setting : (b : Bool) (c : Option (Happening × Span)) (k : Option Kept) (m : Machine) (i : Bool) (f : Option Span)
     (e : Happening × Span) (new : EventCursor) → e.0 ≢ events.DocumentEnd
     → Advances e (record { current = c; kept = k; machine = m; inside = i; finished = f }) new
     → Advances e (record { current = c; kept = k; machine = with_keep_tags b m; inside = i; finished = f })
     (keeping_tags b new)
-setting b u0 k m i f e new other u1 = grind (arith, sets, other_state)
+unfolding event_step document.document_end
+setting b u0 k m i f e new other u1 = grind (arith, sets)
 
 -- any other event is handed out whatever the setting, which may be made before it or after it
 pub sets_behind : (e : Happening × Span) (old new : EventCursor) (b : Bool) → e.0 ≢ events.DocumentEnd

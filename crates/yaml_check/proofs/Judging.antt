@@ -3,7 +3,7 @@ use Rattle.std.proofs.Common.{◌≡◌, ℕ, ◌<◌, List, [], ◌++◌, lengt
 use Rattle.std.specs.Prelude.{Bool, true, false, not, IsErrAnd, if◌then◌else◌}
 use Rattle.std.specs.Str.{chars, IsUtf8}
 use Rattle.std.specs.Io.KnownBytes.{Appends, Keeps}
-use Rattle.std.proofs.KnownBytes.{Appends-trans, Appends-nil}
+use Rattle.std.proofs.KnownBytes.{Appends-nil}
 use Rattle.saphyr_parser.specs.Answer.{Answer}
 use Rattle.saphyr_parser.specs.Cursor.{EventCursor, to_come}
 use Rattle.saphyr_parser.specs.Types.Fault.{Fault}
@@ -15,7 +15,7 @@ use Rattle.saphyr_parser.specs.Printed.{printed_lines}
 use Rattle.saphyr_parser.specs.Runs.{answer_of_text, ReadsAll, TakesBeginning}
 use Rattle.saphyr_parser.specs.Written.{TakesSome, TakesUpTo}
 use Rattle.saphyr_parser.proofs.Printed.Dumping.{lines-append}
-use Rattle.saphyr_parser.proofs.Printed.Written.{takes_none}
+use Rattle.saphyr_parser.proofs.Printed.Written.{begins_behind, begins_longer, takes_none}
 use Rattle.yaml_check.specs.declared.arguments.Options.{Options}
 use Rattle.yaml_check.specs.declared.finding.Findings.{Findings}
 use Rattle.yaml_check.specs.declared.run.CheckFault.{CheckFault}
@@ -54,29 +54,11 @@ pub takes_none_more : (a b c : Option (List ℕ)) (bytes rest : List ℕ) → 0 
     → Keeps b c → TakesBeginning a c bytes
 takes_none_more a b c bytes rest more up_to kept = takes_some a c bytes (takes_none a b c bytes rest more up_to kept)
 
-takes_less : (old new : Option (List ℕ)) (bytes more : List ℕ) → TakesBeginning old new bytes
-    → TakesBeginning old new (bytes ++ more)
-takes_less old new bytes more t = record {
-  front = t.front;
-  back = t.back ++ more;
-  split = ap (λ l. l ++ more) t.split ∙ append_assoc t.front t.back more;
-  taken = t.taken;
-}
-
-takes_more : (old middle new : Option (List ℕ)) (bytes more : List ℕ) → Appends old middle bytes
-    → TakesBeginning middle new more → TakesBeginning old new (bytes ++ more)
-takes_more old middle new bytes more whole t = record {
-  front = bytes ++ t.front;
-  back = t.back;
-  split = ap (λ l. bytes ++ l) t.split ∙ sym (append_assoc bytes t.front t.back);
-  taken = Appends-trans old middle new bytes t.front whole t.taken;
-}
-
 -- the events' lines were not all written
 pub cut_lines : (name : List ℕ) (options : Options) (bytes : List ℕ) (old new : Option (List ℕ))
     → TakesBeginning old new (events_asked options (answer_of_text bytes)) → IsCutShort name options bytes old new
 cut_lines name options bytes old new t =
-    record { told = []; report = inl refl; taken = takes_less old new _ (told_unless_quiet options []) t }
+    record { told = []; report = inl refl; taken = begins_longer old new _ (told_unless_quiet options []) t }
 
 -- of what is told not all was written
 pub cut_report : (name : List ℕ) (options : Options) (bytes told : List ℕ) (old middle new : Option (List ℕ))
@@ -89,7 +71,7 @@ pub cut_report : (name : List ℕ) (options : Options) (bytes told : List ℕ) (
 cut_report name options bytes told old middle new found names warns notes report lines t = record {
   told = told;
   report = inr (found, names, warns, notes, report);
-  taken = takes_more old middle new _ _ lines t;
+  taken = begins_behind old middle new _ _ lines t;
 }
 
 pub dumped_lines : (a left : Answer) (old new : Option (List ℕ))

@@ -1,5 +1,5 @@
 -- Nodes, after their properties, are told.
-use Rattle.event_laws.proofs.Common.{◌≡◌, ◌≢◌, ℕ, ◌<◌, List, [], ◌∷◌, ◌++◌, length, Option, Some, None, option_map, encode_utf8_all, codes, Result, Ok, refl, sym, ◌∙◌, inl, inr, arith, option_or, Marker, Span, Refusal, Handle, handle_bytes, Tag, NonSpecific, Verbatim, Shorthand, Kind, anchor_token, tag_token, AreBoth, YieldProperties, Piece, NodeContext, State, Part, Happening, ResolvedTag, ◌>>=◌, Names, meaning, next_id, Machine, Emitted, emit, taken_token, default_prefix, event_step}
+use Rattle.event_laws.proofs.Common.{◌≡◌, ◌≢◌, ℕ, ◌<◌, List, [], ◌∷◌, ◌++◌, length, Option, Some, None, option_map, encode_utf8_all, codes, Result, Ok, refl, sym, ◌∙◌, inl, inr, arith, Marker, Span, Refusal, Handle, handle_bytes, Tag, NonSpecific, Verbatim, Shorthand, Kind, anchor_token, tag_token, AreBoth, YieldProperties, Piece, NodeContext, State, Part, Happening, ResolvedTag, ◌>>=◌, Names, meaning, next_id, Machine, Emitted, emit, taken_token, event_step}
 use lib.Utf8.{encode}
 use Rattle.saphyr_scanner.specs.Grammar.Forest as forest
 use Rattle.saphyr_scanner.specs.Grammar.Tokens as tokens
@@ -13,13 +13,6 @@ abbrev pub next_node : NodeContext → Machine → Result Emitted Refusal
 next_node d m = taken_token m >>= (λ t. node d t.0 t.1)
 
 -- ## Tags
-
--- what a handle stands for is what the machine finds
-handle_stands : (handle : Handle) (names : Names (List ℕ)) (place : Marker) (prefix : List ℕ) (o : Option (List ℕ))
-    → option_or o (default_prefix handle) ≡ Some prefix
-    → declared_prefix_or o (undeclared_prefix (handle_bytes handle) place) ≡ Ok prefix
-unfolding encode
-handle_stands handle names place prefix o h = grind arith
 
 pub handle_is_some : (handle : Handle) → 0 < length (handle_bytes handle)
 unfolding encode
@@ -47,8 +40,8 @@ of_shorthand o r suffix tag h q = grind arith
 shorthand_stands : (handle : Handle) (suffix : List ℕ) (names : Names (List ℕ)) (place : Marker) (r : ResolvedTag)
     → resolve names (Shorthand handle suffix) ≡ Some r
     → resolved_tag_at names (handle_bytes handle) (encode_utf8_all suffix) place ≡ Ok r
-unfolding resolved_tag_at
-shorthand_stands handle suffix names place r h = grind (arith, has_handle, handle_is_some, of_shorthand, handle_stands)
+unfolding resolved_tag_at encode
+shorthand_stands handle suffix names place r h = grind (arith, has_handle, handle_is_some, of_shorthand)
 
 some_inside : (a b : ResolvedTag) → (let o : Option ResolvedTag = Some a in o) ≡ Some b
     → (let r : Result ResolvedTag Refusal = Ok a in r) ≡ Ok b

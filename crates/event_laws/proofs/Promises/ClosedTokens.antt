@@ -1,11 +1,11 @@
 -- Tokens up to a document marker's give the events up to and including its own, whatever follows.
-use Rattle.event_laws.proofs.Common.{◌≡◌, ◌≢◌, Bool, List, [], ◌∷◌, ◌++◌, Option, None, ap, ◌∙◌, ◌⊎◌, inl, inr, arith, Span, Refusal, Piece, State, Happening, empty_scalar, DocumentMarker, Ends, events_behind_marker, GivesFirst, Machine, fresh_machine, emit, with_state, with_pieces, Answer, remaining_answer, at_start, keeping_tags, to_come, GivesExactly, answer_of_tokens, marker_token, unroll, over, IsBetweenDocuments, Awaits}
+use Rattle.event_laws.proofs.Common.{◌≡◌, ◌≢◌, Bool, List, [], ◌∷◌, ◌++◌, Option, None, ap, ◌∙◌, ◌⊎◌, inl, inr, arith, Span, Refusal, Piece, State, Happening, empty_scalar, DocumentMarker, Ends, events_behind_marker, GivesFirst, Machine, fresh_machine, Answer, remaining_answer, at_start, keeping_tags, to_come, GivesExactly, answer_of_tokens, marker_token, unroll, over, IsBetweenDocuments, Awaits}
 use Rattle.std.proofs.lemmas.List.{append_assoc, append_cancel_right, append-nil, map-append}
 use Rattle.saphyr_scanner.specs.Grammar.Tokens as tokens
 use Rattle.saphyr_machine.specs.declared.state.State.TheVariants as state
 use Rattle.saphyr_machine.specs.Events as events
 use Rattle.saphyr_machine.specs.Steps.Documents.{unpassed_token, implicit_start, explicit_start, document_content, document_end, token_behind_document, without_prefixes}
-use Rattle.saphyr_machine.specs.Steps.Expected.{event_step, event_step_at}
+use Rattle.saphyr_machine.specs.Steps.Expected.{event_step}
 use Rattle.event_laws.proofs.Longer.{More, longer, IsLastOr, End}
 use Rattle.event_laws.proofs.Promises.CommonBeginnings.{or_last, IsStopped, GoesOn, goes_on}
 use Rattle.event_laws.proofs.Happenings.{happenings_of}
@@ -16,18 +16,13 @@ use Rattle.event_laws.proofs.Happenings.{happenings_of}
 abbrev alone : Span → Machine → Machine
 alone s k = record k { tokens = record { pieces = record { span = s; kind = tokens.StreamEnd } ∷ []; refusal = None } }
 
-start_step : (s : Span) (x : State) (k : Machine) → IsBetweenDocuments x
-    → event_step_at x (alone s k) ≡ emit events.StreamEnd s (with_state state.End (with_pieces [] (alone s k)))
-unfolding implicit_start explicit_start unpassed_token
-start_step s a k i = grind arith
-
 pub not_over : (x : State) → IsBetweenDocuments x → x ≢ state.End
 not_over k i = grind arith
 
 start_is_emitted : (s : Span) (k : Machine) → IsBetweenDocuments k.state
     → remaining_answer (alone s k) ≡ record { events = (events.StreamEnd, s) ∷ []; fault = None }
-unfolding event_step
-start_is_emitted s k i = grind (arith, unroll, not_over, start_step, over)
+unfolding event_step implicit_start explicit_start unpassed_token
+start_is_emitted s k i = grind (arith, unroll, not_over, over)
 
 abbrev in_document : List State → Machine → Machine
 in_document ss k = record k { state = state.DocumentContent; states = state.DocumentEnd ∷ ss }

@@ -1,6 +1,5 @@
 -- The tokens of a forest give its events.
-use Rattle.event_laws.proofs.Common.{◌≡◌, ◌<◌, ◌^◌, ℕ, Bool, true, false, List, [], ◌∷◌, ◌++◌, Some, None, refl, ◌∙◌, ◌⊎◌, append_assoc, arith, Node, Document, AreCompatible, Forest, Kind, DocumentEnd, YieldsDocument, AreEndsAndMarks, YieldDocuments, Yields, Piece, Remaining, anchors, no_span, Part, CloseDocument, node_parts, document_parts, parts, Happening, events, no_anchors, at_start, keeping_tags, to_come, GivesExactly, kinds, answer_of_tokens}
-use Rattle.std.specs.Prelude.{if◌then◌else◌, Option}
+use Rattle.event_laws.proofs.Common.{◌≡◌, ◌<◌, ◌^◌, Bool, true, false, List, [], ◌∷◌, ◌++◌, Some, None, ◌∙◌, ◌⊎◌, append_assoc, arith, Node, Document, AreCompatible, Forest, Kind, DocumentEnd, YieldsDocument, AreEndsAndMarks, YieldDocuments, Yields, Piece, Remaining, anchors, no_span, Part, CloseDocument, node_parts, document_parts, parts, Happening, events, no_anchors, at_start, keeping_tags, to_come, GivesExactly, kinds, answer_of_tokens}
 use Rattle.event_laws.proofs.Emitted.Emitting.{SpansByKinds, Memory, dressed, dress}
 use Rattle.event_laws.proofs.AddsUp.{IsInNode, of_node}
 use Rattle.event_laws.proofs.Emitted.Streams.{stream_says}
@@ -43,11 +42,8 @@ all_compatible (d ∷ ds) free t h = (document_compatible d free h.0 h.2, behind
 abbrev pub at_first : Bool → Memory
 at_first keep = record { anchors = no_anchors; prefixes = []; keep = keep }
 
-none_kept : (keep : Bool) → (let o : Option (List ℕ) = None in o) ≡ (if keep then None else None)
-none_kept keep = grind arith
-
 pub fits_start : (keep : Bool) → FitsBetween keep [] (at_first keep)
-fits_start keep = record { keeps = refl; count = refl; prefixes = λ handle. none_kept keep }
+fits_start keep = grind arith
 
 pub each_gives : (f : Forest) (keep : Bool) (ts : List Piece) (es : List Happening) → Yields f (kinds ts)
     → anchors (parts f) < 2 ^ 64 → events f keep ≡ Some es → GivesExactly es (answer_of_tokens keep ts)

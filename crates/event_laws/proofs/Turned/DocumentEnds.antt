@@ -4,7 +4,7 @@ use Rattle.event_laws.proofs.Common.{BelongsToNone, ◌≡◌, Bool, true, false
 use Rattle.saphyr_scanner.specs.Grammar.Tokens as tokens
 use Rattle.saphyr_machine.specs.declared.state.State.TheVariants as state
 use Rattle.saphyr_machine.specs.Steps.Block.{block_node}
-use Rattle.saphyr_machine.specs.Steps.Documents.{is_mark, unpassed_token_from, unpassed_token, no_content, document_content_at, document_content, token_behind_marks_at, token_behind_marks, token_behind_document_at, token_behind_document, without_prefixes, document_end_at, document_end}
+use Rattle.saphyr_machine.specs.Steps.Documents.{is_mark, unpassed_token_from, unpassed_token, no_content, document_content_at, document_content, token_behind_marks, token_behind_document_at, token_behind_document, without_prefixes, document_end_at, document_end}
 use Rattle.event_laws.proofs.Emitted.Emitting.{Memory}
 use Rattle.event_laws.proofs.Turned.Following.{Then, IsNodeOf, IsOptionalOf, AreExplicit, Outside, IsFree, BeginsFreely}
 use Rattle.event_laws.proofs.Turned.Turning.{machine, Turned, weaker}
@@ -69,14 +69,10 @@ marks_passed (t ∷ ts) m = by (is_mark t.kind) refl (marks_passed ts (with_piec
     by true y h = one_more_mark t ts m _ y h
     by false y h = record { marks = []; rest = ts; are = refl; are_marks = tt; no_mark = y; leaves = refl }
 
-behind_some : (res : Result (Piece × Machine) Refusal) (place : Marker) (ts : List Piece) (m : Machine)
-    → MarkedBy ts m res → MarkedBy ts m (res >>= (λ t. token_behind_marks_at t.0.kind place t.0 t.1))
-behind_some u0 place ts m h = grind arith
-
 behind_all : (place : Marker) (ts : List Piece) (m : Machine)
     → MarkedBy ts (with_pieces ts m) (token_behind_marks place (with_pieces ts m))
 unfolding token_behind_marks unpassed_token
-behind_all place ts m = behind_some _ place ts (with_pieces ts m) (marks_passed ts (with_pieces ts m))
+behind_all place ts m = grind (arith, marks_passed)
 
 document_at : (k : Kind) (sp : Span) (ts : List Piece) (m : Machine) → MarkedBy (record { span = sp; kind = k } ∷ ts) m
     (token_behind_document_at k (record { span = sp; kind = k }) (with_pieces ts m))

@@ -1,6 +1,6 @@
 -- The steps at the beginnings of the stream and of documents are turned.
 use Rattle.event_laws.proofs.OwnTokens.{ArePassed, HasOwn, whole, passed_one, behind_own}
-use Rattle.event_laws.proofs.Common.{BelongsToNone, ◌≡◌, ◌≤◌, Bool, true, false, List, [], ◌∷◌, ◌++◌, length, map, Option, Some, Result, Ok, Err, refl, ap, ◌∙◌, ◌⊎◌, inl, inr, append_assoc, arith, if◌then◌else◌, Span, Refusal, Directive, AreCompatible, Document, Forest, Kind, directive_token, Piece, InBlock, YieldDocuments, State, anchors, Part, OpenStream, CloseStream, OpenDocument, document_parts, kinds, ◌>>=◌, Machine, Emitted, with_pieces, AreWellFormed}
+use Rattle.event_laws.proofs.Common.{BelongsToNone, ◌≡◌, ◌≤◌, Bool, true, false, List, [], ◌∷◌, ◌++◌, length, map, Option, Some, Result, Ok, Err, refl, ap, ◌∙◌, ◌⊎◌, inl, inr, append_assoc, arith, if◌then◌else◌, Span, Refusal, Directive, AreCompatible, Document, Forest, Kind, directive_token, Piece, InBlock, State, anchors, Part, OpenStream, CloseStream, OpenDocument, document_parts, kinds, ◌>>=◌, Machine, Emitted, with_pieces, AreWellFormed}
 use Rattle.saphyr_scanner.specs.Grammar.Tokens as tokens
 use Rattle.saphyr_machine.specs.declared.state.State.TheVariants as state
 use Rattle.saphyr_machine.specs.Events as events
@@ -188,12 +188,9 @@ stream_turned (t ∷ ts) r x e = stream_at_turned t.kind t.span ts r x e
 
 -- ## A document that may begin without `---`
 
-as_documents : (f : Forest) (t : List Kind) → AreExplicit f t → YieldDocuments f true t
-as_documents u0 t h = grind arith
-
 explicit_first : (ahead ks : List Kind) (ps : List Part) → Explicit ahead ks ps
     → Wanted state.ImplicitDocumentStart [] ahead ks ps
-explicit_first ahead ks ps h = ((h.0, [], ks, tt, as_documents h.0 ks h.1, refl, h.2), tt)
+explicit_first ahead ks ps h = grind arith
 
 bare_makes : (ks : List Kind) (ps : List Part) → Then (IsNodeOf InBlock) (Outside state.DocumentEnd) ks ps
     → Outside state.ImplicitDocumentStart ks (OpenDocument false [] ∷ ps)

@@ -5,6 +5,7 @@ use Rattle.std.proofs.lemmas.List.{take_rest}
 use Rattle.std.specs.Io.KnownBytes.{Appends, Keeps}
 use Rattle.std.proofs.KnownBytes.{Appends-trans, Appends-nil, Appends-kept}
 use Rattle.saphyr_parser.specs.declared.printing.writing.Unwritten.{Unwritten}
+use Rattle.saphyr_parser.specs.Runs.{TakesBeginning}
 use Rattle.saphyr_parser.specs.Written.{Takes, TakesSome, TakesUpTo}
 
 -- the first piece was taken, and then what was taken of the second
@@ -137,3 +138,24 @@ takes_nothing a b bytes m p =
 pub takes_same : (r : Result (Unit {0}) Unwritten) (a b : Option (List ℕ)) (bytes others : List ℕ) → bytes ≡ others
     → Takes r a b bytes → Takes r a b others
 takes_same r a b bytes others e p = rw (sym e) p
+
+-- ## A beginning of two pieces
+
+-- the second piece was not begun
+pub begins_longer : (a b : Option (List ℕ)) (bs cs : List ℕ) → TakesBeginning a b bs → TakesBeginning a b (bs ++ cs)
+begins_longer a b bs cs p = record {
+  front = p.front;
+  back = p.back ++ cs;
+  split = ap (λ l. l ++ cs) p.split ∙ append_assoc p.front p.back cs;
+  taken = p.taken;
+}
+
+-- the first piece was taken, and a beginning of the second
+pub begins_behind : (a b c : Option (List ℕ)) (bs cs : List ℕ) → Appends a b bs → TakesBeginning b c cs
+    → TakesBeginning a c (bs ++ cs)
+begins_behind a b c bs cs p q = record {
+  front = bs ++ q.front;
+  back = q.back;
+  split = ap (λ l. bs ++ l) q.split ∙ sym (append_assoc bs q.front q.back);
+  taken = Appends-trans a b c bs q.front p q.taken;
+}

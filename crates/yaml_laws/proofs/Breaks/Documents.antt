@@ -37,13 +37,9 @@ abbrev Three : List ℕ → Type 0
 Three (a ∷ b ∷ c ∷ t) = ((a == 13) ≡ false) × ((b == 13) ≡ false) × ((c == 13) ≡ false)
 Three _ = ⊥
 
-three_of : (x : ℕ) → (x == carriage_return) ≡ false → (0 == x) ≡ false → (t : List ℕ) → (slice_index t 0 == x) ≡ true
-    → (slice_index t 1 == x) ≡ true → (slice_index t 2 == x) ≡ true → Three t
-three_of x h k t e g p = grind (arith, eqb-true)
-
 three_marks : (x : ℕ) → (x == carriage_return) ≡ false → (0 == x) ≡ false → (t : List ℕ) (b : Bool)
     → ((slice_index t 0 == x) && (slice_index t 1 == x) && (slice_index t 2 == x) && b) ≡ true → Three t
-three_marks x k z t b e = grind (arith, and_parts, three_of)
+three_marks x k z t b e = grind (arith, and_parts, eqb-true)
 
 three_near : (i : ℕ) (t : List ℕ) (m : Marker) (b : Bool) → Three t
     → pass 3 (near i (cursor_at t m b)) ≡ near (i + 3) (pass 3 (cursor_at t m b))

@@ -85,9 +85,6 @@ choose_by P b d x y v w e h k = both_by b d x y v w P e (λ t _. h t) (λ t _. k
 abbrev pub line_from : Marker → ℕ → Marker
 line_from m j = record { index = j; line = min (m.line + 1) (2 ^ 64 - 1); col = 0 }
 
-next_lower : (l : ℕ) → l ≤ 2 ^ 63 → min (l + 1) (2 ^ 64 - 1) ≡ l + 1
-next_lower l h = omega (arith, h)
-
 -- a character that is no break, on its line
 pub character_ahead : (text : List ℕ) (c : ℕ) (t : List ℕ) (m : Marker) (i : ℕ) (b d : Bool)
     → (c == carriage_return) ≡ false → Stand text (cursor_at (c ∷ t) m b) i
@@ -98,7 +95,7 @@ character_ahead text c t m i b d e x = grind (arith, one_less)
 pub line_ahead : (text : List ℕ) (s t : List ℕ) (m : Marker) (i j k c : ℕ) (b d : Bool) → j ≡ m.index + k → 1 ≤ k
     → length s ≡ k + length t → normalized s ≡ c ∷ normalized t → drop j text ≡ t → m.line ≤ 2 ^ 63
     → Stand text (cursor_at s m b) i → Ahead text (cursor_at s m b) i (cursor_at t (line_from m j) d) (i + 1)
-line_ahead text s t m i j k c b d e one l is h low x = grind (arith, next_lower, one_less)
+line_ahead text s t m i j k c b d e one l is h low x = grind (arith, one_less)
 
 -- CR before LF
 pub two_ahead : (text t : List ℕ) (m : Marker) (i : ℕ) (b d : Bool) → m.line ≤ 2 ^ 63

@@ -1,5 +1,5 @@
 -- A text and its normalized text have tokens of the same kinds.
-use Rattle.yaml_laws.proofs.Common.{Err, List, Ok, Result, Some, [], ap, arith, false, length, map, refl, suc, sym, true, zero, ℕ, ◌+◌, ◌<◌, ◌∙◌, ◌∷◌, ◌≡◌, ◌≤◌, nat_lt, slice_index, ◌&&◌, ◌==◌, ◌||◌, normalized, Refusal, Kind, Piece, Remaining, Place, Queue, is_empty_list, next, Core, drop_far_key, least_column, Level, ends_pair, is_place, State, start, is_blank_or_breakz, is_bom, is_break, is_flow, is_z, is_document_end, is_document_start, and_parts, eqb-true, left_brace, left_bracket, Opening, Readers, HaveSameKinds, Both, gives, refused, choose, choose_same, choose_first, both_cases}
+use Rattle.yaml_laws.proofs.Common.{Err, List, Ok, Result, Some, [], ap, arith, false, length, map, refl, suc, sym, true, zero, ℕ, ◌+◌, ◌<◌, ◌∙◌, ◌∷◌, ◌≡◌, ◌≤◌, nat_lt, slice_index, ◌&&◌, ◌==◌, ◌||◌, normalized, Refusal, Kind, Piece, Remaining, Place, Queue, next, Core, drop_far_key, least_column, Level, ends_pair, is_place, State, start, is_blank_or_breakz, is_bom, is_break, is_flow, is_z, is_document_end, is_document_start, and_parts, eqb-true, left_brace, left_bracket, Opening, Readers, HaveSameKinds, Both, gives, refused, choose, choose_same, choose_first, both_cases}
 use Rattle.saphyr_scanner.specs.Grammar.Tokens as tokens
 use Rattle.saphyr_scanner.specs.Steps.Fetch.{size, without_far_key, needs_token, any_holds, step, is_value_adjacent, state_behind_content, fetch_here, arrive, fetch, check_limit, fetch_within}
 use Rattle.saphyr_scanner.specs.Steps.Remaining.{before_place, hand_out, remaining_after, run, remaining, scan}
@@ -106,12 +106,9 @@ held_levels : (place : ℕ) (is : List ℕ) (ls : List Level) → any_holds plac
 held_levels place is [] = refl
 held_levels place is (l ∷ ls) = cc (held_key place (first is) l, held_levels place (others is) ls)
 
-same_empty : (ps qs : List Place) → SamePlaces ps qs → is_empty_list qs ≡ is_empty_list ps
-same_empty ps qs e = grind arith
-
 needs_same : (c : Core) (x : Indexes) (q r : Queue) → SameQueues q r
     → needs_token (holding (near_core x c) r) ≡ needs_token (holding c q)
-needs_same c x q r e = grind (arith, near_key, near_levels, same_empty, held_key, held_levels)
+needs_same c x q r e = grind (arith, near_key, near_levels, held_key, held_levels)
 
 -- ## What comes
 

@@ -1,5 +1,5 @@
 -- Document markers, byte order marks and the text's end are read.
-use Rattle.yaml_laws.proofs.Common.{Bool, IsTrue, List, Ok, [], ap, arith, false, inl, inr, length, refl, slice_index, sym, true, ℕ, ◌++◌, ◌+◌, ◌∙◌, ◌∷◌, ◌≡◌, ◌≤◌, ◌⊎◌, None, Option, nat_lt, ◌==◌, ◌||◌, nat_tests, is_blank_or_breakz, is_breakz, is_document_indicator, SkipTabs, Yes, Marker, along, separation, cursor_at, IsEol, Kind, Piece, Place, bare_place, Candidate, State, LeadsTo, or-false, or-true, eq-eqb, full_stop, hyphen, place_kinds, place_kinds_append, length-append, cons_not_empty, state_at, fetches_stream_end, stream_end_place}
+use Rattle.yaml_laws.proofs.Common.{Bool, IsTrue, List, Ok, [], ap, arith, false, inl, inr, length, refl, slice_index, sym, true, ℕ, ◌++◌, ◌+◌, ◌∙◌, ◌∷◌, ◌≡◌, ◌≤◌, ◌⊎◌, None, Option, ◌==◌, ◌||◌, nat_tests, is_blank_or_breakz, is_breakz, is_document_indicator, SkipTabs, Yes, Marker, along, separation, cursor_at, IsEol, Kind, Piece, Place, bare_place, Candidate, State, LeadsTo, or-false, or-true, eq-eqb, full_stop, hyphen, place_kinds, place_kinds_append, length-append, cons_not_empty, state_at, fetches_stream_end, stream_end_place}
 use Rattle.saphyr_scanner.specs.declared.engine.level.Context.TheVariants as context
 use Rattle.saphyr_scanner.specs.Grammar.Tokens as tokens
 use Rattle.saphyr_scanner.specs.Steps.Core.{remove_key}
@@ -12,9 +12,6 @@ use Rattle.yaml_laws.proofs.Documents.Lines.{eol, eol_first, break_ends}
 use Rattle.yaml_laws.proofs.Documents.Stands.{StandsLined, reads_here, AtLine, Lined, BehindStart, StandsInStream, reads_token}
 use Rattle.yaml_laws.proofs.InBlock.States.{crosses, moved, past}
 use Rattle.yaml_laws.proofs.InBlock.Follows.{comes_to_end}
-
-no_greater : (n : ℕ) → n ≡ 0 → nat_lt 0 n ≡ false
-no_greater n h = grind (arith, nat_tests)
 
 -- a token that was read
 abbrev pub piece_of : Marker → Marker → Kind → Piece
@@ -76,7 +73,7 @@ mark_here : (m : Marker) (blank : Bool) (r : List ℕ) (k : Option Candidate) (a
     ≡ Ok (state_at false (cursor_at r (beyond_byte_order_mark m) blank) context.Block None [] true ad
     (ps ++ bare_place (piece_of m (beyond_byte_order_mark m) tokens.ByteOrderMark) ∷ []))
 unfolding fetch_here state_behind_byte_order_mark end_content remove_key unroll
-mark_here m blank r k a ad ps col = rw (no_greater m.col col) refl
+mark_here m blank r k a ad ps col = grind (arith, nat_tests)
 
 mark_count : (m : Marker) (r : List ℕ) (limit : ℕ) → m.index + length (65279 ∷ r) ≤ limit
     → m.index + 1 + length r ≤ limit

@@ -201,20 +201,12 @@ reads_token {limit = limit} {y = y} {ts = ts} v here may t b piece is Q n o fits
       lined = lined;
     }
 
--- the same place told otherwise, where it is free only if it was
-goes_over : {limit : ℕ} {start : State} {was : Bool} {P : Marker → Bool → Type 0} {o : List ℕ} {ts : List Kind}
-    (v : StandsInStream limit start was P o ts) (free : Bool) → (free ≡ true → was ≡ true)
-    → (Q : Marker → Bool → Type 0) (n : Marker) (y : List ℕ)
-    → past 0 v.mark o ≡ past 0 n y → n.index + length y ≤ limit → Q n (crosses v.there.rest || v.allowed) → IsLined n
-    → StandsInStream limit start free Q y ts
-goes_over v free was Q n y fits count line lined = grind (arith)
-
 -- what holds no token is passed
 pub passes_over : {limit : ℕ} {start : State} {free : Bool} {P : Marker → Bool → Type 0} {o : List ℕ} {ts : List Kind}
     (v : StandsInStream limit start free P o ts) (Q : Marker → Bool → Type 0) (n : Marker) (y : List ℕ)
     → past 0 v.mark o ≡ past 0 n y → n.index + length y ≤ limit → Q n (crosses v.there.rest || v.allowed) → IsLined n
     → StandsInStream limit start free Q y ts
-passes_over {free = free} v Q n y fits count line lined = goes_over v free (λ e. e) Q n y fits count line lined
+passes_over {free = free} v Q n y fits count line lined = grind arith
 
 -- where a document is free one may be that needn't be
 pub unfree : {limit : ℕ} {start : State} {o : List ℕ} {ts : List Kind}

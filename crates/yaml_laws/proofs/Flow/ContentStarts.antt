@@ -1,6 +1,6 @@
 -- The first characters of the nodes of a text in flow style.
 use Rattle.std.proofs.Common.{◌≡◌, ◌≢◌, ℕ, Bool, true, false, List, [], ◌∷◌, ◌++◌, refl, arith, IsTrue, inl, inr, codes, ◌≤◌}
-use Rattle.yaml_laws.proofs.Common.{◌==◌, ◌&&◌, not, slice_index, Option, nat_tests, comma, number_sign, percent_sign, is_blank, is_break, is_bom, is_z, byte_order_mark, is_plain_safe, Style, Plain, SingleQuoted, DoubleQuoted, Literal, Folded, Handle, Tag, Properties, Node, Alias, Scalar, Seq, Map, IsHandle, IsTag, begins_plain, IsFirstWord, IsPlainKey, IsFlowScalar, IsAnchor, AreProperties, IsProperties, IsBeforeContent, IsPlainKeyNode, IsKeyText, IsFlowNode, can_be_plain, other_than, Marker}
+use Rattle.yaml_laws.proofs.Common.{◌==◌, ◌&&◌, not, slice_index, nat_tests, comma, number_sign, percent_sign, is_blank, is_break, is_bom, is_z, byte_order_mark, is_plain_safe, Style, Plain, SingleQuoted, DoubleQuoted, Literal, Folded, Tag, Properties, Node, Alias, Scalar, Seq, Map, IsTag, begins_plain, IsFirstWord, IsPlainKey, IsFlowScalar, IsAnchor, IsProperties, IsBeforeContent, IsPlainKeyNode, IsKeyText, IsFlowNode, can_be_plain, other_than, Marker}
 use Rattle.yaml_laws.proofs.Flow.States.{IsContentStart, moved, past}
 use Rattle.yaml_laws.proofs.Flow.Places.{moved_index}
 use Rattle.yaml_laws.proofs.Flow.GapSteps.{past_low}
@@ -52,11 +52,8 @@ start_nul c h = grind (arith, nat_tests)
 pub start_directive : (c : ℕ) → is_start c ≡ true → (c == percent_sign) ≡ false
 start_directive c h = grind (arith, nat_tests)
 
-start_comma : (c : ℕ) → is_start c ≡ true → (c == comma) ≡ false
-start_comma c h = grind (arith, nat_tests)
-
 pub starts : (c : ℕ) (cs t : List ℕ) → t ≡ c ∷ cs → is_start c ≡ true → Begins t
-starts c cs t e h = search (start_content, start_nul, start_directive, start_comma)
+starts c cs t e h = grind (arith, start_content, start_nul, start_directive, nat_tests)
 
 -- whatever comes after
 pub begins_front : (a t o : List ℕ) → t ≡ a ++ o → Begins a → Begins t
@@ -79,18 +76,11 @@ mark_no_plain y h = rw (bom_is (slice_index y 0) h) refl
 pub anchor_begins : (name t : List ℕ) → IsAnchor name t → Begins t
 anchor_begins name t h = starts 38 name t h.1 refl
 
-handle_begins : (handle : Handle) (t : List ℕ) → IsHandle handle t → Begins t
-handle_begins handle t h = grind (arith, starts, codes)
-
 pub tag_begins : (tag : Tag) (t : List ℕ) → IsTag tag t → Begins t
-tag_begins tag t h = grind (arith, starts, codes, begins_front, handle_begins)
-
-are_properties_begin : (indent : ℕ) (anchor : Option (List ℕ)) (tag : Option Tag) (t : List ℕ)
-    → AreProperties anchor tag indent t → Begins t
-are_properties_begin indent anchor tag t h = grind (arith, anchor_begins, tag_begins, begins_front)
+tag_begins tag t h = grind (arith, starts, codes, begins_front)
 
 properties_begin : (p : Properties) (indent : ℕ) (t : List ℕ) → IsProperties p indent t → Begins t
-properties_begin p indent t h = are_properties_begin indent p.anchor p.tag t h
+properties_begin p indent t h = grind (arith, anchor_begins, tag_begins, begins_front)
 
 pub properties_content : (p : Properties) (indent : ℕ) (t : List ℕ) → IsProperties p indent t → StartsContent t
 properties_content p indent t h = begins_content t (properties_begin p indent t h)
@@ -104,12 +94,9 @@ front_begins indent p front t o (inr (properties, separation, h, some, parts, e)
 
 -- ## Scalars
 
-safe_content : (in_flow : Bool) (c : ℕ) → IsTrue (is_plain_safe in_flow c) → c ≢ number_sign → IsContentStart c
-safe_content in_flow c h n = grind arith
-
 word_starts : (in_flow : Bool) (c : ℕ) (cs : List ℕ) → IsTrue (is_plain_safe in_flow c) → c ≢ number_sign
     → IsTrue (begins_plain c) → Begins (c ∷ cs)
-word_starts in_flow c cs h n b = grind (arith, safe_content, other_than)
+word_starts in_flow c cs h n b = grind (arith, other_than)
 
 words_begin : (in_flow : Bool) (w : List ℕ) → IsFirstWord in_flow w → Begins w
 words_begin in_flow [] h = absurd (h.0.some refl)

@@ -1,6 +1,6 @@
 -- What comes first after a piece of a text in flow style.
 use Rattle.std.proofs.Common.{◌≡◌, ◌≢◌, ℕ, Bool, true, false, List, [], ◌∷◌, ◌++◌, slice_index, sym, arith, subst, append_assoc, IsTrue, ◌⊎◌, inl, inr}
-use Rattle.yaml_laws.proofs.Common.{◌||◌, ◌&&◌, not, nat_tests, is_blank, is_blank_or_breakz, is_flow, is_anchor_char, line_feed, Marker, AreIn, EndsTag, joined_pieces, AreEach, IsCommentBehind, IsSeparationLine, IsSeparation, IsLineRest, Node, needs_separation, IsBeforeColon, Context, is_block, or_left}
+use Rattle.yaml_laws.proofs.Common.{◌||◌, ◌&&◌, not, nat_tests, is_blank, is_blank_or_breakz, is_flow, is_anchor_char, line_feed, Marker, AreIn, EndsTag, joined_pieces, AreEach, IsCommentBehind, IsSeparationLine, IsSeparation, Node, needs_separation, IsBeforeColon, Context, is_block, or_left}
 use Rattle.yaml_laws.proofs.InFlow.States.{Around}
 use Rattle.yaml_laws.proofs.Flow.States.{EndsNode, IsBehindNode, IsBehindRoot, Follows, follows_inside, follows_outside}
 
@@ -34,9 +34,6 @@ separation_white indent w h = rw h.4 (two_white h.0 h.1 (rw h.2.2 (pieces h.2.0 
     pieces [] k = tt
     pieces (v ∷ vs) k = two_white v (joined_pieces vs) (separation_line_white indent v k.0) (pieces vs k.1)
 
-rest_white : (rest more : List ℕ) → IsLineRest rest → BeginsWhite more → BeginsWhite (rest ++ more)
-rest_white rest more h k = rw (h.4, append_assoc h.0 h.1 more) (behind_white h.0 h.1 more (blanks_white h.0 h.2) h.3 k)
-
 -- ## The first character after a node
 
 white_breakz : (c : ℕ) → IsTrue (is_blank c) ⊎ (c ≡ line_feed) → IsTrue (is_blank_or_breakz c)
@@ -45,7 +42,7 @@ white_breakz c h = grind (arith, nat_tests)
 -- after a document's node: a blank, a break or the end
 pub root_first : (around : Around) (m : Marker) (o : List ℕ) → IsBehindRoot around m o
     → IsTrue (is_blank_or_breakz (slice_index o 0))
-root_first around m o h = grind (arith, rest_white)
+root_first around m o h = grind (arith, append_assoc, behind_white, blanks_white)
 
 -- after separation that is not empty
 pub ends_behind_separation : (indent : ℕ) (w y : List ℕ) → IsSeparation indent w → w ≢ []

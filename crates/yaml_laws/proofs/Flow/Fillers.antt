@@ -80,13 +80,9 @@ words_end column m [] more h ends = comment_ends column m more ends
 words_end column m (c ∷ cs) more h ends =
     rw (h.0, non_break_feed_fails c h.0) (words_end column (along m 1) cs more h.1 ends)
 
-pub comment_past : (column : ℕ) (m : Marker) (comment more : List ℕ) → IsComment comment → EndsLine more
-    → past column m (comment ++ more) ≡ past column (moved m comment) more
-comment_past column m comment more h ends = grind (arith, past, moved, words_end)
-
 maybe_comment_past : (column : ℕ) (m : Marker) (comment more : List ℕ) → ((comment ≡ []) ⊎ IsComment comment)
     → EndsLine more → past column m (comment ++ more) ≡ past column (moved m comment) more
-maybe_comment_past column m comment more h k = grind (arith, past, moved, comment_past)
+maybe_comment_past column m comment more h k = grind (arith, past, moved, words_end)
 
 -- blanks and maybe a comment, up to a line's end
 pub front_past : (column : ℕ) (m : Marker) (t front comment more : List ℕ)
@@ -122,10 +118,6 @@ ends_rest [] ends = refl
 ends_rest (c ∷ cs) (inl e) = absurd (cc)
 ends_rest (c ∷ cs) (inr e) = subst (λ (z : ℕ). is_filler_rest (z ∷ cs) ≡ true) (sym e) refl
 
-comment_rest : (comment more : List ℕ) → ((comment ≡ []) ⊎ IsComment comment) → EndsLine more
-    → is_filler_rest (comment ++ more) ≡ true
-comment_rest comment more h k = grind (arith, is_filler_rest, ends_rest, words_rest)
-
 blanks_rest : (w z : List ℕ) → AreIn is_blank w → is_filler_rest z ≡ true → is_filler_rest (w ++ z) ≡ true
 blanks_rest [] z h k = k
 blanks_rest (c ∷ cs) z h k = rw h.0 (blanks_rest cs z h.1 k)
@@ -142,18 +134,12 @@ bare_past column m (c ∷ cs) z h k = rw (none_stops column m c (cs ++ z) (blank
 
 pub filler_text_past : (column : ℕ) (m : Marker) (t more : List ℕ) → IsFillerText t → EndsLine more
     → past column m (t ++ more) ≡ past column (moved m t) more
-filler_text_past column m t more (front, comment, are, k, is) ends =
-    grind (arith, past, moved, append_assoc, bare_past, comment_rest, maybe_comment_past, moved_append)
+filler_text_past column m t more h ends = grind (arith, past, moved, append_assoc, bare_past, maybe_comment_past, moved_append, is_filler_rest, ends_rest, words_rest)
 
 -- ## Whole lines
 
-line_past : (column : ℕ) (t w : List ℕ)
-    → ((m : Marker) (more : List ℕ) → EndsLine more → past column m (t ++ more) ≡ past column (moved m t) more)
-    → w ≡ t ++ (line_feed ∷ []) → IsPast column w
-line_past column t w h is = grind (arith, past, append_assoc, moved_append)
-
 filler_line_past : (column : ℕ) (w : List ℕ) → IsFillerLine w → IsPast column w
-filler_line_past column w h = line_past column h.0 w (λ m more ends. filler_text_past column m h.0 more h.1 ends) h.2
+filler_line_past column w h = grind (arith, filler_text_past, past, append_assoc, moved_append)
 
 pub filler_past : (column : ℕ) (m : Marker) (w y : List ℕ) → IsFiller w
     → past column m (w ++ y) ≡ past column (moved m w) y

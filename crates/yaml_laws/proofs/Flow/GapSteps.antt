@@ -1,5 +1,5 @@
 -- What is passed between two tokens of a text in flow style, character by character.
-use Rattle.yaml_laws.proofs.Common.{◌≡◌, ℕ, suc, ◌+◌, ◌<◌, ◌≤◌, false, List, ◌∷◌, length, refl, arith, nat_tests, is_blank, is_break, is_yaml_non_break, Marker, along, next_line, no_return}
+use Rattle.yaml_laws.proofs.Common.{◌≡◌, ℕ, suc, ◌+◌, ◌<◌, ◌≤◌, false, List, ◌∷◌, length, refl, arith, nat_tests, is_blank, Marker, along, next_line, no_return}
 use Rattle.yaml_laws.proofs.Flow.States.{moved, is_left_tab, past, past_comment, IsContentStart}
 use Rattle.yaml_laws.proofs.Flow.Places.{moved_index}
 use Rattle.yaml_laws.proofs.Flow.GapWalks.{OverGap, over_gap, over_comment}
@@ -15,14 +15,9 @@ pub record GapCases (column : ℕ) (P : Marker → List ℕ → Marker × List �
 pub no_left : (column : ℕ) (m : Marker) (c : ℕ) → is_blank c ≡ false → is_left_tab column m c ≡ false
 no_left column m c h = grind arith
 
--- a character that ends a comment and no line
-ends_comment : (column : ℕ) (m : Marker) (c : ℕ) (cs : List ℕ) → is_yaml_non_break c ≡ false → is_break c ≡ false
-    → past column m (c ∷ cs) ≡ (m, c ∷ cs)
-ends_comment column m c cs e f = grind (arith, nat_tests)
-
 over_steps : (column : ℕ) (P : Marker → List ℕ → Marker × List ℕ → Type 0) → GapCases column P
     → OverGap column (λ m t. P m t (past column m t)) (λ m t. P m t (past_comment column m t))
-over_steps column P steps = grind (arith, past, past_comment, ends_comment)
+over_steps column P steps = grind (arith, past, past_comment, nat_tests)
 
 pub by_steps : (column : ℕ) (P : Marker → List ℕ → Marker × List ℕ → Type 0) → GapCases column P
     → (m : Marker) (t : List ℕ) → P m t (past column m t)

@@ -61,10 +61,6 @@ closes_key ad allowed adjacent = (allowed ≡ false) × (adjacent ≡ ad)
 
 -- ## Names
 
-named_along : (m : Marker) (indicator : ℕ) (name : List ℕ) → is_break indicator ≡ false → IsAnchorName name
-    → along m (1 + length name) ≡ moved m (indicator ∷ name)
-named_along m indicator name e h = grind (arith, unbroken_along, name_no_break)
-
 pub name_step : ReaderPromises → (around : Around) (d : Bool) (token_of : List ℕ
     → Kind) (n : ℕ) (m : Marker) (b : Bool) (indicator : ℕ)
     (name o : List ℕ) → is_break indicator ≡ false → IsAnchorName name → is_anchor_char (slice_index o 0) ≡ false
@@ -73,8 +69,7 @@ pub name_step : ReaderPromises → (around : Around) (d : Bool) (token_of : List
     ≡ completed_step (from_to m (moved m (indicator ∷ name)) (token_of (encode_utf8_all name)) ∷ [])
     (core_at around d (mid_line (moved m (indicator ∷ name)) o) x (saved a n m k) ls false ad)
 unfolding property.name_steps read_name
-name_step reads around d token_of n m b indicator name o e h ends x k ls a ad placed =
-    grind (arith, saves_key, named_along)
+name_step reads around d token_of n m b indicator name o e h ends x k ls a ad placed = grind (arith, saves_key, unbroken_along, name_no_break)
 
 name_passes : ReaderPromises → (around : Around) (token_of : List ℕ → Kind) (indicator : ℕ) (name t o : List ℕ)
     (m : Marker) → ((second n : ℕ) (c : Core) → step indicator second n c ≡ property.name_steps token_of n c)

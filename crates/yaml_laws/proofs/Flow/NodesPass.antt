@@ -12,16 +12,12 @@ use Rattle.saphyr_scanner.specs.declared.engine.level.Context.TheVariants as con
 
 -- ## A node inside flow
 
-weaker : (a b : ℕ) → a < b → a ≤ b
-weaker a b h = omega (arith, h)
-
 passes_inside : {around : Around} {node : Node} {m : Marker} {t o : List ℕ} (room : ℕ) → ((now : FlowMoment)
     → is_block now.context ≡ false → room + length now.outer ≤ most_open → ReadsText around node m t o now)
     → FitsAround around m t o → IsBehindNode around.indent node o → (now : FlowMoment) → now.adjacent < m.index
     → is_block now.context ≡ false → room + length now.outer ≤ most_open → StandsBefore around now m (t ++ o)
     → NodePasses around now node m t o
-passes_inside {around} {node} {m} {t} {o} room passes fits behind now low flow small text =
-    grind (arith, follows_inside, weaker)
+passes_inside {around} {node} {m} {t} {o} room passes fits behind now low flow small text = grind (arith, follows_inside)
 
 -- ## All nodes
 

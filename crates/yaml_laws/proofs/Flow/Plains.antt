@@ -1,6 +1,6 @@
 -- The plain scalars of a text in flow style are passed.
 use Rattle.std.proofs.Common.{◌≡◌, ◌≢◌, ℕ, ◌<◌, ◌≤◌, Bool, true, false, List, [], ◌∷◌, ◌++◌, slice_index, Ok, refl, ap, ◌∙◌, arith, append_assoc, IsTrue, ◌⊎◌, inl, inr, encode_utf8_all}
-use Rattle.yaml_laws.proofs.Common.{◌||◌, ◌&&◌, ◌==◌, not, nat_lt, Option, None, nat_tests, normalized, is_blank, is_blank_or_breakz, is_flow, is_z, Marker, Cursor, ◌>>=◌, plain_value, AreIn, is_tabbed, past_white, EndsPlain, is_plain_safe, ArePlainSafe, IsPlainText, Context, Kind, scalar_token, Plain, Core, from_to, completed_step, Candidate, Level, is_block, begins_plain, IsPlain, IsPlainKey, other_than, and_false, cursor_at, ne_eqb, hyphen, question_mark, number_sign, saved}
+use Rattle.yaml_laws.proofs.Common.{◌||◌, ◌&&◌, ◌==◌, not, nat_lt, Option, None, nat_tests, normalized, is_blank, is_blank_or_breakz, is_flow, Marker, Cursor, ◌>>=◌, plain_value, AreIn, is_tabbed, past_white, EndsPlain, is_plain_safe, ArePlainSafe, IsPlainText, Context, Kind, scalar_token, Plain, Core, from_to, completed_step, Candidate, Level, is_block, begins_plain, IsPlain, IsPlainKey, other_than, and_false, cursor_at, ne_eqb, hyphen, question_mark, number_sign, saved}
 use Rattle.saphyr_scalar.specs.Steps.Plain.{PlainScalarRead, comment_of}
 use Rattle.saphyr_scanner.specs.Grammar.Tokens as tokens
 use Rattle.saphyr_scanner.specs.Steps.Scalar as scalar
@@ -97,11 +97,8 @@ key_begins f indent t r (inr (plain, dashes, gap, word, h, lone, gapped, last, e
 no_blank : (c : ℕ) → is_blank_or_breakz c ≡ false → is_blank c ≡ false
 no_blank c h = grind (arith, nat_tests)
 
-no_nul : (c : ℕ) → is_blank_or_breakz c ≡ false → is_z c ≡ false
-no_nul c h = grind (arith, nat_tests)
-
 pub token_begins : (f : Bool) (t o : List ℕ) → BeginsWord f t o → Begins t
-token_begins f t o b = grind (arith, safe_other, no_blank, no_breakz_no_break, ne_eqb, no_nul, other_than)
+token_begins f t o b = grind (arith, safe_other, no_blank, no_breakz_no_break, ne_eqb, other_than, nat_tests)
 
 -- a character before a word's second one
 pub lone_test : (f : Bool) (first d second : ℕ) → (first ≡ d → IsTrue (is_plain_safe f second))

@@ -1,6 +1,6 @@
 -- The quoted scalars of a text in flow style are read, whatever comes after them.
 use Rattle.std.proofs.Common.{◌≡◌, ℕ, suc, ◌+◌, ◌≤◌, Bool, true, false, List, [], ◌∷◌, ◌++◌, drop, slice_index, Ok, refl, sym, ap, ◌∙◌, arith, subst, append_assoc, IsTrue, IsFalse, encode_utf8_all}
-use Rattle.yaml_laws.proofs.Common.{◌&&◌, ◌==◌, not, false≢true, nat_tests, is_break, space, line_feed, carriage_return, Marker, Item, Quote, Single, Double, Cursor, along, next_line, mid_line, break_len, is_closing, IsText, closed, itself, broken, two_quotes, escaped, numbered, escaped_break, AreIn, space_count, IsLine, LinesFit, IsQuoted, by_test}
+use Rattle.yaml_laws.proofs.Common.{◌==◌, not, false≢true, nat_tests, is_break, space, line_feed, carriage_return, Marker, Item, Quote, Single, Double, Cursor, along, next_line, mid_line, break_len, is_closing, IsText, closed, itself, broken, two_quotes, escaped, numbered, escaped_break, AreIn, space_count, IsLine, LinesFit, IsQuoted, by_test}
 use Rattle.saphyr_scalar.specs.Values.Flow.{mark, backslash, apostrophe}
 use Rattle.saphyr_scalar.specs.Passing.{IsPassed, nothing, character, line_break}
 use Rattle.saphyr_scalar.specs.Steps.Quoted as quotes
@@ -49,9 +49,6 @@ text_first _ _ _ _ (escaped e c t items x h r) = (backslash, e ∷ t, refl)
 text_first _ _ _ _ (numbered e c ds t items x h r) = (backslash, e ∷ (ds ++ t), refl)
 text_first _ _ _ _ (escaped_break t items x h r) = (backslash, t, refl)
 
-unmarked_at_start : (n : ℕ) (b : Bool) → n ≡ 0 → ((n == 0) && b) ≡ false → b ≡ false
-unmarked_at_start n b e h = rw e at h
-
 -- more text after a line takes none of its spaces away
 more_spaces : (u o : List ℕ) → space_count u ≤ space_count (u ++ o)
 more_spaces [] o = omega arith
@@ -81,8 +78,7 @@ still_broken (c ∷ cs) o h = by_space (c == space) refl h (still_broken cs o)
 -- no document marker begins a line of a clear piece, and each is indented as it was, or less is asked
 line_fits : (low indent : ℕ) → low ≤ indent → (m : Marker) (u o : List ℕ) (c : ℕ) (cs : List ℕ) → u ≡ c ∷ cs → m.col ≡ 0
     → IsClear m u o → IsLine indent u → IsLine low (u ++ o)
-line_fits low indent below m u o c cs is start clear line =
-    grind (arith, unmarked_at_start, clear_here, drop, more_spaces, still_broken)
+line_fits low indent below m u o c cs is start clear line = grind (arith, clear_here, drop, more_spaces, still_broken)
 
 quote_closes : (q : Quote) (y : List ℕ) → (slice_index y 0 == 39) ≡ false → IsTrue (is_closing q (mark q ∷ y))
 quote_closes q y h = grind arith

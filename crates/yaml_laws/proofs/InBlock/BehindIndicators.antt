@@ -1,5 +1,5 @@
 -- What comes after the indicator of a node at block level.
-use Rattle.yaml_laws.proofs.Common.{Bool, IsFalse, List, ap, append_assoc, arith, false, inl, inr, refl, slice_index, subst, suc, sym, true, ℕ, ◌++◌, ◌∙◌, ◌∷◌, ◌≡◌, Option, ◌&&◌, ◌==◌, is_alpha, is_blank_or_breakz, tab, hyphen, spaces, IsNextLine, Alias, Map, MoreNodes, MorePairs, NoNode, NoPair, Node, Nodes, Pairs, Properties, Scalar, Seq, Style, Tag, most_open, AreProperties, IsAnchor, IsFlowNode, IsKeyText, IsProperties, and_false, clash, list_all, list_any, IsTag, Position, is_start, is_behind_colon, indent_at, sequence_indent_at, IsGapAt, IsCollectionFront, IsStyled, IsScalarFront, IsLead, IsFlowInBlock, IsBlockPair, IsBlockNode, AreEntries, ArePairs}
+use Rattle.yaml_laws.proofs.Common.{Bool, IsFalse, List, ap, append_assoc, arith, false, inl, inr, refl, slice_index, subst, suc, sym, true, ℕ, ◌++◌, ◌∙◌, ◌∷◌, ◌≡◌, Option, ◌&&◌, ◌==◌, is_alpha, is_blank_or_breakz, tab, hyphen, spaces, IsNextLine, Alias, Map, MoreNodes, MorePairs, NoNode, NoPair, Node, Nodes, Pairs, Properties, Scalar, Seq, Style, Tag, most_open, AreProperties, IsFlowNode, IsKeyText, IsProperties, and_false, clash, list_all, list_any, Position, is_start, is_behind_colon, indent_at, sequence_indent_at, IsGapAt, IsCollectionFront, IsStyled, IsScalarFront, IsLead, IsFlowInBlock, IsBlockPair, IsBlockNode, AreEntries, ArePairs}
 use Rattle.yaml_laws.proofs.InBlock.States.{compact_spaced, IsContentStart}
 use Rattle.yaml_laws.proofs.Flow.ContentStarts.{StartsContent, content_front, dash_content, question_content, colon_content}
 use Rattle.yaml_laws.proofs.InBlock.Skips.{IsSkipped, IsClean, skipped_clean, lines_clean, skipped_append, spaces_skipped, filler_skipped}
@@ -81,15 +81,9 @@ pub pairs_content : {limit : ℕ} → ReadsLeaves limit → (pairs : Pairs) (m :
 pairs_content leaves NoPair m t o h = absurd h
 pairs_content leaves (MorePairs key value pairs) m t o (pair, others, h, k, e) = grind arith
 
-anchor_apart : (name t : List ℕ) → IsAnchor name t → BeginsApart t
-anchor_apart name t h = search
-
-tag_apart : (tag : Tag) (t : List ℕ) → IsTag tag t → BeginsApart t
-tag_apart tag t h = grind arith
-
 are_apart : (anchor : Option (List ℕ)) (tag : Option Tag) (indent : ℕ) (t : List ℕ) → AreProperties anchor tag indent t
     → BeginsApart t
-are_apart anchor tag indent t h = grind (arith, anchor_apart, tag_apart, further_apart)
+are_apart anchor tag indent t h = grind (arith, further_apart)
 
 properties_apart : (p : Properties) (indent : ℕ) (t : List ℕ) → IsProperties p indent t → BeginsApart t
 properties_apart p indent t h = are_apart p.anchor p.tag indent t h

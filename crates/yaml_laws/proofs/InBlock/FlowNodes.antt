@@ -138,11 +138,6 @@ later_end limit short m a b rest o lined below =
     subst (λ (k : Marker). p.line < (past 0 k o).0.line)
     (sym (ap (λ (x : List ℕ). moved m (a ++ x)) same ∙ moved_append m a w)) (omega (arith, down, on))
 
--- no key is kept from a line before
-none_kept : (k : Option Candidate) (m : Marker) (t : List ℕ) (key : Option Candidate) (n : Marker) → Since k m t key
-    → k ≡ None → ((front back : List ℕ) → t ≡ front ++ back → (moved m front).line < n.line) → left_key key n ≡ None
-none_kept k m t key n h none later = grind arith
-
 -- after a node and the end of its line the document ends, or a key may begin and none is kept
 what_comes : (limit : ℕ) → limit < 2 ^ 63 → (m : Marker) (t : List ℕ) (at : Marker) (text end o : List ℕ)
     → moved m t ≡ moved (moved at text) end → FitsOnLines limit at (text ++ end) o → IsEol end o
@@ -150,8 +145,7 @@ what_comes : (limit : ℕ) → limit < 2 ^ 63 → (m : Marker) (t : List ℕ) (a
     → (allowed : Bool) (left : List ℕ) → (crosses (end ++ o) ≡ true → (allowed || crosses left) ≡ true)
     → EndsDocument (past 0 (moved m t) o).0 (past 0 (moved m t) o).1
     ⊎ ((left_key key (past 0 (moved m t) o).0 ≡ None) × ((crosses left || allowed) ≡ true))
-what_comes limit short m t at text end o place fits h k none_before key since allowed left fresh =
-    grind (arith, none_kept, or_true_swap, append_assoc, content_crosses, moved_append, later_end)
+what_comes limit short m t at text end o place fits h k none_before key since allowed left fresh = grind (arith, or_true_swap, append_assoc, content_crosses, moved_append, later_end)
 
 -- ## The node
 

@@ -42,12 +42,9 @@ left_key k m = if is_too_far k m then None else k
 pub left_none : (k : Option Candidate) → k ≡ None → (m : Marker) → left_key k m ≡ None
 left_none k e m = rw e refl
 
-left_by : (k : Option Candidate) (m : Marker) (b : Bool) → is_too_far k m ≡ b → is_too_far (left_key k m) m ≡ false
-left_by k m b e = grind arith
-
 -- nothing is dropped twice
 pub left_again : (k : Option Candidate) (m : Marker) → is_too_far (left_key k m) m ≡ false
-left_again k m = left_by k m (is_too_far k m) refl
+left_again k m = grind arith
 
 -- at the next token, where a comment that ended a scalar is forgotten
 abbrev pub landed : Moment → Marker → List ℕ → Bool → Moment

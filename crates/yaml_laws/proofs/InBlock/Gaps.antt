@@ -1,6 +1,6 @@
 -- What is between two tokens at block level: where it ends, whether a break is in it, and a tab in its last
 -- indentation.
-use Rattle.std.proofs.Common.{◌≡◌, ℕ, Bool, true, false, List, ◌∷◌, slice_index, refl, ap, ◌∙◌, arith, Ok}
+use Rattle.std.proofs.Common.{◌≡◌, ℕ, Bool, true, false, List, ◌∷◌, slice_index, refl, ◌∙◌, arith, Ok}
 use Rattle.yaml_laws.proofs.Common.{◌||◌, ◌==◌, nat_tests, is_blank, is_break, is_yaml_non_break, Marker, Cursor, GapEnd, gap_here, end_of_gap, end_of_gap_in_comment, stop, is_tab_indentation, whole_gap, or_false_left, or-false, or-true, number_sign, cursor_at, stop_here}
 use Rattle.yaml_laws.proofs.Flow.States.{IsContentStart, past, past_comment}
 use Rattle.yaml_laws.proofs.InBlock.States.{IsStop, tabbed, tabbed_comment, IsUntabbed, crosses, crosses_comment}
@@ -122,11 +122,7 @@ stop_past m y h = grind arith
 pub content_stop : (c : ℕ) (cs : List ℕ) → IsContentStart c → IsStop (c ∷ cs)
 content_stop c cs h = (h.blank, h.break, h.comment)
 
-gap_stays : (least : ℕ) (m : Marker) (blank : Bool) (y : List ℕ) → IsStop y
-    → end_of_gap true least m blank false false y ≡ gap_here m blank false false y
-gap_stays least m blank y h = grind arith
-
 -- nothing is passed right at a token
 pub gap_still : (least : ℕ) (m : Marker) (blank : Bool) (y : List ℕ) → IsStop y → whole_gap least (cursor_at y m blank)
     ≡ Ok (let p : GapEnd = record { cursor = cursor_at y m blank; broke = false } in p)
-gap_still least m blank y h = ap stop (gap_stays least m blank y h) ∙ stop_here m blank false y
+gap_still least m blank y h = grind (arith, stop_here)

@@ -34,23 +34,14 @@ pub saves : (f : Frame) (m : Marker) (y : List ℕ) (blank : Bool) (key : Option
     ≡ core_of f (moment_at m y blank (saved a i m key) a ad deeper)
 saves f m y blank key a ad deeper i low = grind arith
 
-reads_block : (f : Frame) (style : BlockStyle) (m : Marker) (y : List ℕ) (blank : Bool) (key : Option Candidate)
-    (ad : ℕ) (text : List ℕ) (span : Span) (left : Cursor)
-    → blocks.block_scalar style f.indent (cursor_at y m blank) ≡ Ok (text, span, left)
-    → scalar.read_block style (core_of f (moment_at m y blank key true ad false))
-    ≡ completed_step (from_to span.start span.end (kind.Scalar (style_of style) text) ∷ [])
-    (core_of f (behind_scalar left key ad))
-unfolding scalar.read_block
-reads_block f style m y blank key ad text span left e = grind arith
-
 block_step : (f : Frame) (style : BlockStyle) (m : Marker) (y : List ℕ) (blank : Bool) (key : Option Candidate)
     (a : Bool) (ad : ℕ) (deeper : Bool) (text : List ℕ) (span : Span) (left : Cursor)
     → f.indent ≤ m.col → blocks.block_scalar style f.indent (cursor_at y m blank) ≡ Ok (text, span, left) → (i : ℕ)
     → scalar.block_scalar_steps style i (core_of f (moment_at m y blank key a ad deeper))
     ≡ completed_step (from_to span.start span.end (kind.Scalar (style_of style) text) ∷ [])
     (core_of f (behind_scalar left (saved a i m key) ad))
-unfolding scalar.block_scalar_steps
-block_step f style m y blank key a ad deeper text span left low e i = grind (arith, saves, reads_block, saved)
+unfolding scalar.block_scalar_steps scalar.read_block
+block_step f style m y blank key a ad deeper text span left low e i = grind (arith, saves, saved)
 
 style_at_sign : (f : Frame) (style : BlockStyle) (n : Moment) (second i : ℕ)
     → step (sign style) second i (core_of f n) ≡ scalar.block_scalar_steps style i (core_of f n)

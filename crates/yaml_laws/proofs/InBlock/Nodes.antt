@@ -50,13 +50,10 @@ reads_left_out limit node place f same m t o (is, out, eol) fits behind start ts
 indent_near : (place : Position) → indent_at place ≤ suc (sequence_indent_at place)
 indent_near place = grind arith
 
-enough : (i j col : ℕ) → i ≡ j → j ≤ col → nat_le i col ≡ true
-enough i j col e h = grind (arith, nat_tests)
-
 -- a sequence at the column of what encloses it is in a mapping
 in_mapping : (place : Position) (i col : ℕ) → i ≡ indent_at place → sequence_indent_at place ≤ col
     → nat_le i col ≡ false → grammar.IsInBlockMapping (context_at place)
-in_mapping place i col h k e = grind (arith, clash, enough)
+in_mapping place i col h k e = grind (arith, clash, nat_tests)
 
 new_list : (ts us : List Kind) (k : Kind)
     → ((ts ++ k ∷ []) ++ us) ++ tokens.BlockEnd ∷ [] ≡ ts ++ (k ∷ (us ++ tokens.BlockEnd ∷ []))

@@ -1,5 +1,5 @@
 -- Block scalars at block level, with what comes before them (YAML 1.2.2, 8.1).
-use Rattle.yaml_laws.proofs.Common.{IsTrue, List, [], append-nil, append_assoc, arith, inl, inr, refl, subst, sym, ℕ, ◌++◌, ◌<◌, ◌^◌, ◌∷◌, ◌≡◌, ◌≤◌, None, Option, is_blank, AreIn, Marker, IsGap, IsNextLine, Candidate, Properties, Scalar, Style, State, Kind, scalar_token, IsProperties, NoBreaks}
+use Rattle.yaml_laws.proofs.Common.{List, [], append-nil, append_assoc, arith, inl, inr, refl, subst, sym, ℕ, ◌++◌, ◌<◌, ◌^◌, ◌∷◌, ◌≡◌, ◌≤◌, None, Option, is_blank, AreIn, Marker, IsGap, IsNextLine, Candidate, Properties, Scalar, Style, State, Kind, scalar_token, IsProperties, NoBreaks}
 use Rattle.saphyr_scanner.specs.Grammar.TokenGrammar as grammar
 use Rattle.yaml_laws.specs.Grammar.BlockNodes.{Position as Position, indent_at, is_start, IsGapAt, IsStyled, IsScalarFront, IsScalarInBlock}
 use Rattle.yaml_laws.proofs.Flow.ContentStarts.{StartsContent}
@@ -17,9 +17,6 @@ use Rattle.yaml_laws.proofs.InBlock.HeaderScalars.{IsOnLineOrBefore, reads_behin
 
 -- ## The gap before it
 
-start_reaches : (place : Position) (n : ℕ) → IsTrue (is_start place) → indent_at place ≤ n
-start_reaches place n h = grind arith
-
 -- nor after the next line's indentation
 next_line_reaches : (indent : ℕ) (m : Marker) (w : List ℕ) → IsNextLine indent w → indent ≤ (moved m w).col
 next_line_reaches indent m w (end, filler, front, end_is, filler_is, prefix, e) =
@@ -36,7 +33,7 @@ unbroken_blanks (c ∷ cs) h = grind (arith, unbroken_blanks cs h.1)
 -- after the gap before a node is nothing that is left of it
 pub gap_reaches : (place : Position) (m : Marker) (gap : List ℕ) → IsGapAt place gap → IsPlaced place m
     → indent_at place ≤ (moved m gap).col
-gap_reaches place m gap h placed = grind (arith, unbroken_along, unbroken_blanks, next_line_reaches, start_reaches)
+gap_reaches place m gap h placed = grind (arith, unbroken_along, unbroken_blanks, next_line_reaches)
 
 pub none_late : (k : Option Candidate) (m : Marker) → k ≡ None → IsOnLineOrBefore k m
 none_late k m e = rw e tt

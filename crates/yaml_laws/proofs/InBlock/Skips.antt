@@ -76,14 +76,10 @@ pub blanks_cross : (w o : List ℕ) → AreIn is_blank w → crosses (w ++ o) �
 blanks_cross [] o h = refl
 blanks_cross (c ∷ cs) o h = rw h.0 (blanks_cross cs o h.1)
 
-pub comment_crosses : (comment o : List ℕ) → (comment ≡ []) ⊎ IsComment comment
-    → crosses (comment ++ (line_feed ∷ o)) ≡ true
-comment_crosses comment o h = grind (arith, crosses, words_cross)
-
 -- after the rest of a line, before its break
 pub rest_crosses : (blanks comment o : List ℕ) → AreIn is_blank blanks → (comment ≡ []) ⊎ IsComment comment
     → crosses (blanks ++ (comment ++ (line_feed ∷ o))) ≡ true
-rest_crosses blanks comment o are k = blanks_cross blanks (comment ++ (10 ∷ o)) are ∙ comment_crosses comment o k
+rest_crosses blanks comment o are k = grind (arith, blanks_cross, crosses, words_cross)
 
 words_end_uncrossed : (words : List ℕ) → AreIn is_yaml_non_break words → crosses_comment words ≡ false
 words_end_uncrossed [] h = refl
@@ -167,15 +163,9 @@ spaces_untabbed least (suc n) w y are k m blank far =
     shift : (i c n : ℕ) → i ≤ c + suc n → i ≤ c + 1 + n
     shift i c n h = omega (arith, h)
 
--- before a line's content the tabs come after its indentation
-prefix_clean : (indent : ℕ) (w y : List ℕ) → IsLinePrefix indent w → IsClean y → IsCleanIn indent (w ++ y)
-prefix_clean indent w y (front, blanks, (n, reach, spaced), are, is) k least low m blank =
-    grind (arith, append_assoc, spaces_untabbed)
-
 pub lines_clean : (indent : ℕ) (filler front y : List ℕ) → IsFiller filler → IsLinePrefix indent front → IsClean y
     → IsCleanIn indent ((filler ++ front) ++ y)
-lines_clean indent filler front y filler_is prefix k least low m blank =
-    search (append_assoc, skipped_untabbed, filler_skipped, prefix_clean)
+lines_clean indent filler front y filler_is prefix k least low m blank = grind (arith, append_assoc, skipped_untabbed, filler_skipped, spaces_untabbed)
 
 -- Whether a tab is among the blanks before the next token.
 abbrev mutual
@@ -225,11 +215,8 @@ none_found : (m : Marker) (blank found tab : Bool) (t : List ℕ)
     → SpacesTo found (gap_here m blank found tab t) (m, t)
 none_found m blank found tab t = record { still_blank = blank; some = found; tab = tab; is = refl; has = λ h. h }
 
-space_alone : (c : ℕ) → (c == 9) ≡ false → is_blank c ≡ (c == 32)
-space_alone c h = grind (arith, nat_tests)
-
 white_is : (c : ℕ) (r : Bool) → (c == 9) ≡ false → (is_blank c || r) ≡ ((c == 32) || r)
-white_is c r h = ap (λ (b : Bool). b || r) (space_alone c h)
+white_is c r h = grind (arith, nat_tests)
 
 no_white : (c : ℕ) (r : Bool) → (is_blank c || r) ≡ false → ((c == 32) || r) ≡ false
 no_white c r e = sym (white_is c r (no_blank_no_tab c (or_parts (is_blank c) r e).0)) ∙ e

@@ -105,13 +105,10 @@ spaces_size (suc n) = let more = spaces_size n in omega (arith, more)
 pub spaces_moved : (m : Marker) (n : ℕ) → moved m (spaces n) ≡ along m n
 spaces_moved m n = moved_along m (spaces n) (no_feeds n) ∙ ap (along m) (spaces_size n)
 
-none_and : (a b : ℕ) → a ≡ 0 → a + b ≡ b
-none_and a b e = omega (arith, e)
-
 -- the column after filler and indentation that begin at a line's start
 pub indentation_col : (m : Marker) (column : ℕ) (w : List ℕ) → IsEntryIndentation column w → m.col ≡ 0
     → (moved m w).col ≡ column
-indentation_col m column w (filler, h, is) e = grind (arith, moved_append, spaces_moved, moved, none_and, filler_line)
+indentation_col m column w h e = grind (arith, moved_append, spaces_moved, moved, filler_line)
 
 pub indentation_skipped : (column : ℕ) (w : List ℕ) → IsEntryIndentation column w → IsSkipped w
 indentation_skipped column w (filler, h, is) = grind (arith, skipped_append, filler_skipped, spaces_skipped)

@@ -1,5 +1,5 @@
 -- A key on one line at block level begins a token, which keeps the key's place.
-use Rattle.yaml_laws.proofs.Common.{List, [], ap, append_assoc, arith, false, inl, refl, sym, true, ℕ, ◌++◌, ◌∙◌, ◌∷◌, ◌≡◌, Option, Some, colon, Context, Kind, Quote, Double, Single, mark, Alias, DoubleQuoted, Folded, Literal, Map, Node, Plain, Properties, Scalar, Seq, SingleQuoted, Style, Tag, AreFlowPairs, AreItems, IsBeforeContent, IsFlowNode, IsPlainKeyNode, IsScalarNode, IsFlowScalar, IsTag}
+use Rattle.yaml_laws.proofs.Common.{List, [], ap, append_assoc, arith, false, inl, refl, sym, true, ℕ, ◌++◌, ◌∙◌, ◌∷◌, ◌≡◌, Option, Some, colon, Kind, Quote, Double, Single, mark, Alias, DoubleQuoted, Folded, Literal, Map, Node, Plain, Properties, Scalar, Seq, SingleQuoted, Style, Tag, AreFlowPairs, AreItems, IsBeforeContent, IsFlowNode, IsPlainKeyNode, IsScalarNode, IsFlowScalar}
 use Rattle.saphyr_scanner.specs.declared.engine.level.Context.TheVariants as context
 use Rattle.saphyr_scanner.specs.Steps.Property as property
 use Rattle.saphyr_scanner.specs.Steps.Scalar as scalar
@@ -20,10 +20,6 @@ name_fresh : (token_of : List ℕ → Kind) (around : Around) → KeepsPlace aro
 unfolding property.name_steps
 name_fresh token_of around d s k ad n = refl
 
-tag_fresh : (around : Around) (second : ℕ) → KeepsPlace around (step 33 second)
-unfolding step property.tag_steps
-tag_fresh around second d s k ad n = refl
-
 quoted_fresh : (quote : Quote) (around : Around) (second : ℕ) → KeepsPlace around (step (mark quote) second)
 unfolding step scalar.quoted_steps
 quoted_fresh Single around second d s k ad n = refl
@@ -33,25 +29,16 @@ plain_fresh : (around : Around) → KeepsPlace around scalar.plain_steps
 unfolding scalar.plain_steps
 plain_fresh around d s k ad n = refl
 
-start_fresh : (y : Context) (kind : Kind) (around : Around) → KeepsPlace around (flow.opening_steps y kind)
-unfolding flow.opening_steps open_collection
-start_fresh y kind around d s k ad n = refl
-
 fresh_so : (around : Around) (t u : List ℕ) → t ≡ u → Fresh around u → Fresh around t
 fresh_so around t u e h = rw e h
 
 fresh_alias : (around : Around) (name t o : List ℕ) → yaml.IsAlias name t → Fresh around (t ++ o)
 fresh_alias around name t o h = grind (arith, begins_alias, name_fresh)
 
-fresh_anchor : (around : Around) (name t o : List ℕ) → yaml.IsAnchor name t → Fresh around (t ++ o)
-fresh_anchor around name t o h = grind (arith, begins_anchor, name_fresh)
-
-fresh_tag : (around : Around) (tag : Tag) (t o : List ℕ) → IsTag tag t → Fresh around (t ++ o)
-fresh_tag around tag t o h = grind (arith, tag_fresh)
-
 fresh_properties : (around : Around) (indent : ℕ) (anchor : Option (List ℕ)) (tag : Option Tag) (t o : List ℕ)
     → yaml.AreProperties anchor tag indent t → Fresh around (t ++ o)
-fresh_properties around indent anchor tag t o h = grind (arith, fresh_anchor, fresh_tag, fresh_so, append_assoc)
+unfolding step property.tag_steps
+fresh_properties around indent anchor tag t o h = grind (arith, fresh_so, append_assoc, begins_anchor, name_fresh)
 
 fresh_word : (around : Around) (t o : List ℕ) → BeginsWord false t o → Fresh around (t ++ o)
 fresh_word around t o w = λ d s k ad n. plain_dispatches around d s n t o context.Block w k [] true ad (inl refl)
@@ -71,7 +58,8 @@ fresh_content around indent Literal value t o h = absurd h
 fresh_content around indent Folded value t o h = absurd h
 
 fresh_bracket : (around : Around) (b : Brackets) → AreBrackets b → (o : List ℕ) → Fresh around (b.opening ∷ o)
-fresh_bracket around b are o d s k ad n = grind (arith, start_fresh)
+unfolding flow.opening_steps open_collection
+fresh_bracket around b are o d s k ad n = grind arith
 
 fresh_front : (around : Around) (indent : ℕ) (p : Properties) (front t : List ℕ) → IsBeforeContent p indent front
     → Fresh around t → Fresh around (front ++ t)

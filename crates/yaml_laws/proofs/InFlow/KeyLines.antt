@@ -21,14 +21,8 @@ pub record IsNear (k : Candidate) (m : Marker) : Type 0 where
   pub line : m.line ≡ k.mark.line
   pub index : m.index ≤ k.mark.index + 1024
 
-no_later : (a b : ℕ) → b ≡ a → nat_lt a b ≡ false
-no_later a b e = grind (arith, nat_tests)
-
-no_more : (a b : ℕ) → a ≤ b + 1024 → nat_lt 1024 (a - b) ≡ false
-no_more a b h = grind (arith, nat_tests)
-
 pub not_far : (k : Candidate) (m : Marker) → IsNear k m → is_too_far (Some k) m ≡ false
-not_far k m h = rw (no_later k.mark.line m.line h.line, no_more m.index k.mark.index h.index) refl
+not_far k m h = grind (arith, nat_tests)
 
 pub keeps_near_key : (around : Around) (d : Bool) (s : Cursor) (k : Candidate) (ls : List Level) (a : Bool) (ad : ℕ)
     → IsNear k s.mark → drop_far_key (core_at around d s context.Block (Some k) ls a ad)

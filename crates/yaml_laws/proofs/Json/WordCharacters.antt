@@ -53,8 +53,5 @@ pub record BeginsWord (t : List ℕ) : Type 0 where
   pub kind : (first ≡ hyphen) ⊎ IsDigit first ⊎ (first ≡ 116) ⊎ (first ≡ 102) ⊎ (first ≡ 110)
   pub dash : first ≡ hyphen → BeginsWithDigit others
 
-number_begins : (t : List ℕ) → IsJsonNumber t → BeginsWord t
-number_begins t h = grind arith
-
 pub word_begins : (t : List ℕ) → IsWord t → BeginsWord t
-word_begins t h = grind (arith, number_begins)
+word_begins t h = grind arith

@@ -1,5 +1,5 @@
 use Rattle.std.proofs.Common.{◌++◌, codes}
-use Rattle.dump_events.proofs.Beginnings.{begins_longer, begins_behind}
+use Rattle.saphyr_parser.proofs.Printed.Written.{begins_longer, begins_behind}
 use Rattle.dump_events.proofs.refusal.refuse_source.Goals as goal
 
 pub returns-then-not-writes-clause-says : goal.returns-then-not-writes-clause-says

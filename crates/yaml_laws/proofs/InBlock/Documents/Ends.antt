@@ -32,19 +32,10 @@ pub record FollowsDocument (o : List ℕ) : Type 0 where
 pub no_directives : (d : Document) (t : List ℕ) → d.directives ≡ [] → AreDirectives d.directives t → t ≡ []
 no_directives d t e h = rw e at h
 
-marked_clean : (filler : List ℕ) (c : ℕ) (cs o : List ℕ) → IsFiller filler → o ≡ filler ++ (c ∷ cs)
-    → IsStop (c ∷ cs) → IsClean o
-marked_clean filler c cs o filler_is e stops = grind (arith, skipped_clean, filler_skipped)
-
-marked_lands : (filler : List ℕ) (c : ℕ) (cs o : List ℕ) → IsFiller filler → o ≡ filler ++ (c ∷ cs)
-    → IsStop (c ∷ cs) → EndsContent (c ∷ cs) → (m : Marker) → AtLine o m → Lands m o
-marked_lands filler c cs o filler_is e stops ends m line =
-    grind (arith, skipped_passes, filler_skipped, filler_at_line)
-
 -- after filler a document marker or a byte order mark begins a line
 marked_follows : (filler : List ℕ) (c : ℕ) (cs o : List ℕ) → IsFiller filler → o ≡ filler ++ (c ∷ cs)
     → IsStop (c ∷ cs) → EndsContent (c ∷ cs) → FollowsDocument o
-marked_follows filler c cs o filler_is e stops ends = search (marked_clean, marked_lands)
+marked_follows filler c cs o filler_is e stops ends = grind (arith, skipped_clean, filler_skipped, skipped_passes, filler_at_line)
 
 last_clean : (o : List ℕ) → IsLastFiller o → IsClean o
 last_clean o (filler, text, filler_is, (front, comment, are, k, text_is), is) =
