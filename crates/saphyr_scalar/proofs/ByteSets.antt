@@ -1,9 +1,7 @@
 -- The table of bytes tells of each byte which sets it is of.
-use Rattle.std.proofs.Common.{◌≡◌, ℕ, ◌<◌, Bool, false, true, List, get_or, refl, sym, ap, ◌∙◌, arith}
+use Rattle.saphyr_scalar.proofs.Common.{◌≡◌, ℕ, ◌<◌, Bool, false, true, List, get_or, refl, sym, ap, ◌∙◌, arith, range_with_len, ascii_in}
 use Rattle.std.specs.Prelude.{◌==◌, not, map, bit_and}
-use Rattle.std.specs.List.{range_with_len}
 use Rattle.std.proofs.lemmas.List.FromFn.{get_or-map-range_with_len}
-use Rattle.saphyr_input.specs.Fronts.{ascii_in}
 use Rattle.saphyr_scalar.specs.Steps.Quoted.{is_literal}
 use Rattle.saphyr_scalar.specs.Steps.Sets.{in_single, in_double, in_plain}
 use Rattle.saphyr_scalar.specs.declared.scalar.byte_sets.TheConstants.{SETS_OF_BYTES}

@@ -1,8 +1,5 @@
 -- Where an escape ends: the place n characters further, if anything is read.
-use Rattle.std.proofs.Common.{◌≡◌, ℕ, List, drop, Result, Ok, Err, refl, sym, ap}
-use Rattle.saphyr_scalar.specs.declared.scalar.position.Marker.{Marker}
-use Rattle.saphyr_scalar.specs.declared.scalar.fault.Refusal.{Refusal}
-use Rattle.saphyr_scalar.specs.Views.Cursor.{Cursor, ◌>>=◌, along}
+use Rattle.saphyr_scalar.proofs.Common.{◌≡◌, ℕ, List, drop, Result, Ok, Err, refl, sym, ap, Marker, Refusal, Cursor, ◌>>=◌, along}
 use Rattle.saphyr_scalar.specs.Steps.Quoted.{mid_line}
 
 abbrev pub EscapeEnds : Marker → List ℕ → ℕ → Result (ℕ × Cursor) Refusal → Type 0

@@ -1,8 +1,5 @@
 -- What a step gives, if it is not refused: its value, and where it is; and what is known of a refusal.
-use Rattle.std.proofs.Common.{◌≡◌, ℕ, Bool, List, Result, Ok, Err, refl, subst}
-use Rattle.saphyr_scalar.specs.declared.scalar.position.Marker.{Marker}
-use Rattle.saphyr_scalar.specs.declared.scalar.fault.Refusal.{Refusal}
-use Rattle.saphyr_scalar.specs.Views.Cursor.{Cursor, ◌>>=◌}
+use Rattle.saphyr_scalar.proofs.Common.{◌≡◌, ℕ, Bool, List, Result, Ok, Err, refl, subst, Marker, Refusal, Cursor, ◌>>=◌}
 
 -- what is given, if something is, has this property
 abbrev pub Given : {X : Type 0} → (X → Type 0) → Result X Refusal → Type 0

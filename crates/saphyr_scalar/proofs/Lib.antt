@@ -1,3 +1,4 @@
+pub mod Common
 pub mod Readings
 pub mod Properties
 pub mod Directives

@@ -1,8 +1,5 @@
 -- Moving along a line, and choices.
-use Rattle.std.proofs.Common.{◌≡◌, ℕ, ◌+◌, List, drop, Result, Ok, refl, sym, ap, ◌∙◌, arith, add-zero}
-use Rattle.std.proofs.lemmas.List.{drop-drop}
-use Rattle.saphyr_scalar.specs.declared.scalar.position.Marker.{Marker}
-use Rattle.saphyr_scalar.specs.Views.Cursor.{◌>>=◌, along}
+use Rattle.saphyr_scalar.proofs.Common.{◌≡◌, ℕ, ◌+◌, List, drop, Result, Ok, refl, sym, ap, ◌∙◌, arith, add-zero, drop-drop, Marker, ◌>>=◌, along}
 
 pub along_none : (m : Marker) → along m 0 ≡ m
 along_none m = rw (add-zero m.index, add-zero m.col) refl

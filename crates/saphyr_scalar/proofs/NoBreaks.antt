@@ -1,10 +1,6 @@
 -- Texts without line breaks, of which each character is passed on its line.
 use Rattle.std.proofs.Common.{◌≡◌, ℕ, Bool, true, false, List, [], ◌∷◌, ◌++◌, length, refl, sym, arith, subst, encode_utf8}
-use Rattle.std.specs.Prelude.{◌||◌, ◌==◌}
-use Rattle.saphyr_input.specs.Classes.{is_break, is_tag_char, is_uri_char, IsHex}
-use Rattle.saphyr_scalar.specs.declared.scalar.position.Marker.{Marker}
-use Rattle.saphyr_scalar.specs.Views.Cursor.{along}
-use Rattle.saphyr_scalar.specs.declared.values.Quote.{Quote}
+use Rattle.saphyr_scalar.proofs.Common.{◌||◌, ◌==◌, is_break, is_tag_char, is_uri_char, IsHex, Marker, along, Quote}
 use Rattle.saphyr_scalar.specs.Values.Flow as flow
 use Rattle.saphyr_scalar.specs.Spelling.Directive.{ReadDirective, IsReadDirective}
 use Rattle.saphyr_scalar.specs.Passing.{IsPassed, nothing, character}

@@ -1,11 +1,5 @@
 -- Where neither a blank nor a comment nor a byte order mark is, nothing separates.
-use Rattle.std.proofs.Common.{◌≡◌, ℕ, Bool, false, List, [], ◌∷◌, slice_index, Ok, refl, ap, arith}
-use Rattle.std.specs.Prelude.{◌==◌}
-use Rattle.std.specs.List.{prefix_len}
-use Rattle.saphyr_input.specs.Indicators.{number_sign}
-use Rattle.saphyr_input.specs.Classes.{is_bom}
-use Rattle.saphyr_input.specs.Separation.{is_skipped}
-use Rattle.saphyr_input.specs.declared.input.SkipTabs.{SkipTabs}
+use Rattle.saphyr_scalar.proofs.Common.{◌≡◌, ℕ, Bool, false, List, [], ◌∷◌, slice_index, Ok, refl, ap, arith, ◌==◌, prefix_len, number_sign, is_bom, is_skipped, SkipTabs}
 use Rattle.saphyr_input.specs.declared.input.SkipTabs.TheVariants.{Result}
 use Rattle.saphyr_scalar.specs.Views.Cursor.{Cursor, separation, behind_separation, pass_blanks}
 use Rattle.saphyr_scalar.proofs.Moving.{along_none}

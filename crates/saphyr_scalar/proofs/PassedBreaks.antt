@@ -1,14 +1,9 @@
 -- What is passed from inside a text, where a break may have begun before it.
-use Rattle.std.proofs.Common.{◌≡◌, ℕ, ◌+◌, Bool, true, false, List, [], ◌∷◌, length, ◌<◌, refl, ap, arith}
+use Rattle.saphyr_scalar.proofs.Common.{◌≡◌, ℕ, ◌+◌, Bool, true, false, List, [], ◌∷◌, length, ◌<◌, refl, ap, arith, eqb-true, nat_tests, is_break, carriage_return, line_feed, Marker, Cursor, along, next_line, pass_break}
 use Rattle.std.specs.Prelude.{slice_index, ◌==◌, if◌then◌else◌}
-use Rattle.std.proofs.lemmas.Bool.{eqb-true}
-use Rattle.std.proofs.lemmas.Bool.Decides.{nat_tests}
 use Rattle.std.proofs.lemmas.List.{length-drop}
-use Rattle.saphyr_input.specs.Classes.{is_break, carriage_return, line_feed}
-use Rattle.saphyr_scalar.specs.declared.scalar.position.Marker.{Marker}
 use Rattle.saphyr_scalar.specs.Spelling.LineBreaks.{ends_line}
 use Rattle.saphyr_scalar.specs.Steps.Block.{is_cr_lf, inside_break}
-use Rattle.saphyr_scalar.specs.Views.Cursor.{Cursor, along, next_line, pass_break}
 use Rattle.saphyr_scalar.specs.Passing as passing
 use Rattle.saphyr_scalar.specs.Passing.{IsPassed}
 use Rattle.saphyr_scalar.specs.Steps.Quoted.{break_len}

@@ -1,10 +1,6 @@
 -- Passing over a text.
-use Rattle.std.proofs.Common.{◌≡◌, ℕ, suc, ◌<◌, ◌≤◌, true, false, List, [], ◌∷◌, ◌++◌, length, drop, slice_index, refl, ap, arith, IsTrue, inl, inr, ◌⊎◌}
-use Rattle.saphyr_input.specs.Indicators.{backslash}
-use Rattle.saphyr_input.specs.Classes.{is_break, is_hex}
+use Rattle.saphyr_scalar.proofs.Common.{◌≡◌, ℕ, suc, ◌<◌, ◌≤◌, true, false, List, [], ◌∷◌, ◌++◌, length, drop, slice_index, refl, ap, arith, IsTrue, inl, inr, ◌⊎◌, backslash, is_break, is_hex, Marker, along, next_line}
 use Rattle.saphyr_scalar.specs.Spelling.Tag.{AreIn}
-use Rattle.saphyr_scalar.specs.declared.scalar.position.Marker.{Marker}
-use Rattle.saphyr_scalar.specs.Views.Cursor.{along, next_line}
 use Rattle.saphyr_scalar.specs.Passing.{IsPassed, nothing, character, line_break}
 use Rattle.saphyr_scalar.specs.Steps.Quoted.{break_len}
 use Rattle.saphyr_scalar.proofs.Moving.{along_more, along_none}

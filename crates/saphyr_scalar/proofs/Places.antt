@@ -1,7 +1,5 @@
 -- Several steps along a line.
-use Rattle.std.proofs.Common.{◌≡◌, ℕ, ◌+◌, refl, ap, ◌∙◌}
-use Rattle.saphyr_scalar.specs.declared.scalar.position.Marker.{Marker}
-use Rattle.saphyr_scalar.specs.Views.Cursor.{along}
+use Rattle.saphyr_scalar.proofs.Common.{◌≡◌, ℕ, ◌+◌, refl, ap, ◌∙◌, Marker, along}
 use Rattle.saphyr_scalar.proofs.Moving.{along_more}
 
 pub along_three : (m : Marker) (a b c n : ℕ) → n ≡ a + b + c → along (along (along m a) b) c ≡ along m n

@@ -1,9 +1,5 @@
 -- Refusals at places on the way from one place to another.
-use Rattle.std.proofs.Common.{◌≡◌, ℕ, List, ◌∷◌, false}
-use Rattle.saphyr_input.specs.Classes.{is_break}
-use Rattle.saphyr_scalar.specs.declared.scalar.fault.Refusal.{Refusal}
-use Rattle.saphyr_scalar.specs.declared.scalar.position.Marker.{Marker}
-use Rattle.saphyr_scalar.specs.Views.Cursor.{Cursor, along}
+use Rattle.saphyr_scalar.proofs.Common.{◌≡◌, ℕ, List, ◌∷◌, false, is_break, Refusal, Marker, Cursor, along}
 use Rattle.saphyr_scalar.specs.Passing.{IsPassed, nothing, character}
 use Rattle.saphyr_scalar.specs.RefusedInside.{IsRefusedInside}
 use Rattle.saphyr_scalar.proofs.Block.PlacedHeaders.{passed_passed}

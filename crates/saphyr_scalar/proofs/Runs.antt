@@ -1,18 +1,8 @@
 -- A run that was put after a text.
-use Rattle.std.proofs.Common.{◌≡◌, ℕ, suc, ◌+◌, ◌<◌, Bool, false, List, [], ◌∷◌, ◌++◌, length, take, get_or, slice_index, arith, add-zero, encode_utf8_all}
-use Rattle.std.specs.String.Boundary.{IsSplitPoint}
-use Rattle.std.specs.List.{prefix_len}
-use Rattle.std.proofs.Math.Seq.{take-append_seam, drop-append_seam}
+use Rattle.saphyr_scalar.proofs.Common.{◌≡◌, ℕ, suc, ◌+◌, ◌<◌, Bool, false, List, [], ◌∷◌, ◌++◌, length, take, get_or, slice_index, arith, add-zero, encode_utf8_all, IsSplitPoint, prefix_len, take-append_seam, drop-append_seam, encode_ascii, is_blank, run_stops, Marker, along, by_test, blank_cases}
 use Rattle.std.proofs.lemmas.List.{length-append, get_or-append-add}
-use Rattle.std.proofs.lemmas.Str.{encode_ascii}
-use Rattle.saphyr_input.specs.Classes.{is_blank}
-use Rattle.saphyr_input.proofs.Runs.{run_stops}
 use Rattle.saphyr_scalar.specs.Spelling.Tag.{AreIn}
-use Rattle.saphyr_scalar.specs.declared.scalar.position.Marker.{Marker}
-use Rattle.saphyr_scalar.specs.Views.Cursor.{along}
 use Rattle.saphyr_scalar.specs.Steps.Quoted.{mid_line, with_run}
-use Rattle.saphyr_input.proofs.Basics.Booleans.{by_test}
-use Rattle.saphyr_input.proofs.Basics.Characters.{blank_cases}
 
 -- a spelled run, before a character that ends it
 pub run_len : (p : ℕ → Bool) (w y : List ℕ) → AreIn p w → p (slice_index y 0) ≡ false → prefix_len p (w ++ y) ≡ length w

@@ -1,17 +1,7 @@
 -- Spaces that are taken off in one piece: after a plain scalar's word, between quotes, and before a block scalar's
 -- lines.
-use Rattle.std.proofs.Common.{◌≡◌, ℕ, zero, suc, ◌+◌, ◌-◌, ◌^◌, ◌<◌, ◌≤◌, Bool, true, false, List, [], ◌∷◌, length, length-drop, drop, slice_index, refl, sym, ap, ◌∙◌, arith}
-use Rattle.std.specs.Prelude.{◌==◌, nat_lt, Option, Some, None}
-use Rattle.std.specs.List.{prefix_len}
-use Rattle.std.proofs.lemmas.Bool.Decides.{nat_tests}
-use Rattle.std.proofs.lemmas.List.Sums.{prefix_len-le-length}
-use Rattle.saphyr_input.specs.Classes.{space}
-use Rattle.saphyr_input.specs.Places.{spaces_within, is_blank_or_break}
+use Rattle.saphyr_scalar.proofs.Common.{◌≡◌, ℕ, zero, suc, ◌+◌, ◌-◌, ◌^◌, ◌<◌, ◌≤◌, Bool, true, false, List, [], ◌∷◌, length, length-drop, drop, slice_index, refl, sym, ap, ◌∙◌, arith, ◌==◌, nat_lt, Option, Some, None, prefix_len, nat_tests, prefix_len-le-length, space, spaces_within, is_blank_or_break, Marker, EmptyLines, Quote, Cursor, along, pass_spaces, by_test, and_false}
 use Rattle.saphyr_input.proofs.WordRuns.{run_ends}
-use Rattle.saphyr_scalar.specs.declared.scalar.position.Marker.{Marker}
-use Rattle.saphyr_scalar.specs.declared.scalar.block.lines.EmptyLines.{EmptyLines}
-use Rattle.saphyr_scalar.specs.declared.values.Quote.{Quote}
-use Rattle.saphyr_scalar.specs.Views.Cursor.{Cursor, along, pass_spaces}
 use Rattle.saphyr_scalar.specs.Steps.Plain.{lines}
 use Rattle.saphyr_scalar.specs.Steps.Quoted.{mid_line, over_lines, inner_text, inner_text_at}
 use Rattle.saphyr_scalar.specs.Steps.Block.{is_indentation, indentation_left, pass_empty_lines, pass_empty_lines_at}
@@ -19,7 +9,6 @@ use Rattle.saphyr_scalar.proofs.Moving.{along_none, along_more}
 use Rattle.saphyr_scalar.proofs.Plain.Lines.{lines_blank}
 use Rattle.saphyr_scalar.proofs.Quoted.Lines.{line_blank}
 use Rattle.saphyr_scalar.proofs.Block.Lines.{space_on}
-use Rattle.saphyr_input.proofs.Basics.Booleans.{by_test, and_false}
 
 abbrev is_space : ℕ → Bool
 is_space c = c == 32

@@ -1,7 +1,5 @@
 -- Steps that gave something, and choices between something and a refusal.
-use Rattle.std.proofs.Common.{◌≡◌, Bool, true, false, cond, Result, Ok, Err, refl}
-use Rattle.saphyr_scalar.specs.declared.scalar.fault.Refusal.{Refusal}
-use Rattle.saphyr_scalar.specs.Views.Cursor.{◌>>=◌}
+use Rattle.saphyr_scalar.proofs.Common.{◌≡◌, Bool, true, false, cond, Result, Ok, Err, refl, Refusal, ◌>>=◌}
 
 pub no_result : {A E : Type 0} (e : E) (x : A) (P : Type 0) → Err e ≡ Ok x → P
 no_result e x P h = absurd (cc)

@@ -2,9 +2,7 @@
 use Rattle.std.proofs.Common.{◌≡◌, ℕ, zero, suc, ◌+◌, ◌≤◌, Bool, true, List, [], ◌∷◌, ◌++◌, take, drop, sym, ap, ◌∙◌, arith, encode_utf8, encode_utf8_all}
 use Rattle.std.specs.Prelude.{Result, Ok, Err, OnOk}
 use Rattle.saphyr_input.specs.Places.{goes_on, words_len, TransfersWords}
-use Rattle.saphyr_input.proofs.Basics.Booleans.{by_test}
-use Rattle.saphyr_scalar.specs.declared.scalar.position.Marker.{Marker}
-use Rattle.saphyr_scalar.specs.Views.Cursor.{along}
+use Rattle.saphyr_scalar.proofs.Common.{by_test, Marker, along}
 use Rattle.saphyr_scalar.proofs.Moving.{along_none, along_more}
 
 -- `read` gives what is read of a text from a place on, and `behind` puts it behind a text

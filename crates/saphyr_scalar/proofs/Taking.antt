@@ -1,11 +1,7 @@
 -- Each reader of plain and quoted scalars takes something off the text. `Block/Placed` has the reader of block scalars.
-use Rattle.std.proofs.Common.{◌≡◌, ℕ, ◌<◌, Bool, List, [], ◌∷◌, ◌++◌, length, Ok, refl, arith}
+use Rattle.saphyr_scalar.proofs.Common.{◌≡◌, ℕ, ◌<◌, Bool, List, [], ◌∷◌, ◌++◌, length, Ok, refl, arith, normalized, Quote, Marker, Cursor}
 use Rattle.std.specs.Prelude.{slice_index, Option, Some}
 use Rattle.std.proofs.lemmas.List.{length-append}
-use Rattle.saphyr_input.specs.Breaks.{normalized}
-use Rattle.saphyr_scalar.specs.declared.values.Quote.{Quote}
-use Rattle.saphyr_scalar.specs.declared.scalar.position.Marker.{Marker}
-use Rattle.saphyr_scalar.specs.Views.Cursor.{Cursor}
 use Rattle.saphyr_scalar.specs.Values.Flow as flow
 use Rattle.saphyr_scalar.specs.Steps.Quoted.{quoted}
 use Rattle.saphyr_scalar.specs.Steps.Plain.{plain}

@@ -1,10 +1,7 @@
 -- Each reader of anchors, tags and directives takes something off the text.
-use Rattle.std.proofs.Common.{◌≡◌, ℕ, ◌<◌, ◌≤◌, Bool, List, length, Ok, arith}
+use Rattle.saphyr_scalar.proofs.Common.{◌≡◌, ℕ, ◌<◌, ◌≤◌, Bool, List, length, Ok, arith, exclamation_mark, percent_sign, Marker, Cursor, pass_break}
 use Rattle.std.specs.Prelude.{slice_index}
 use Rattle.std.proofs.lemmas.List.{length-append}
-use Rattle.saphyr_input.specs.Indicators.{exclamation_mark, percent_sign}
-use Rattle.saphyr_scalar.specs.declared.scalar.position.Marker.{Marker}
-use Rattle.saphyr_scalar.specs.Views.Cursor.{Cursor, pass_break}
 use Rattle.saphyr_scalar.specs.Steps.Anchor.{anchor}
 use Rattle.saphyr_scalar.specs.Steps.Tag.{tag}
 use Rattle.saphyr_scalar.specs.Spelling.Tag.{IsTagText}

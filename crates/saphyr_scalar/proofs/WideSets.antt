@@ -1,9 +1,5 @@
 -- Sets whose runs scalars take off, and the characters that are not ASCII.
-use Rattle.std.proofs.Common.{◌≡◌, ℕ, ◌≤◌, Bool, true, false, arith}
-use Rattle.std.specs.Prelude.{◌==◌}
-use Rattle.std.proofs.lemmas.Bool.Decides.{nat_tests}
-use Rattle.saphyr_scalar.specs.declared.values.Quote.{Quote}
-use Rattle.saphyr_scalar.specs.declared.values.Quote.TheVariants.{Single, Double}
+use Rattle.saphyr_scalar.proofs.Common.{◌≡◌, ℕ, ◌≤◌, Bool, true, false, arith, ◌==◌, nat_tests, Quote, Single, Double}
 use Rattle.saphyr_scalar.specs.Steps.Quoted.{is_literal}
 use Rattle.saphyr_scalar.specs.Steps.Sets.{in_plain}
 

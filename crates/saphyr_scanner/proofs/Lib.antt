@@ -1,3 +1,4 @@
+pub mod Common
 pub mod Queues
 pub mod Parts
 pub mod Turns
@@ -21,6 +22,7 @@ pub mod Added
 pub mod Effects
 pub mod ReadersCounted
 pub mod QueuedPlaces
+pub mod FirstQueued
 pub mod QueuedReads
 pub mod LineTexts
 pub mod Reached

@@ -209,7 +209,7 @@ impl Queue {
     }
 
     /// Sets what comes in front of the token at a place.
-    #[tactic(auto, using(crate::proofs::QueuedPlaces::opened_place), unfolding(crate::specs::Views::Queue::queue_places))]
+    #[tactic(auto, using(crate::proofs::FirstQueued::opened_place), unfolding(crate::specs::Views::Queue::queue_places))]
     pub(crate) fn set_opening(&mut self, number: usize, opening: Opening)
         ensures { queue self.new ≡ spec.with_opening number opening (queue self.old) }
     {

@@ -1,9 +1,5 @@
 -- Which characters belong to the indentation of a block scalar's line: spaces alone.
-use Rattle.std.proofs.Common.{◌≡◌, ℕ, true, false, refl}
-use Rattle.std.specs.Prelude.{◌==◌, nat_lt, Option, Some, None}
-use Rattle.std.proofs.lemmas.Bool.{eqb-true}
-use Rattle.saphyr_input.specs.Classes.{space}
-use Rattle.saphyr_input.proofs.Basics.Booleans.{and_true_left}
+use Rattle.saphyr_scalar.proofs.Common.{◌≡◌, ℕ, true, false, refl, ◌==◌, nat_lt, Option, Some, None, eqb-true, space, and_true_left}
 use Rattle.saphyr_scalar.specs.Steps.Block.{is_indentation}
 
 pub nul_no_indentation : (limit : Option ℕ) (col : ℕ) → is_indentation limit col 0 ≡ false

@@ -1,17 +1,5 @@
 -- What is read as a block scalar is the value of its lines.
-use Rattle.std.proofs.Common.{◌≡◌, ℕ, ◌≤◌, true, false, List, [], ◌∷◌, ◌++◌, slice_index, Ok, refl, sym, ap, ◌∙◌, arith, subst, map, encode_utf8_all, inl, inr}
-use Rattle.std.specs.Prelude.{max, Option, Some, None, unwrap_or}
-use Rattle.std.proofs.lemmas.List.{append-nil}
-use Rattle.saphyr_input.specs.Breaks.{normalized}
-use Rattle.saphyr_input.specs.Classes.{is_break, is_z, is_yaml_non_break}
-use Rattle.saphyr_scalar.specs.declared.values.BlockStyle.{BlockStyle}
-use Rattle.saphyr_scalar.specs.declared.values.Chomping.{Chomping}
-use Rattle.saphyr_scalar.specs.declared.values.Ending.TheVariants.{AtEnd}
-use Rattle.saphyr_scalar.specs.declared.scalar.position.Marker.{Marker}
-use Rattle.saphyr_scalar.specs.declared.scalar.position.Span.{Span}
-use Rattle.saphyr_scalar.specs.declared.scalar.block.header.BlockHeader.{BlockHeader}
-use Rattle.saphyr_scalar.specs.declared.scalar.block.lines.EmptyLines.{EmptyLines}
-use Rattle.saphyr_scalar.specs.Views.Cursor.{Cursor, along, next_line}
+use Rattle.saphyr_scalar.proofs.Common.{◌≡◌, ℕ, ◌≤◌, true, false, List, [], ◌∷◌, ◌++◌, slice_index, Ok, refl, sym, ap, ◌∙◌, arith, subst, map, encode_utf8_all, inl, inr, max, Option, Some, None, unwrap_or, append-nil, normalized, is_break, is_z, is_yaml_non_break, BlockStyle, Chomping, AtEnd, Marker, Span, BlockHeader, EmptyLines, Cursor, along, next_line, by_test, z_is_nul}
 use Rattle.saphyr_scalar.specs.Values.Block.{lines_of, line_of, block_value}
 use Rattle.saphyr_scalar.specs.Values.Lines.{last_line}
 use Rattle.saphyr_scalar.specs.Steps.BlockRead.{indentation_of, IsRead, EndsLines}
@@ -22,8 +10,6 @@ use Rattle.saphyr_scalar.proofs.Block.Turns.{stopped, no_start}
 use Rattle.saphyr_scalar.proofs.Block.Texts.{spaces, plain_spaces, only_line, lines_spaces}
 use Rattle.saphyr_scalar.proofs.Block.Wholes.{empties, whole, whole_alone, block_value_of, first_read}
 use Rattle.saphyr_scalar.proofs.Block.Reads.{Leading, leading, within_limit, IsBehindHeaderLine, header_place, then_gave, gave, refused_gave, same_gift}
-use Rattle.saphyr_input.proofs.Basics.Booleans.{by_test}
-use Rattle.saphyr_input.proofs.Basics.Characters.{z_is_nul}
 use Rattle.saphyr_scalar.proofs.Block.Indentations.{nul_no_indentation}
 
 -- a line that was begun is still begun by blanks alone

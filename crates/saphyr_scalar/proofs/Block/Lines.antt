@@ -1,17 +1,9 @@
 -- The lines of a block scalar, read a piece at a time.
 use Rattle.std.proofs.Common.{◌≡◌, ℕ, zero, suc, ◌+◌, ◌<◌, ◌≤◌, Bool, true, false, List, [], ◌∷◌, ◌++◌, length, slice_index, max, refl, sym, ap, ◌∙◌, arith, encode_utf8_all, append_assoc, add-one, nat_eq}
-use Rattle.std.specs.Prelude.{◌==◌, encode_utf8, Option, Some, None}
-use Rattle.std.proofs.lemmas.Bool.Decides.{nat_tests}
-use Rattle.std.proofs.lemmas.List.{append-nil}
-use Rattle.std.proofs.lemmas.Str.{encodes-append}
-use Rattle.saphyr_input.specs.Classes.{is_break, carriage_return, line_feed}
-use Rattle.saphyr_scalar.specs.declared.scalar.position.Marker.{Marker}
-use Rattle.saphyr_scalar.specs.declared.scalar.block.lines.EmptyLines.{EmptyLines}
-use Rattle.saphyr_scalar.specs.Views.Cursor.{Cursor, along, next_line, pass_break}
+use Rattle.saphyr_scalar.proofs.Common.{◌==◌, encode_utf8, Option, Some, None, nat_tests, append-nil, encodes-append, is_break, carriage_return, line_feed, Marker, EmptyLines, Cursor, along, next_line, pass_break, or_false_left, or_false_right}
 use Rattle.saphyr_scalar.specs.Values.Folding.{line_feeds}
 use Rattle.saphyr_scalar.specs.Steps.Block.{line_cursor, is_indentation, with_column, with_empty_line, pass_empty_lines, pass_empty_lines_at}
 use Rattle.saphyr_scalar.proofs.Quoted.Inside.{break_cases}
-use Rattle.saphyr_input.proofs.Basics.Booleans.{or_false_left, or_false_right}
 use Rattle.saphyr_scalar.proofs.PassedBreaks.{inside_same}
 
 -- a place that shows no NUL is a character

@@ -1,15 +1,7 @@
 -- Where a block scalar is: its text is passed character by character, so the index moves on by as many as are taken,
 -- and it ends after its first line, or at the end.
-use Rattle.std.proofs.Common.{◌≡◌, ℕ, ◌+◌, ◌<◌, ◌⊎◌, Bool, true, false, List, [], ◌∷◌, length, Ok, refl, ap, arith, inl, inr, ◌≤◌, drop}
+use Rattle.saphyr_scalar.proofs.Common.{◌≡◌, ℕ, ◌+◌, ◌<◌, ◌⊎◌, Bool, true, false, List, [], ◌∷◌, length, Ok, refl, ap, arith, inl, inr, ◌≤◌, drop, is_blank, is_break, is_z, is_yaml_non_break, BlockStyle, Chomping, Marker, Span, BlockHeader, EmptyLines, Cursor, along, next_line, pass, and_true_left, by_test, eqb-true, non_break_no_break}
 use Rattle.std.specs.Prelude.{◌&&◌, slice_index, nat_lt, nat_le, min, max, Option, Some, None, unwrap_or}
-use Rattle.saphyr_input.specs.Classes.{is_blank, is_break, is_z, is_yaml_non_break}
-use Rattle.saphyr_scalar.specs.declared.values.BlockStyle.{BlockStyle}
-use Rattle.saphyr_scalar.specs.declared.values.Chomping.{Chomping}
-use Rattle.saphyr_scalar.specs.declared.scalar.position.Marker.{Marker}
-use Rattle.saphyr_scalar.specs.declared.scalar.position.Span.{Span}
-use Rattle.saphyr_scalar.specs.declared.scalar.block.header.BlockHeader.{BlockHeader}
-use Rattle.saphyr_scalar.specs.declared.scalar.block.lines.EmptyLines.{EmptyLines}
-use Rattle.saphyr_scalar.specs.Views.Cursor.{Cursor, along, next_line, pass}
 use Rattle.saphyr_scalar.specs.Passing as passing
 use Rattle.saphyr_scalar.specs.Passing.{IsPassed}
 use Rattle.saphyr_scalar.specs.Steps.Block.{header, is_indentation, is_cr_lf, inside_break, with_empty_line, pass_empty_lines, line_starts, LinesRead, between, line, chomped_lines, content, behind_leading_lines, given_indentation, no_lines, behind_header, block_scalar}
@@ -17,9 +9,6 @@ use Rattle.std.proofs.lemmas.List.{length-drop}
 use Rattle.saphyr_scalar.specs.Spelling.LineBreaks.{break_len}
 use Rattle.saphyr_scalar.proofs.PassedBreaks.{PassesBreak, inside_same, one_here, return_here, feed_here, stop_here, end_here}
 use Rattle.saphyr_scalar.proofs.Block.PlacedHeaders.{top, passed_passed, passed_lines, Goes, one_passed, EndsHeaderLine, header_ends_from, goes_nowhere}
-use Rattle.saphyr_input.proofs.Basics.Booleans.{and_true_left, by_test}
-use Rattle.std.proofs.lemmas.Bool.{eqb-true}
-use Rattle.saphyr_input.proofs.Basics.Characters.{non_break_no_break}
 use Rattle.saphyr_scalar.proofs.Block.Indentations.{indentation_is_space}
 use Rattle.saphyr_scalar.proofs.Given.{Given, given_bind, given_of}
 

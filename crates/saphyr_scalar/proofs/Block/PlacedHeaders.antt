@@ -1,27 +1,13 @@
 -- Where the header of a block scalar is: its line is passed character by character, and its break, where one ends
 -- it.
-use Rattle.std.proofs.Common.{◌≡◌, ℕ, suc, ◌+◌, ◌≤◌, ◌⊎◌, Bool, true, false, List, [], ◌∷◌, length, drop, Result, Ok, Err, refl, sym, ap, arith, subst, inl, inr}
+use Rattle.saphyr_scalar.proofs.Common.{◌≡◌, ℕ, suc, ◌+◌, ◌≤◌, ◌⊎◌, Bool, true, false, List, [], ◌∷◌, length, drop, Result, Ok, Err, refl, sym, ap, arith, subst, inl, inr, prefix_len, nat_tests, is_break, is_breakz, is_z, is_yaml_non_break, next_2_are, is_skipped, blank_len, separation_len, SkipTabs, Yes, Chomping, Marker, Refusal, BlockHeader, and_true_left, by_test, either, not-false, eqb-true, non_break_no_break}
 use Rattle.std.specs.Prelude.{slice_index, ◌==◌, min, Option, Some, None}
-use Rattle.std.specs.List.{prefix_len}
-use Rattle.std.proofs.lemmas.Bool.Decides.{nat_tests}
-use Rattle.saphyr_input.specs.Classes.{is_break, is_breakz, is_z, is_yaml_non_break}
-use Rattle.saphyr_input.specs.Places.{next_2_are}
-use Rattle.saphyr_input.specs.Separation.{is_skipped, blank_len, separation_len}
-use Rattle.saphyr_input.specs.declared.input.SkipTabs.{SkipTabs}
-use Rattle.saphyr_input.specs.declared.input.SkipTabs.TheVariants.{Yes}
-use Rattle.saphyr_scalar.specs.declared.values.Chomping.{Chomping}
-use Rattle.saphyr_scalar.specs.declared.scalar.position.Marker.{Marker}
-use Rattle.saphyr_scalar.specs.declared.scalar.fault.Refusal.{Refusal}
-use Rattle.saphyr_scalar.specs.declared.scalar.block.header.BlockHeader.{BlockHeader}
 use Rattle.saphyr_scalar.specs.Views.Cursor.{Cursor, along, next_line, pass, pass_blanks, pass_break, behind_separation, separation}
 use Rattle.saphyr_scalar.specs.Passing as passing
 use Rattle.saphyr_scalar.specs.Passing.{IsPassed}
 use Rattle.saphyr_scalar.specs.Steps.Quoted.{break_len}
 use Rattle.saphyr_scalar.specs.Steps.Block.{chomping, indicator, header_break, header_end, last_chomping, header_behind, header}
 use Rattle.saphyr_scalar.proofs.Moving.{along_none, along_more, drop_more}
-use Rattle.saphyr_input.proofs.Basics.Booleans.{and_true_left, by_test, either}
-use Rattle.std.proofs.lemmas.Bool.{not-false, eqb-true}
-use Rattle.saphyr_input.proofs.Basics.Characters.{non_break_no_break}
 use Rattle.saphyr_scalar.proofs.Given.{Given, given_bind, given_of}
 
 abbrev pub top : ℕ

@@ -1,16 +1,6 @@
 -- A block scalar that is read has the value of its lines.
-use Rattle.std.proofs.Common.{◌≡◌, ℕ, suc, ◌+◌, ◌≤◌, Bool, true, false, List, [], ◌∷◌, ◌++◌, slice_index, Result, Ok, Err, refl, sym, ap, ◌∙◌, arith, nat_eq}
+use Rattle.saphyr_scalar.proofs.Common.{◌≡◌, ℕ, suc, ◌+◌, ◌≤◌, Bool, true, false, List, [], ◌∷◌, ◌++◌, slice_index, Result, Ok, Err, refl, sym, ap, ◌∙◌, arith, nat_eq, nat_tests, normalized, is_break, is_z, space, Chomping, Marker, Refusal, BlockHeader, EmptyLines, SkipTabs, Yes, by_test, normalized_other}
 use Rattle.std.specs.Prelude.{Option, Some, None, ◌⊎◌}
-use Rattle.std.proofs.lemmas.Bool.Decides.{nat_tests}
-use Rattle.saphyr_input.specs.Breaks.{normalized}
-use Rattle.saphyr_input.specs.Classes.{is_break, is_z, space}
-use Rattle.saphyr_scalar.specs.declared.values.Chomping.{Chomping}
-use Rattle.saphyr_scalar.specs.declared.scalar.position.Marker.{Marker}
-use Rattle.saphyr_scalar.specs.declared.scalar.fault.Refusal.{Refusal}
-use Rattle.saphyr_scalar.specs.declared.scalar.block.header.BlockHeader.{BlockHeader}
-use Rattle.saphyr_scalar.specs.declared.scalar.block.lines.EmptyLines.{EmptyLines}
-use Rattle.saphyr_input.specs.declared.input.SkipTabs.{SkipTabs}
-use Rattle.saphyr_input.specs.declared.input.SkipTabs.TheVariants.{Yes}
 use Rattle.saphyr_scalar.specs.Views.Cursor.{Cursor, ◌>>=◌, along, next_line, separation, behind_separation}
 use Rattle.saphyr_scalar.specs.Values.Block.{Empty, lines_of}
 use Rattle.saphyr_scalar.specs.Values.Lines.{last_line}
@@ -18,8 +8,6 @@ use Rattle.saphyr_scalar.specs.Steps.Block.{line_cursor, is_indentation, is_cr_l
 use Rattle.saphyr_scalar.proofs.Block.Texts.{spaces, spaces_more, plain_spaces, first_line, line_spaces, normal_half, normalized_break, lines_break}
 use Rattle.saphyr_scalar.specs.Reading.BlockLines.{HasLines}
 use Rattle.saphyr_scalar.proofs.Block.Wholes.{empties}
-use Rattle.saphyr_input.proofs.Basics.Booleans.{by_test}
-use Rattle.saphyr_input.proofs.Basics.Characters.{normalized_other}
 use Rattle.saphyr_scalar.proofs.Block.Indentations.{indentation_is_space}
 
 -- what was taken off as leading empty lines and indentation: `front` in normalized characters, d lines with j spaces

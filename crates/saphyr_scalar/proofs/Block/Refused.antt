@@ -1,21 +1,13 @@
 -- A block scalar is refused where it begins, in its header, or at its first content line.
 use Rattle.std.proofs.Common.{◌≡◌, ℕ, ◌<◌, false, length, slice_index, refl, arith, max}
-use Rattle.std.specs.Prelude.{◌==◌, not, Option}
-use Rattle.saphyr_input.specs.Classes.{is_break, is_breakz, is_digit, tab}
-use Rattle.saphyr_input.specs.declared.input.SkipTabs.TheVariants.{Yes}
-use Rattle.saphyr_scalar.specs.declared.values.BlockStyle.{BlockStyle}
-use Rattle.saphyr_scalar.specs.declared.values.Chomping.{Chomping}
-use Rattle.saphyr_scalar.specs.declared.scalar.block.lines.EmptyLines.{EmptyLines}
-use Rattle.saphyr_scalar.specs.declared.scalar.position.Marker.{Marker}
+use Rattle.saphyr_scalar.proofs.Common.{◌==◌, not, Option, is_break, is_breakz, is_digit, tab, Yes, BlockStyle, Chomping, EmptyLines, Marker, Cursor, pass_break, separation, by_test}
 use Rattle.saphyr_scalar.specs.Steps.Block.{indicator, header_break, header_end, header_behind, header, chomped_lines, content, behind_leading_lines, behind_header, block_scalar}
-use Rattle.saphyr_scalar.specs.Views.Cursor.{Cursor, pass_break, separation}
 use Rattle.saphyr_scalar.specs.Passing.{IsPassed}
 use Rattle.saphyr_scalar.specs.RefusedInside.{IsRefusedInside}
 use Rattle.saphyr_scalar.proofs.Block.Placed.{empty_passes}
 use Rattle.saphyr_scalar.proofs.Block.PlacedHeaders.{passed_passed, one_passed, header_goes, header_ends}
 use Rattle.saphyr_scalar.proofs.Directives.Refused.{separation_refused}
 use Rattle.saphyr_scalar.proofs.RefusedOnWay.{inside_from, inside_start}
-use Rattle.saphyr_input.proofs.Basics.Booleans.{by_test}
 use Rattle.saphyr_scalar.proofs.Given.{Refused, RefusedAt, given_of, refused_bind, refused_more}
 
 indicator_refused : (start : Marker) (s : Cursor) → RefusedAt start (indicator start s)

@@ -1,22 +1,12 @@
 -- The text of a block scalar, told by its lines.
 use Rattle.std.proofs.Common.{inl, inr, append_assoc, subst, ◌≡◌, ℕ, zero, suc, ◌+◌, ◌<◌, ◌≤◌, Bool, true, false, List, [], ◌∷◌, ◌++◌, length, length-append, drop, slice_index, refl, sym, ap, ◌∙◌, arith, add-one, nat_eq, nat_le, map}
-use Rattle.std.specs.Prelude.{◌&&◌, ◌==◌, not, if◌then◌else◌}
-use Rattle.std.specs.List.{list_all}
-use Rattle.std.proofs.lemmas.Bool.Decides.{nat_tests}
-use Rattle.std.proofs.lemmas.List.{length-replicate}
-use Rattle.saphyr_input.specs.Breaks.{normalized}
-use Rattle.saphyr_input.specs.Classes.{is_break, space, line_feed}
-use Rattle.saphyr_scalar.specs.declared.values.BlockStyle.{BlockStyle}
-use Rattle.saphyr_scalar.specs.declared.values.Chomping.{Chomping}
-use Rattle.saphyr_scalar.specs.declared.values.Ending.{Ending}
+use Rattle.saphyr_scalar.proofs.Common.{◌&&◌, ◌==◌, not, if◌then◌else◌, list_all, nat_tests, length-replicate, normalized, is_break, space, line_feed, BlockStyle, Chomping, Ending, or_false_left, or_false_right, and_parts}
 use Rattle.saphyr_scalar.specs.Values.Block.{Line, Empty, Content, is_empty_line, line_of, contents_behind, empty_at_end, chomped, is_at_end, is_broken}
 pub use Rattle.saphyr_scalar.specs.Reading.BlockLines.{spaces}
 use Rattle.saphyr_scalar.specs.Reading.BlockLines.{HasLines}
 use Rattle.saphyr_scalar.specs.Values.Lines.{ended_lines, last_line, has_break}
 use Rattle.saphyr_scalar.specs.Steps.Block.{is_cr_lf}
-use Rattle.saphyr_input.proofs.Basics.Booleans.{or_false_left, or_false_right}
 use Rattle.saphyr_scalar.proofs.Quoted.Inside.{break_cases}
-use Rattle.std.proofs.lemmas.Bool.{and_parts}
 
 pub spaces_more : (n : ℕ) (xs : List ℕ) → spaces (n + 1) ++ xs ≡ spaces n ++ (space ∷ xs)
 spaces_more zero xs = refl

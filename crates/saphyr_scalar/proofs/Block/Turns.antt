@@ -1,27 +1,11 @@
 -- The content lines of a block scalar, read a line at a time.
 use Rattle.std.proofs.Common.{◌≡◌, ℕ, suc, ◌+◌, ◌<◌, ◌≤◌, Bool, true, false, List, [], ◌∷◌, ◌++◌, length, take, drop, length-drop, slice_index, Result, Ok, refl, sym, ap, ◌∙◌, arith, subst, encode_utf8_all, append_assoc, nat_eq, nat_lt}
-use Rattle.std.specs.Prelude.{◌==◌, Option, Some, is_some}
-use Rattle.std.specs.List.{prefix_len}
-use Rattle.std.proofs.lemmas.Bool.Decides.{nat_tests}
-use Rattle.std.proofs.lemmas.List.{append-nil}
-use Rattle.std.proofs.lemmas.List.Sums.{prefix_len-le-length}
-use Rattle.std.proofs.lemmas.Str.{encodes-append}
-use Rattle.saphyr_input.specs.Classes.{is_blank, is_break, is_yaml_non_break, carriage_return, line_feed}
-use Rattle.saphyr_scalar.specs.declared.values.BlockStyle.{BlockStyle}
-use Rattle.saphyr_scalar.specs.declared.values.Chomping.{Chomping}
-use Rattle.saphyr_scalar.specs.declared.scalar.position.Marker.{Marker}
-use Rattle.saphyr_scalar.specs.declared.scalar.position.Span.{Span}
-use Rattle.saphyr_scalar.specs.declared.scalar.fault.Refusal.{Refusal}
-use Rattle.saphyr_scalar.specs.declared.scalar.block.lines.EmptyLines.{EmptyLines}
+use Rattle.saphyr_scalar.proofs.Common.{◌==◌, Option, Some, is_some, prefix_len, nat_tests, append-nil, prefix_len-le-length, encodes-append, is_blank, is_break, is_yaml_non_break, carriage_return, line_feed, BlockStyle, Chomping, Marker, Span, Refusal, EmptyLines, Cursor, along, next_line, pass_break, run_ends, and_false, by_test, non_break_no_break}
 use Rattle.saphyr_scalar.specs.declared.scalar.block.breaks.BlockEnd.{BlockEnd}
-use Rattle.saphyr_scalar.specs.Views.Cursor.{Cursor, along, next_line, pass_break}
 use Rattle.saphyr_scalar.specs.Steps.Block.{line_cursor, is_indentation, is_cr_lf, inside_break, with_empty_line, pass_empty_lines, pass_empty_lines_at, line_starts, break_before, LinesRead, lines_behind_text, lines_ended, between, line, between_at, line_at, with_line, with_lines, tail, is_unfinished, chomped_lines}
 use Rattle.saphyr_scalar.proofs.Moving.{along_none, along_more}
 use Rattle.saphyr_scalar.proofs.Quoted.Inside.{break_cases}
 use Rattle.saphyr_scalar.proofs.Block.Lines.{no_break, behind_cr}
-use Rattle.saphyr_input.proofs.Basics.Lists.{run_ends}
-use Rattle.saphyr_input.proofs.Basics.Booleans.{and_false, by_test}
-use Rattle.saphyr_input.proofs.Basics.Characters.{non_break_no_break}
 use Rattle.saphyr_scalar.proofs.PassedBreaks.{inside_same}
 use Rattle.saphyr_scalar.proofs.Block.Indentations.{nul_no_indentation}
 

@@ -1,16 +1,7 @@
 -- The value of a block scalar's lines, as they are read.
 use Rattle.std.proofs.Common.{◌≡◌, ℕ, ◌+◌, ◌<◌, ◌≤◌, Bool, true, false, List, [], ◌∷◌, ◌++◌, length, slice_index, refl, sym, ap, ◌∙◌, arith, subst, append_assoc, nat_eq, nat_lt, inl, inr}
 use Rattle.std.specs.Prelude.{if◌then◌else◌, Some, ◌⊎◌}
-use Rattle.std.proofs.lemmas.Bool.Decides.{nat_tests}
-use Rattle.std.proofs.lemmas.List.{append-nil, length-replicate}
-use Rattle.saphyr_input.specs.Breaks.{normalized}
-use Rattle.saphyr_input.specs.Classes.{is_break, is_blank, is_z, is_yaml_non_break, line_feed, space}
-use Rattle.saphyr_scalar.specs.declared.values.BlockStyle.{BlockStyle}
-use Rattle.saphyr_scalar.specs.declared.values.Chomping.{Chomping}
-use Rattle.saphyr_scalar.specs.declared.values.Ending.{Ending}
-use Rattle.saphyr_scalar.specs.declared.values.Ending.TheVariants.{AtEnd, AtMark}
-use Rattle.saphyr_scalar.specs.declared.scalar.position.Marker.{Marker}
-use Rattle.saphyr_scalar.specs.Views.Cursor.{Cursor, along, next_line}
+use Rattle.saphyr_scalar.proofs.Common.{nat_tests, append-nil, length-replicate, normalized, is_break, is_blank, is_z, is_yaml_non_break, line_feed, space, BlockStyle, Chomping, Ending, AtEnd, AtMark, Marker, Cursor, along, next_line, and_false, by_test, non_break_no_break, normalized_other}
 use Rattle.saphyr_scalar.specs.Values.Block as reading
 use Rattle.saphyr_scalar.specs.Values.Block.{Line, Empty, is_more_indented, break_between, contents_behind, empty_at_end, is_at_end}
 use Rattle.saphyr_scalar.specs.Steps.BlockRead.{EndsLines}
@@ -19,8 +10,6 @@ use Rattle.saphyr_scalar.specs.Steps.Block.{line_cursor, is_indentation, is_cr_l
 use Rattle.saphyr_scalar.proofs.Block.Lines.{no_break}
 use Rattle.saphyr_scalar.proofs.Block.Turns.{Starts, starts, no_start}
 use Rattle.saphyr_scalar.proofs.Block.Texts.{spaces, spaces_more, IsUnbroken, plain_first, plain_both, plain_spaces, first_line, only_line, empty_spaces, line_spaces, full_content, line_content, content_of, normal_half, normalized_break, is_counted_behind, value_behind, value_empty, lines_break, lines_spaces, lines_cut, lines_broken}
-use Rattle.saphyr_input.proofs.Basics.Booleans.{and_false, by_test}
-use Rattle.saphyr_input.proofs.Basics.Characters.{non_break_no_break, normalized_other}
 
 -- the last line, where it is of spaces
 abbrev pub extra : Bool → List Line

@@ -1,16 +1,6 @@
 -- The value of a block scalar's lines, from the first on.
 use Rattle.std.proofs.Common.{◌≡◌, ℕ, zero, suc, ◌+◌, ◌<◌, ◌≤◌, Bool, true, false, List, [], ◌∷◌, ◌++◌, length, slice_index, refl, sym, ap, ◌∙◌, arith, subst, append_assoc, nat_eq, nat_lt, map, inl, inr}
-use Rattle.std.specs.Prelude.{◌&&◌, ◌==◌, not, replicate, if◌then◌else◌, Some, None}
-use Rattle.std.proofs.lemmas.Bool.Decides.{nat_tests}
-use Rattle.std.proofs.lemmas.List.{append-nil, length-replicate}
-use Rattle.saphyr_input.specs.Breaks.{normalized}
-use Rattle.saphyr_input.specs.Classes.{is_break, is_blank, is_z, is_yaml_non_break, line_feed}
-use Rattle.saphyr_scalar.specs.declared.values.BlockStyle.{BlockStyle}
-use Rattle.saphyr_scalar.specs.declared.values.Chomping.{Chomping}
-use Rattle.saphyr_scalar.specs.declared.values.Ending.{Ending}
-use Rattle.saphyr_scalar.specs.declared.values.Ending.TheVariants.{AtEnd, AtMark}
-use Rattle.saphyr_scalar.specs.declared.scalar.position.Marker.{Marker}
-use Rattle.saphyr_scalar.specs.Views.Cursor.{Cursor, along}
+use Rattle.saphyr_scalar.proofs.Common.{◌&&◌, ◌==◌, not, replicate, if◌then◌else◌, Some, None, nat_tests, append-nil, length-replicate, normalized, is_break, is_blank, is_z, is_yaml_non_break, line_feed, BlockStyle, Chomping, Ending, AtEnd, AtMark, Marker, Cursor, along, and_false, non_break_no_break, normalized_other}
 use Rattle.saphyr_scalar.specs.Values.Folding.{line_feeds}
 use Rattle.saphyr_scalar.specs.Values.Block as reading
 use Rattle.saphyr_scalar.specs.Values.Block.{Line, Empty, Content, line_of, lines_of, contents, contents_behind, has_content, empty_at_end, is_at_end, is_counted, is_broken, lines_value, block_value}
@@ -22,8 +12,6 @@ use Rattle.saphyr_scalar.proofs.Block.Turns.{starts, line_begins, line_on, no_li
 use Rattle.saphyr_scalar.proofs.Block.Texts.{spaces, IsUnbroken, plain_first, plain_both, plain_spaces, first_line, only_line, empty_spaces, full_content, line_content, content_of, value_behind, lines_spaces, lines_cut, lines_broken}
 use Rattle.saphyr_scalar.proofs.Block.Lines.{no_break}
 use Rattle.saphyr_scalar.proofs.Block.Values.{LineRead, line_read, extra}
-use Rattle.saphyr_input.proofs.Basics.Booleans.{and_false}
-use Rattle.saphyr_input.proofs.Basics.Characters.{non_break_no_break, normalized_other}
 
 abbrev pub empties : ℕ → List Line
 empties n = replicate n Empty

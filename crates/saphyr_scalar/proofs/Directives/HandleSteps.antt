@@ -1,12 +1,6 @@
 -- The handle of a tag directive, read behind its `!`.
-use Rattle.std.proofs.Common.{◌≡◌, ℕ, ◌<◌, ◌≤◌, true, false, List, [], ◌++◌, length, slice_index, Ok, refl, sym, ap, ◌∙◌, arith}
-use Rattle.std.specs.Prelude.{◌==◌, codes, encode_utf8}
-use Rattle.std.proofs.lemmas.Bool.Decides.{nat_tests}
-use Rattle.std.proofs.lemmas.List.{nil_from_length}
-use Rattle.saphyr_input.specs.Indicators.{exclamation_mark}
+use Rattle.saphyr_scalar.proofs.Common.{◌≡◌, ℕ, ◌<◌, ◌≤◌, true, false, List, [], ◌++◌, length, slice_index, Ok, refl, sym, ap, ◌∙◌, arith, ◌==◌, codes, encode_utf8, nat_tests, nil_from_length, exclamation_mark, Marker, Cursor, pass, refuse}
 use Rattle.saphyr_scalar.specs.declared.scalar.fault.FaultText.TheVariants as fault
-use Rattle.saphyr_scalar.specs.declared.scalar.position.Marker.{Marker}
-use Rattle.saphyr_scalar.specs.Views.Cursor.{Cursor, pass, refuse}
 use Rattle.saphyr_scalar.specs.Steps.Directive.{handle, handle_behind_word}
 use Rattle.saphyr_scalar.proofs.Given.{text_given}
 use Rattle.saphyr_scalar.proofs.Properties.TagSteps.{BehindWord, handle_text}

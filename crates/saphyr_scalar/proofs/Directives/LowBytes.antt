@@ -1,14 +1,9 @@
 -- Bytes below 128 are the UTF-8 of one text alone.
 use Rattle.std.proofs.Common.{◌≡◌, ◌≢◌, ℕ, ◌+◌, ◌/◌, ◌%◌, ◌<◌, ◌≤◌, true, false, List, [], ◌∷◌, ◌++◌, nat_lt, refl, sym, ap, ◌∙◌, arith, encode_utf8_all}
-use Rattle.std.specs.Prelude.{bytes_eq}
+use Rattle.saphyr_scalar.proofs.Common.{bytes_eq, false≢true, false_from_ne_true, le-ltb, nat_tests, encode_ascii, bytes_eq-Decides, by_test}
 use Rattle.std.proofs.Math.Utf8.{encode}
-use Rattle.std.proofs.lemmas.Bool.{false≢true, false_from_ne_true, le-ltb}
-use Rattle.std.proofs.lemmas.Bool.Decides.{nat_tests}
-use Rattle.std.proofs.lemmas.Str.{encode_ascii}
-use Rattle.std.proofs.lemmas.Slice.Eq.{bytes_eq-Decides}
 use Rattle.saphyr_scalar.specs.Steps.Directive.{name}
 use Rattle.saphyr_scalar.proofs.Properties.TagsRead.{some_bytes}
-use Rattle.saphyr_input.proofs.Basics.Booleans.{by_test}
 
 -- UTF-8 that begins with a byte below 128 begins with that character
 pub record BeginsHigh (c : ℕ) : Type 0 where

@@ -1,12 +1,6 @@
 -- What is read as a directive's name is spelled so.
-use Rattle.std.proofs.Common.{◌≡◌, ◌≢◌, ℕ, Bool, true, List, [], ◌++◌, length, take, drop, slice_index, nat_eq, cond, Ok, Err, sym, ap, ◌∙◌, encode_utf8_all}
-use Rattle.std.specs.List.{prefix_len}
-use Rattle.std.proofs.lemmas.List.{take-append-drop, length-take-le}
-use Rattle.std.proofs.lemmas.List.Sums.{prefix_len-le-length}
-use Rattle.saphyr_input.specs.Classes.{is_blank_or_breakz, is_yaml_non_space}
-use Rattle.saphyr_scalar.specs.declared.scalar.position.Marker.{Marker}
+use Rattle.saphyr_scalar.proofs.Common.{◌≡◌, ◌≢◌, ℕ, Bool, true, List, [], ◌++◌, length, take, drop, slice_index, nat_eq, cond, Ok, Err, sym, ap, ◌∙◌, encode_utf8_all, prefix_len, take-append-drop, length-take-le, prefix_len-le-length, is_blank_or_breakz, is_yaml_non_space, Marker, Cursor, along}
 use Rattle.saphyr_scalar.specs.declared.scalar.fault.FaultText.TheVariants as fault
-use Rattle.saphyr_scalar.specs.Views.Cursor.{Cursor, along}
 use Rattle.saphyr_scalar.specs.Steps.Directive.{directive_name_of, name}
 use Rattle.saphyr_scalar.specs.Steps.Quoted.{mid_line}
 use Rattle.saphyr_scalar.specs.Spelling.Tag.{AreIn}

@@ -1,15 +1,5 @@
 -- Version numbers, read a digit at a time, and where a prefix begins.
-use Rattle.std.proofs.Common.{◌≡◌, ℕ, suc, ◌+◌, ◌-◌, ◌*◌, ◌^◌, ◌<◌, ◌≤◌, true, false, List, Ok, [], ◌∷◌, length, drop, slice_index, refl, sym, ap, ◌∙◌, arith}
-use Rattle.std.specs.Prelude.{◌||◌, ◌==◌}
-use Rattle.std.proofs.Math.Nat.{pow-le-pow_right}
-use Rattle.std.proofs.lemmas.Grind.{pow_more}
-use Rattle.std.proofs.lemmas.Bool.{false≢true}
-use Rattle.std.proofs.lemmas.Bool.Decides.{nat_tests}
-use Rattle.saphyr_input.specs.Indicators.{exclamation_mark}
-use Rattle.saphyr_input.specs.Classes.{is_digit, is_tag_char}
-use Rattle.saphyr_input.proofs.Basics.Lists.{drop_one_shorter}
-use Rattle.saphyr_scalar.specs.declared.scalar.position.Marker.{Marker}
-use Rattle.saphyr_scalar.specs.Views.Cursor.{Cursor, along, pass, refuse}
+use Rattle.saphyr_scalar.proofs.Common.{◌≡◌, ℕ, suc, ◌+◌, ◌-◌, ◌*◌, ◌^◌, ◌<◌, ◌≤◌, true, false, List, Ok, [], ◌∷◌, length, drop, slice_index, refl, sym, ap, ◌∙◌, arith, ◌||◌, ◌==◌, pow-le-pow_right, pow_more, false≢true, nat_tests, exclamation_mark, is_digit, is_tag_char, drop_one_shorter, Marker, Cursor, along, pass, refuse}
 use Rattle.saphyr_scalar.specs.Steps.Directive.{number_from, number_end}
 use Rattle.saphyr_scalar.specs.declared.scalar.fault.FaultText.TheVariants as fault
 use Rattle.saphyr_scalar.specs.Steps.Quoted.{mid_line}

@@ -1,16 +1,9 @@
 -- What ends a part of a directive, and the blanks before a part.
-use Rattle.std.proofs.Common.{◌≡◌, ◌≢◌, ℕ, Bool, true, false, List, [], ◌∷◌, ◌++◌, length, slice_index, nat_eq, Result, Ok, refl, ap, ◌∙◌, arith, subst}
-use Rattle.std.proofs.Math.Seq.{drop-append_seam}
-use Rattle.std.proofs.lemmas.Bool.Decides.{nat_tests}
-use Rattle.saphyr_input.specs.Classes.{is_digit, is_uri_char, is_blank, is_breakz, is_blank_or_breakz, is_yaml_non_space}
-use Rattle.saphyr_scalar.specs.declared.scalar.position.Marker.{Marker}
-use Rattle.saphyr_scalar.specs.declared.scalar.fault.Refusal.{Refusal}
-use Rattle.saphyr_scalar.specs.Views.Cursor.{Cursor, along, pass_blanks, pass_all_blanks}
+use Rattle.saphyr_scalar.proofs.Common.{◌≡◌, ◌≢◌, ℕ, Bool, true, false, List, [], ◌∷◌, ◌++◌, length, slice_index, nat_eq, Result, Ok, refl, ap, ◌∙◌, arith, subst, drop-append_seam, nat_tests, is_digit, is_uri_char, is_blank, is_breakz, is_blank_or_breakz, is_yaml_non_space, Marker, Refusal, Cursor, along, pass_blanks, pass_all_blanks, either}
 use Rattle.saphyr_scalar.specs.Spelling.Directive.{ReadDirective}
 use Rattle.saphyr_scalar.specs.Steps.Quoted.{mid_line}
 use Rattle.saphyr_scalar.specs.Spelling.Tag.{AreIn}
 use Rattle.saphyr_scalar.proofs.Runs.{run_len}
-use Rattle.saphyr_input.proofs.Basics.Booleans.{either}
 
 pub record EndsPart (c : ℕ) : Type 0 where
   pub no_uri : is_uri_char c ≡ false

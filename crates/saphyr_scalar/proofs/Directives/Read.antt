@@ -1,12 +1,6 @@
 -- Each spelled directive is read, on its whole line.
-use Rattle.std.proofs.Common.{◌≡◌, ◌≢◌, ℕ, ◌+◌, true, List, [], ◌∷◌, ◌++◌, length, length-append, append_assoc, slice_index, Result, Ok, refl, ap, ◌∙◌, arith, encode_utf8_all}
-use Rattle.std.specs.Prelude.{codes}
+use Rattle.saphyr_scalar.proofs.Common.{◌≡◌, ◌≢◌, ℕ, ◌+◌, true, List, [], ◌∷◌, ◌++◌, length, length-append, append_assoc, slice_index, Result, Ok, refl, ap, ◌∙◌, arith, encode_utf8_all, codes, or_left, is_blank, is_breakz, is_blank_or_breakz, is_yaml_non_space, Marker, Refusal, Cursor, along, pass, pass_break}
 use Rattle.std.proofs.Math.Utf8.{encode}
-use Rattle.std.proofs.lemmas.Bool.{or_left}
-use Rattle.saphyr_input.specs.Classes.{is_blank, is_breakz, is_blank_or_breakz, is_yaml_non_space}
-use Rattle.saphyr_scalar.specs.declared.scalar.position.Marker.{Marker}
-use Rattle.saphyr_scalar.specs.declared.scalar.fault.Refusal.{Refusal}
-use Rattle.saphyr_scalar.specs.Views.Cursor.{Cursor, along, pass, pass_break}
 use Rattle.saphyr_scalar.specs.Steps.Directive.{directive_name_of, name, version_directive, handle, prefix, tag_directive, value, line_end, directive}
 use Rattle.saphyr_scalar.specs.Spelling.Directive.{ReadDirective, version, tag_prefix, reserved, IsVersionDirective, IsTagDirective, IsDirectiveText, IsLineTail}
 use Rattle.saphyr_scalar.specs.Steps.Quoted.{mid_line}

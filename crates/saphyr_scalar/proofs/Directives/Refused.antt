@@ -1,15 +1,7 @@
 -- Separation is refused after what is passed of it, and a directive where it begins, at its name, or in the separation
 -- after it.
 use Rattle.std.proofs.Common.{◌≡◌, ℕ, suc, ◌+◌, ◌-◌, ◌*◌, List, [], ◌∷◌, ◌++◌, length, length-append, append_assoc, arith, drop, slice_index, Ok, refl, sym, ap, ◌∙◌, nat_lt, codes, encode_utf8, encode_utf8_all}
-use Rattle.std.specs.Prelude.{◌||◌, ◌&&◌, ◌==◌, bytes_eq}
-use Rattle.saphyr_input.specs.Indicators.{percent_sign}
-use Rattle.saphyr_input.specs.Classes.{is_bom, is_breakz, is_tag_char}
-use Rattle.saphyr_input.specs.Separation.{separation_len, is_bare_comment}
-use Rattle.saphyr_input.specs.declared.input.SkipTabs.{SkipTabs}
-use Rattle.saphyr_input.specs.declared.input.SkipTabs.TheVariants.{Yes}
-use Rattle.saphyr_scalar.specs.declared.scalar.position.Marker.{Marker}
-use Rattle.saphyr_scalar.specs.declared.scalar.fault.Refusal.{Refusal}
-use Rattle.saphyr_scalar.specs.declared.scalar.tag.UriSet.TheVariants.{Uri}
+use Rattle.saphyr_scalar.proofs.Common.{◌||◌, ◌&&◌, ◌==◌, bytes_eq, percent_sign, is_bom, is_breakz, is_tag_char, separation_len, is_bare_comment, SkipTabs, Yes, Marker, Refusal, Uri, by_test}
 use Rattle.saphyr_scalar.specs.Views.Cursor.{Cursor, along, pass_blanks, separation, behind_separation}
 use Rattle.saphyr_scalar.specs.Steps.Directive.{directive_name_of, name, number_end, number_from, behind_major, version_directive, handle_behind_word, handle, prefix, behind_prefix, tag_directive, value, line_end, directive}
 use Rattle.saphyr_scalar.specs.Spelling.Directive.{ReadDirective}
@@ -26,7 +18,6 @@ use Rattle.saphyr_scalar.proofs.RefusedOnWay.{inside_from, refused_there, inside
 use Rattle.saphyr_scalar.proofs.Given.{Refused, RefusedAt, refused_bind, refused_more}
 use Rattle.saphyr_scalar.proofs.Properties.Refused.{character_refused, front_refused, decoded_refused}
 use Rattle.saphyr_scalar.proofs.Properties.TagsSpelled.{cut_at}
-use Rattle.saphyr_input.proofs.Basics.Booleans.{by_test}
 
 pub separation_refused : (tabs : SkipTabs) (s : Cursor) → Refused (IsRefusedInside s) (separation tabs s)
 unfolding separation behind_separation

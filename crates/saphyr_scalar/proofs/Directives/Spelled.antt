@@ -1,9 +1,5 @@
 -- What is read as a directive is spelled so, on its whole line.
-use Rattle.std.proofs.Common.{◌≡◌, ℕ, ◌+◌, true, List, ◌∷◌, ◌++◌, length, length-append, append_assoc, drop, slice_index, Ok, refl, sym, ap, ◌∙◌, arith, subst, encode_utf8_all}
-use Rattle.saphyr_input.specs.Indicators.{percent_sign}
-use Rattle.saphyr_input.specs.Classes.{is_breakz}
-use Rattle.saphyr_scalar.specs.declared.scalar.position.Marker.{Marker}
-use Rattle.saphyr_scalar.specs.Views.Cursor.{Cursor, ◌>>=◌, along, pass_break}
+use Rattle.saphyr_scalar.proofs.Common.{◌≡◌, ℕ, ◌+◌, true, List, ◌∷◌, ◌++◌, length, length-append, append_assoc, drop, slice_index, Ok, refl, sym, ap, ◌∙◌, arith, subst, encode_utf8_all, percent_sign, is_breakz, Marker, Cursor, ◌>>=◌, along, pass_break}
 use Rattle.saphyr_scalar.specs.Steps.Directive.{name, value, line_end, directive}
 use Rattle.saphyr_scalar.specs.Spelling.Directive.{ReadDirective, IsReadDirective, IsLineTail}
 use Rattle.saphyr_scalar.specs.Steps.Quoted.{mid_line}

@@ -1,12 +1,5 @@
 -- Each spelled tag directive is read.
-use Rattle.std.proofs.Common.{◌≡◌, ℕ, ◌+◌, Bool, true, false, List, [], ◌∷◌, ◌++◌, length, length-append, append_assoc, slice_index, nat_eq, Result, Ok, refl, sym, ap, ◌∙◌, arith, encode_utf8_all, inl, inr}
-use Rattle.std.specs.Prelude.{◌||◌, ◌==◌, codes, encode_utf8}
-use Rattle.saphyr_input.specs.Indicators.{exclamation_mark}
-use Rattle.saphyr_input.specs.Classes.{is_alpha, is_tag_char, is_uri_char, is_blank, is_blank_or_breakz}
-use Rattle.saphyr_scalar.specs.declared.scalar.position.Marker.{Marker}
-use Rattle.saphyr_scalar.specs.declared.scalar.fault.Refusal.{Refusal}
-use Rattle.saphyr_scalar.specs.declared.scalar.tag.UriSet.TheVariants.{Uri}
-use Rattle.saphyr_scalar.specs.Views.Cursor.{Cursor, ◌>>=◌, along, pass_all_blanks}
+use Rattle.saphyr_scalar.proofs.Common.{◌≡◌, ℕ, ◌+◌, Bool, true, false, List, [], ◌∷◌, ◌++◌, length, length-append, append_assoc, slice_index, nat_eq, Result, Ok, refl, sym, ap, ◌∙◌, arith, encode_utf8_all, inl, inr, ◌||◌, ◌==◌, codes, encode_utf8, exclamation_mark, is_alpha, is_tag_char, is_uri_char, is_blank, is_blank_or_breakz, Marker, Refusal, Uri, Cursor, ◌>>=◌, along, pass_all_blanks, or_true_swap, other_than}
 use Rattle.saphyr_scalar.specs.Steps.Directive.{handle_behind_word, handle, prefix, behind_prefix, tag_directive}
 use Rattle.saphyr_scalar.specs.Spelling.Directive.{ReadDirective, tag_prefix, AreSomeBlanks}
 use Rattle.saphyr_scalar.specs.Steps.Quoted.{with_front, mid_line}
@@ -18,7 +11,6 @@ use Rattle.saphyr_scalar.proofs.Properties.EscapesRead.{character_read, escape_f
 use Rattle.saphyr_scalar.proofs.Runs.{run_read}
 use Rattle.saphyr_scalar.proofs.Properties.TagsRead.{stops_blank, bytes_of_handle, mark_bytes}
 use Rattle.saphyr_scalar.proofs.Places.{along_three, along_four}
-use Rattle.saphyr_input.proofs.Basics.Booleans.{or_true_swap, other_than}
 use Rattle.saphyr_scalar.proofs.Given.{text_given}
 use Rattle.saphyr_scalar.proofs.Directives.PartEnds.{ends_at, first_of, blanks_read, said}
 

@@ -1,16 +1,6 @@
 -- What is read as a tag directive is spelled so.
-use Rattle.std.proofs.Common.{◌≡◌, ℕ, ◌+◌, Bool, true, false, List, [], ◌∷◌, ◌++◌, length, length-append, append_assoc, take, drop, slice_index, nat_eq, cond, Result, Ok, Err, refl, sym, ap, ◌∙◌, arith, subst, encode_utf8_all, inl, inr}
-use Rattle.std.specs.Prelude.{◌||◌, ◌==◌, codes, encode_utf8}
-use Rattle.std.specs.List.{prefix_len}
-use Rattle.std.proofs.lemmas.Bool.{eqb-true}
-use Rattle.std.proofs.lemmas.List.{take-append-drop}
-use Rattle.saphyr_input.specs.Indicators.{exclamation_mark}
-use Rattle.saphyr_input.specs.Classes.{is_alpha, is_tag_char, is_blank, is_blank_or_breakz}
-use Rattle.saphyr_scalar.specs.declared.scalar.position.Marker.{Marker}
+use Rattle.saphyr_scalar.proofs.Common.{◌≡◌, ℕ, ◌+◌, Bool, true, false, List, [], ◌∷◌, ◌++◌, length, length-append, append_assoc, take, drop, slice_index, nat_eq, cond, Result, Ok, Err, refl, sym, ap, ◌∙◌, arith, subst, encode_utf8_all, inl, inr, ◌||◌, ◌==◌, codes, encode_utf8, prefix_len, eqb-true, take-append-drop, exclamation_mark, is_alpha, is_tag_char, is_blank, is_blank_or_breakz, Marker, Refusal, Uri, Cursor, ◌>>=◌, along, pass_all_blanks, or_true_swap, other_than, by_test, run_ends}
 use Rattle.saphyr_scalar.specs.declared.scalar.fault.FaultText.TheVariants as fault
-use Rattle.saphyr_scalar.specs.declared.scalar.fault.Refusal.{Refusal}
-use Rattle.saphyr_scalar.specs.declared.scalar.tag.UriSet.TheVariants.{Uri}
-use Rattle.saphyr_scalar.specs.Views.Cursor.{Cursor, ◌>>=◌, along, pass_all_blanks}
 use Rattle.saphyr_scalar.specs.Steps.Directive.{handle_behind_word, handle, prefix, behind_prefix, tag_directive}
 use Rattle.saphyr_scalar.specs.Spelling.Directive.{ReadDirective, tag_prefix, AreSomeBlanks, IsWholeHandle}
 use Rattle.saphyr_scalar.specs.Steps.Quoted.{with_front, with_run, mid_line}
@@ -24,8 +14,6 @@ use Rattle.saphyr_scalar.proofs.Properties.EscapesSpelled.{decoded_spelled, Deco
 use Rattle.saphyr_scalar.proofs.Directives.TagPrefixesRead.{begins_prefix}
 use Rattle.saphyr_scalar.proofs.Steps.{bind_ok, Chosen, ok_same, cond_ok, cond_then}
 use Rattle.saphyr_scalar.proofs.Places.{along_three, along_four}
-use Rattle.saphyr_input.proofs.Basics.Booleans.{or_true_swap, other_than, by_test}
-use Rattle.saphyr_input.proofs.Basics.Lists.{run_ends}
 use Rattle.saphyr_scalar.proofs.Directives.NamesSpelled.{run_count}
 use Rattle.saphyr_scalar.proofs.Directives.VersionsSpelled.{gap_some}
 

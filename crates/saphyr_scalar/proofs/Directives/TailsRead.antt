@@ -1,22 +1,13 @@
 -- What comes after a directive on its line is passed: blanks, and after some a comment.
 use Rattle.std.proofs.Common.{◌≡◌, ℕ, suc, ◌+◌, true, false, List, [], ◌∷◌, ◌++◌, length, length-append, append_assoc, drop, slice_index, nat_eq, nat_lt, cond, Ok, refl, sym, ap, ◌∙◌, arith, inl, inr}
 use Rattle.std.specs.Prelude.{◌⊎◌}
-use Rattle.std.proofs.Math.Seq.{drop-append_seam}
-use Rattle.std.proofs.lemmas.Bool.{or_left, or_right, and_right}
-use Rattle.std.proofs.lemmas.Bool.Decides.{nat_tests}
-use Rattle.saphyr_input.specs.Classes.{is_blank, is_breakz, is_blank_or_breakz, is_bom}
-use Rattle.saphyr_input.specs.Separation.{separation_len, comment_len, is_bare_comment, found_blanks}
-use Rattle.saphyr_input.specs.declared.input.SkipTabs.TheVariants.{Yes}
-use Rattle.saphyr_input.proofs.Runs.{run_stops}
-use Rattle.saphyr_scalar.specs.declared.scalar.position.Marker.{Marker}
+use Rattle.saphyr_scalar.proofs.Common.{drop-append_seam, or_left, or_right, and_right, nat_tests, is_blank, is_breakz, is_blank_or_breakz, is_bom, separation_len, comment_len, is_bare_comment, found_blanks, Yes, run_stops, Marker, other_than, breakz_no_non_break}
 use Rattle.saphyr_scalar.specs.Views.Cursor.{Cursor, along, pass_break, separation, behind_separation}
 use Rattle.saphyr_scalar.specs.Steps.Directive.{line_end}
 use Rattle.saphyr_scalar.specs.Spelling.Directive.{IsTailComment, IsLineTail}
 use Rattle.saphyr_scalar.specs.Steps.Quoted.{mid_line}
 use Rattle.saphyr_scalar.specs.Spelling.Tag.{AreIn}
 use Rattle.saphyr_scalar.proofs.Runs.{run_len}
-use Rattle.saphyr_input.proofs.Basics.Booleans.{other_than}
-use Rattle.saphyr_input.proofs.Basics.Characters.{breakz_no_non_break}
 use Rattle.saphyr_scalar.proofs.Directives.PartEnds.{blanks_passed}
 
 no_bom : (c : ℕ) → is_breakz c ≡ true → is_bom c ≡ false

@@ -1,14 +1,5 @@
 -- What is passed after a directive on its line is spelled so: blanks, and after some a comment.
-use Rattle.std.proofs.Common.{◌≡◌, ◌≢◌, ℕ, ◌+◌, true, false, List, [], ◌∷◌, ◌++◌, length, length-append, append_assoc, take, drop, slice_index, nat_eq, cond, Ok, Err, refl, sym, ap, ◌∙◌, arith, subst, inl}
-use Rattle.std.specs.List.{prefix_len}
-use Rattle.std.proofs.lemmas.Bool.{eqb-true}
-use Rattle.std.proofs.lemmas.Bool.Decides.{nat_tests}
-use Rattle.std.proofs.lemmas.List.{take-append-drop}
-use Rattle.saphyr_input.specs.Classes.{is_blank, is_breakz, is_yaml_non_break}
-use Rattle.saphyr_input.specs.Separation.{separation_len, blank_len, comment_len}
-use Rattle.saphyr_input.specs.declared.input.SkipTabs.{SkipTabs}
-use Rattle.saphyr_input.specs.declared.input.SkipTabs.TheVariants.{Yes}
-use Rattle.saphyr_scalar.specs.declared.scalar.position.Marker.{Marker}
+use Rattle.saphyr_scalar.proofs.Common.{◌≡◌, ◌≢◌, ℕ, ◌+◌, true, false, List, [], ◌∷◌, ◌++◌, length, length-append, append_assoc, take, drop, slice_index, nat_eq, cond, Ok, Err, refl, sym, ap, ◌∙◌, arith, subst, inl, prefix_len, eqb-true, nat_tests, take-append-drop, is_blank, is_breakz, is_yaml_non_break, separation_len, blank_len, comment_len, SkipTabs, Yes, Marker, by_test}
 use Rattle.saphyr_scalar.specs.declared.scalar.fault.FaultText.TheVariants as fault
 use Rattle.saphyr_scalar.specs.Views.Cursor.{Cursor, along, pass_break, separation, behind_separation}
 use Rattle.saphyr_scalar.specs.Steps.Directive.{line_end}
@@ -19,7 +10,6 @@ use Rattle.saphyr_scalar.proofs.Runs.{run_is_in}
 use Rattle.saphyr_scalar.proofs.Properties.TagsSpelled.{cut_at}
 use Rattle.saphyr_scalar.proofs.Directives.TailsRead.{no_tail, Tail}
 use Rattle.saphyr_scalar.proofs.Steps.{bind_ok, cond_ok}
-use Rattle.saphyr_input.proofs.Basics.Booleans.{by_test}
 use Rattle.saphyr_scalar.proofs.Directives.NamesSpelled.{run_count}
 use Rattle.saphyr_scalar.proofs.Directives.VersionsSpelled.{some_of_length}
 

@@ -1,16 +1,7 @@
 -- What is read after a directive's name is spelled so.
-use Rattle.std.proofs.Common.{◌≡◌, ◌≢◌, ℕ, ◌+◌, true, false, List, [], ◌∷◌, ◌++◌, length, length-append, append_assoc, take, drop, slice_index, cond, Result, Ok, refl, sym, ap, ◌∙◌, arith, subst, encode_utf8_all, lit<, IsTrue}
+use Rattle.saphyr_scalar.proofs.Common.{◌≡◌, ◌≢◌, ℕ, ◌+◌, true, false, List, [], ◌∷◌, ◌++◌, length, length-append, append_assoc, take, drop, slice_index, cond, Result, Ok, refl, sym, ap, ◌∙◌, arith, subst, encode_utf8_all, lit<, IsTrue, prefix_len, false≢true, take-append-drop, bytes_eq-Decides, percent_sign, is_blank, is_blank_or_breakz, is_yaml_non_break, is_yaml_non_space, Marker, Refusal, Cursor, along, pass_comment, by_test}
 use Rattle.std.specs.Prelude.{◌⊎◌, codes, bytes_eq}
-use Rattle.std.specs.List.{prefix_len}
 use Rattle.std.proofs.Math.Utf8.{encode}
-use Rattle.std.proofs.lemmas.Bool.{false≢true}
-use Rattle.std.proofs.lemmas.List.{take-append-drop}
-use Rattle.std.proofs.lemmas.Slice.Eq.{bytes_eq-Decides}
-use Rattle.saphyr_input.specs.Indicators.{percent_sign}
-use Rattle.saphyr_input.specs.Classes.{is_blank, is_blank_or_breakz, is_yaml_non_break, is_yaml_non_space}
-use Rattle.saphyr_scalar.specs.declared.scalar.position.Marker.{Marker}
-use Rattle.saphyr_scalar.specs.declared.scalar.fault.Refusal.{Refusal}
-use Rattle.saphyr_scalar.specs.Views.Cursor.{Cursor, along, pass_comment}
 use Rattle.saphyr_scalar.specs.Steps.Directive.{version_directive, tag_directive, value}
 use Rattle.saphyr_scalar.specs.Spelling.Directive.{ReadDirective, version, tag_prefix, reserved, IsReadDirective}
 use Rattle.saphyr_scalar.specs.Steps.Quoted.{mid_line}
@@ -18,7 +9,6 @@ use Rattle.saphyr_scalar.specs.Spelling.Tag.{AreIn}
 use Rattle.saphyr_scalar.proofs.Runs.{run_is_in}
 use Rattle.saphyr_scalar.proofs.Directives.LowBytes.{low_unique, AreLow}
 use Rattle.saphyr_scalar.proofs.Steps.{ok_same}
-use Rattle.saphyr_input.proofs.Basics.Booleans.{by_test}
 use Rattle.saphyr_scalar.proofs.Directives.NamesSpelled.{run_count}
 use Rattle.saphyr_scalar.proofs.Directives.VersionsSpelled.{VersionOf, version_spelled}
 use Rattle.saphyr_scalar.proofs.Directives.TagPrefixesSpelled.{TagOf, tag_spelled}

@@ -1,20 +1,11 @@
 -- Each spelled version directive is read.
-use Rattle.std.proofs.Common.{◌≡◌, ℕ, suc, ◌+◌, ◌-◌, ◌*◌, ◌<◌, ◌≤◌, true, false, List, [], ◌∷◌, ◌++◌, length, add-zero, slice_index, nat_eq, Result, Ok, refl, ap, ◌∙◌, arith}
-use Rattle.std.proofs.lemmas.Bool.{lt-ltb}
-use Rattle.std.proofs.lemmas.Bool.Decides.{nat_tests}
-use Rattle.saphyr_input.specs.Indicators.{full_stop}
-use Rattle.saphyr_input.specs.Classes.{is_digit, is_blank}
-use Rattle.saphyr_scalar.specs.declared.scalar.position.Marker.{Marker}
-use Rattle.saphyr_scalar.specs.declared.scalar.fault.Refusal.{Refusal}
-use Rattle.saphyr_scalar.specs.Views.Cursor.{Cursor, ◌>>=◌, along}
+use Rattle.saphyr_scalar.proofs.Common.{◌≡◌, ℕ, suc, ◌+◌, ◌-◌, ◌*◌, ◌<◌, ◌≤◌, true, false, List, [], ◌∷◌, ◌++◌, length, add-zero, slice_index, nat_eq, Result, Ok, refl, ap, ◌∙◌, arith, lt-ltb, nat_tests, full_stop, is_digit, is_blank, Marker, Refusal, Cursor, ◌>>=◌, along, other_than, some_length}
 use Rattle.saphyr_scalar.specs.Steps.Directive.{number_end, number_from, number, behind_major, version_directive}
 use Rattle.saphyr_scalar.specs.Spelling.Directive.{ReadDirective, version, AreSomeBlanks, decimal_from, IsVersionNumber}
 use Rattle.saphyr_scalar.specs.Steps.Quoted.{mid_line}
 use Rattle.saphyr_scalar.specs.Spelling.Tag.{AreIn}
 use Rattle.saphyr_scalar.proofs.Moving.{along_none, along_more}
 use Rattle.saphyr_scalar.proofs.Places.{along_four}
-use Rattle.saphyr_input.proofs.Basics.Booleans.{other_than}
-use Rattle.saphyr_input.proofs.Basics.Lists.{some_length}
 use Rattle.saphyr_scalar.proofs.Directives.PartEnds.{first_of, blanks_read, said}
 
 digits_read : (start : Marker) (n v : ℕ) (m : Marker) (ds y : List ℕ) → n + length ds ≤ 9 → AreIn is_digit ds

@@ -1,15 +1,7 @@
 -- What is read as a version directive is spelled so.
 use Rattle.std.proofs.Common.{◌≡◌, ◌≢◌, ℕ, suc, ◌+◌, ◌-◌, ◌*◌, ◌<◌, ◌≤◌, Bool, true, false, List, [], ◌∷◌, ◌++◌, length, take, drop, slice_index, nat_eq, nat_lt, Result, Ok, Err, refl, sym, ap, ◌∙◌, arith}
-use Rattle.std.specs.List.{prefix_len}
-use Rattle.std.proofs.lemmas.Bool.{eqb-true}
-use Rattle.std.proofs.lemmas.Bool.Decides.{nat_tests}
-use Rattle.std.proofs.lemmas.List.{take-append-drop}
-use Rattle.saphyr_input.specs.Indicators.{full_stop}
-use Rattle.saphyr_input.specs.Classes.{is_digit, is_blank, is_blank_or_breakz}
-use Rattle.saphyr_scalar.specs.declared.scalar.position.Marker.{Marker}
+use Rattle.saphyr_scalar.proofs.Common.{prefix_len, eqb-true, nat_tests, take-append-drop, full_stop, is_digit, is_blank, is_blank_or_breakz, Marker, Refusal, Cursor, ◌>>=◌, along, pass, pass_all_blanks, by_test}
 use Rattle.saphyr_scalar.specs.declared.scalar.fault.FaultText.TheVariants as fault
-use Rattle.saphyr_scalar.specs.declared.scalar.fault.Refusal.{Refusal}
-use Rattle.saphyr_scalar.specs.Views.Cursor.{Cursor, ◌>>=◌, along, pass, pass_all_blanks}
 use Rattle.saphyr_scalar.specs.Steps.Directive.{number_end, number_from, number, behind_major, version_directive}
 use Rattle.saphyr_scalar.specs.Spelling.Directive.{ReadDirective, version, AreSomeBlanks, decimal_from, IsVersionNumber}
 use Rattle.saphyr_scalar.specs.Steps.Quoted.{mid_line}
@@ -20,7 +12,6 @@ use Rattle.saphyr_scalar.proofs.Properties.TagsSpelled.{cut_at}
 use Rattle.saphyr_scalar.proofs.Directives.PartEnds.{ends_at, first_of}
 use Rattle.saphyr_scalar.proofs.Steps.{no_result, bind_ok, ok_same, cond_not, cond_then}
 use Rattle.saphyr_scalar.proofs.Places.{along_four}
-use Rattle.saphyr_input.proofs.Basics.Booleans.{by_test}
 use Rattle.saphyr_scalar.proofs.Directives.NamesSpelled.{run_count}
 
 pub record DigitsOf (n v w : ℕ) (m : Marker) (xs : List ℕ) (u : Cursor) : Type 0 where

@@ -1,19 +1,6 @@
 -- What is read behind a gap of a plain scalar, where the text has what the gap reads as at its end.
-use Rattle.std.proofs.Common.{◌≡◌, ℕ, ◌<◌, ◌≤◌, Bool, true, false, List, [], ◌∷◌, ◌++◌, length, take, drop, slice_index, Result, Ok, Err, refl, sym, ap, ◌∙◌, arith, append_assoc}
-use Rattle.std.specs.Prelude.{◌==◌, ◌||◌, ◌&&◌, nat_lt, encode_utf8, Option, if◌then◌else◌}
-use Rattle.std.specs.String.Boundary.{IsSplitPoint}
-use Rattle.std.proofs.Math.Seq.{take-append_seam}
+use Rattle.saphyr_scalar.proofs.Common.{◌≡◌, ℕ, ◌<◌, ◌≤◌, Bool, true, false, List, [], ◌∷◌, ◌++◌, length, take, drop, slice_index, Result, Ok, Err, refl, sym, ap, ◌∙◌, arith, append_assoc, ◌==◌, ◌||◌, ◌&&◌, nat_lt, encode_utf8, Option, if◌then◌else◌, IsSplitPoint, take-append_seam, encode_ascii, nat_tests, is_blank, is_break, tab, line_feed, space, is_blank_or_break, by_test, Marker, Refusal, Stop, Cursor, ◌>>=◌, along, next_line, pass_break, Moves}
 use Rattle.std.proofs.lemmas.List.{append-nil, length-append}
-use Rattle.std.proofs.lemmas.Str.{encode_ascii}
-use Rattle.std.proofs.lemmas.Bool.Decides.{nat_tests}
-use Rattle.saphyr_input.specs.Classes.{is_blank, is_break, tab, line_feed, space}
-use Rattle.saphyr_input.specs.Places.{is_blank_or_break}
-use Rattle.saphyr_input.proofs.Basics.Booleans.{by_test}
-use Rattle.saphyr_scalar.specs.declared.scalar.position.Marker.{Marker}
-use Rattle.saphyr_scalar.specs.declared.scalar.fault.Refusal.{Refusal}
-use Rattle.saphyr_scalar.specs.declared.scalar.fault.Stop.{Stop}
-use Rattle.saphyr_scalar.specs.Views.Cursor.{Cursor, ◌>>=◌, along, next_line, pass_break}
-use Rattle.saphyr_scalar.specs.Views.Reader.{Moves}
 use Rattle.saphyr_scalar.specs.Steps.Plain.{PlainGap, seen_gap, reached_gap, line_front, ends_line, lines, folded_gap, gap_onto, next_lines, gap_from, gap, is_in_word, next_word_starts, comment_of, with_text, scalar_end, word, scalar_behind_gap, PlainWordsMoved}
 use Rattle.saphyr_scalar.proofs.Plain.Gaps.{gap_end, same_gap, may_stand_same}
 use Rattle.saphyr_scalar.proofs.Plain.LineEnds.{from_break}

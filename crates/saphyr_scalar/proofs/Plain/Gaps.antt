@@ -1,16 +1,6 @@
 -- What comes after a plain scalar's word, and how much of the text it takes.
-use Rattle.std.proofs.Common.{◌≡◌, ℕ, suc, ◌+◌, ◌≤◌, Bool, List, [], ◌∷◌, ◌++◌, length, drop, length-drop, slice_index, Result, Ok, Err, refl, arith}
-use Rattle.std.specs.Prelude.{◌||◌, ◌&&◌, ◌==◌, nat_lt, if◌then◌else◌}
-use Rattle.std.specs.List.{prefix_len}
-use Rattle.std.proofs.lemmas.List.{drop-drop}
-use Rattle.saphyr_input.specs.Classes.{is_blank, is_break, tab, line_feed}
-use Rattle.saphyr_input.specs.Places.{is_blank_or_break}
-use Rattle.saphyr_scalar.specs.declared.scalar.position.Marker.{Marker}
-use Rattle.saphyr_scalar.specs.declared.scalar.fault.Refusal.{Refusal}
-use Rattle.saphyr_scalar.specs.Views.Cursor.{Cursor, along, next_line, pass, pass_break}
+use Rattle.saphyr_scalar.proofs.Common.{◌≡◌, ℕ, suc, ◌+◌, ◌≤◌, Bool, List, [], ◌∷◌, ◌++◌, length, drop, length-drop, slice_index, Result, Ok, Err, refl, arith, ◌||◌, ◌&&◌, ◌==◌, nat_lt, if◌then◌else◌, prefix_len, drop-drop, is_blank, is_break, tab, line_feed, is_blank_or_break, Marker, Refusal, Cursor, along, next_line, pass, pass_break, by_test, prefix_len-le-length}
 use Rattle.saphyr_scalar.specs.Steps.Plain.{PlainGap, seen_gap, content_behind_tab, reached_gap, line_front, ends_line, lines, next_lines, gap_from, gap}
-use Rattle.saphyr_input.proofs.Basics.Booleans.{by_test}
-use Rattle.std.proofs.lemmas.List.Sums.{prefix_len-le-length}
 
 -- ys is the end of xs
 pub record IsEnd (xs ys : List ℕ) : Type 0 where

@@ -1,17 +1,6 @@
 -- What is read as a gap of a plain scalar is the reading of a piece of the text.
-use Rattle.std.proofs.Common.{◌≡◌, ℕ, zero, suc, ◌+◌, Bool, true, false, List, [], ◌∷◌, ◌++◌, length, take, drop, slice_index, Result, Ok, refl, sym, ap, ◌∙◌, arith, subst, IsTrue, cond, append_assoc, encode_utf8_all}
-use Rattle.std.specs.Prelude.{◌||◌, ◌&&◌, ◌==◌, nat_lt, if◌then◌else◌}
-use Rattle.std.specs.List.{prefix_len}
-use Rattle.std.proofs.lemmas.Bool.{false≢true}
-use Rattle.std.proofs.lemmas.Bool.Decides.{nat_tests}
-use Rattle.std.proofs.lemmas.List.{append-nil, take-append-drop, length-take-le}
-use Rattle.std.proofs.lemmas.Str.{encode_ascii}
-use Rattle.saphyr_input.specs.Classes.{is_blank, is_break, tab, line_feed, carriage_return}
-use Rattle.saphyr_input.specs.Places.{is_blank_or_break}
+use Rattle.saphyr_scalar.proofs.Common.{◌≡◌, ℕ, zero, suc, ◌+◌, Bool, true, false, List, [], ◌∷◌, ◌++◌, length, take, drop, slice_index, Result, Ok, refl, sym, ap, ◌∙◌, arith, subst, IsTrue, cond, append_assoc, encode_utf8_all, ◌||◌, ◌&&◌, ◌==◌, nat_lt, if◌then◌else◌, prefix_len, false≢true, nat_tests, append-nil, take-append-drop, length-take-le, encode_ascii, is_blank, is_break, tab, line_feed, carriage_return, is_blank_or_break, Marker, Refusal, Cursor, along, next_line, pass, pass_break, by_test, prefix_len-le-length, blank_no_break}
 use Rattle.saphyr_scalar.specs.Spelling.Tag.{AreIn}
-use Rattle.saphyr_scalar.specs.declared.scalar.position.Marker.{Marker}
-use Rattle.saphyr_scalar.specs.declared.scalar.fault.Refusal.{Refusal}
-use Rattle.saphyr_scalar.specs.Views.Cursor.{Cursor, along, next_line, pass, pass_break}
 use Rattle.saphyr_scalar.specs.Steps.Quoted.{mid_line}
 use Rattle.saphyr_scalar.specs.Values.Folding.{folded, line_feeds, raw_break}
 use Rattle.saphyr_scalar.specs.Steps.Plain as spec
@@ -23,9 +12,6 @@ use Rattle.saphyr_scalar.proofs.Quoted.Inside.{break_cases}
 use Rattle.saphyr_scalar.proofs.Plain.Gaps.{no_refusal, same_gap, may_stand_same}
 use Rattle.saphyr_scalar.proofs.Plain.Indented.{IsLine, later_unbroken, line_begins, lines_is_line, break_to_start}
 use Rattle.saphyr_scalar.proofs.Plain.Runs.{IsNonSpace, NoFeed, items_of, non_space_no_feed, same_ends, line_count, folded_breaks, AreBlank, folded_blanks}
-use Rattle.saphyr_input.proofs.Basics.Booleans.{by_test}
-use Rattle.std.proofs.lemmas.List.Sums.{prefix_len-le-length}
-use Rattle.saphyr_input.proofs.Basics.Characters.{blank_no_break}
 use Rattle.saphyr_scalar.proofs.PassedBreaks.{behind_one}
 
 -- xs begins with a run of blanks and breaks with k breaks, from m on, and rest comes after it, at `end`. P holds of

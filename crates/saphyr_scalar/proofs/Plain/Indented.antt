@@ -1,13 +1,5 @@
 -- The later lines of a plain scalar that is read are indented.
-use Rattle.std.proofs.Common.{◌≡◌, ◌≢◌, ℕ, ◌+◌, ◌-◌, ◌≤◌, Bool, true, false, List, [], ◌∷◌, ◌++◌, slice_index, Result, Ok, refl, sym, ap, ◌∙◌, arith, IsTrue, append_assoc}
-use Rattle.std.specs.Prelude.{◌||◌, ◌&&◌, ◌==◌, not, nat_le, nat_lt, if◌then◌else◌}
-use Rattle.std.proofs.lemmas.Bool.{false≢true, eqb-true, le-leb, or_left, or_parts}
-use Rattle.saphyr_input.specs.Classes.{is_blank, is_break, is_z, tab, line_feed}
-use Rattle.saphyr_input.specs.Places.{is_blank_or_break}
-use Rattle.saphyr_input.specs.Indicators.{number_sign}
-use Rattle.saphyr_scalar.specs.declared.scalar.position.Marker.{Marker}
-use Rattle.saphyr_scalar.specs.declared.scalar.fault.Refusal.{Refusal}
-use Rattle.saphyr_scalar.specs.Views.Cursor.{Cursor, along, next_line, pass_break}
+use Rattle.saphyr_scalar.proofs.Common.{◌≡◌, ◌≢◌, ℕ, ◌+◌, ◌-◌, ◌≤◌, Bool, true, false, List, [], ◌∷◌, ◌++◌, slice_index, Result, Ok, refl, sym, ap, ◌∙◌, arith, IsTrue, append_assoc, ◌||◌, ◌&&◌, ◌==◌, not, nat_le, nat_lt, if◌then◌else◌, false≢true, eqb-true, le-leb, or_left, or_parts, is_blank, is_break, is_z, tab, line_feed, is_blank_or_break, number_sign, Marker, Refusal, Cursor, along, next_line, pass_break, by_test, either, and_true_left, blank_cases}
 use Rattle.saphyr_scalar.specs.Spelling.LaterLines.{indentation, behind_indentation, is_blank_line, is_plain_line, AreLaterLines}
 use Rattle.saphyr_scalar.specs.Steps.Plain.{is_in_word, next_word_starts, PlainGap, content_behind_tab, reached_gap, line_front, ends_line, lines}
 use Rattle.saphyr_scalar.proofs.Quoted.Inside.{break_cases}
@@ -17,8 +9,6 @@ use Rattle.saphyr_scalar.proofs.Plain.Gaps.{may_stand_same}
 use Rattle.saphyr_scalar.proofs.Plain.Pieces.{not_in_word}
 use Rattle.saphyr_scalar.proofs.Plain.Spelled.{goes_begins}
 use Rattle.saphyr_scalar.proofs.Plain.Runs.{IsNonSpace, AreNonSpace}
-use Rattle.saphyr_input.proofs.Basics.Booleans.{by_test, either, and_true_left}
-use Rattle.saphyr_input.proofs.Basics.Characters.{blank_cases}
 
 -- Later lines of two pieces, and of a word.
 

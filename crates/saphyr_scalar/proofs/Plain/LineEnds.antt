@@ -1,14 +1,5 @@
 -- Where a word of a plain scalar ends its line, and what is left after that.
-use Rattle.std.proofs.Common.{◌≡◌, ℕ, ◌-◌, ◌^◌, Bool, true, false, List, [], ◌∷◌, slice_index, Result, Ok, refl, sym, ap, ◌∙◌, arith}
-use Rattle.std.specs.Prelude.{◌&&◌, ◌==◌, not, None, if◌then◌else◌}
-use Rattle.std.proofs.lemmas.List.{append-nil}
-use Rattle.std.proofs.lemmas.Bool.{not-true}
-use Rattle.saphyr_input.specs.Classes.{is_blank, is_break}
-use Rattle.saphyr_input.specs.Places.{is_blank_or_break}
-use Rattle.saphyr_input.proofs.Basics.Booleans.{and_false}
-use Rattle.saphyr_scalar.specs.declared.scalar.position.Marker.{Marker}
-use Rattle.saphyr_scalar.specs.declared.scalar.fault.Refusal.{Refusal}
-use Rattle.saphyr_scalar.specs.Views.Cursor.{Cursor, ◌>>=◌, pass_break, pass_spaces}
+use Rattle.saphyr_scalar.proofs.Common.{◌≡◌, ℕ, ◌-◌, ◌^◌, Bool, true, false, List, [], ◌∷◌, slice_index, Result, Ok, refl, sym, ap, ◌∙◌, arith, ◌&&◌, ◌==◌, not, None, if◌then◌else◌, append-nil, not-true, is_blank, is_break, is_blank_or_break, and_false, Marker, Refusal, Cursor, ◌>>=◌, pass_break, pass_spaces}
 use Rattle.saphyr_scalar.specs.Steps.Plain.{is_in_word, plain, word_starts, PlainWordsMoved, PlainGap, seen_gap, line_front, lines, folded_gap, next_lines, gap_from, gap, next_word_starts, comment_of, with_text, word, content_behind_tab}
 use Rattle.saphyr_scalar.specs.Steps.Quoted.{with_run}
 use Rattle.saphyr_scalar.specs.Steps.PlainLines.{scalar_behind_line, scalar_behind_word, is_left_of_scalar, behind_break, ends_at_once}

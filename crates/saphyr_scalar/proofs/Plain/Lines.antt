@@ -1,16 +1,7 @@
 -- The blanks and breaks after a plain scalar's word, read a piece at a time.
-use Rattle.std.proofs.Common.{◌≡◌, ℕ, ◌<◌, Bool, true, false, List, [], ◌∷◌, ◌++◌, length, drop, slice_index, Result, Ok, Err, refl, sym, ap, ◌∙◌, arith}
-use Rattle.std.specs.Prelude.{◌||◌, ◌&&◌, ◌==◌, nat_lt}
-use Rattle.std.proofs.lemmas.Bool.Decides.{nat_tests}
-use Rattle.saphyr_input.specs.Classes.{is_blank, is_break, tab, carriage_return, line_feed}
-use Rattle.saphyr_input.specs.Places.{is_blank_or_break}
-use Rattle.saphyr_scalar.specs.declared.scalar.position.Marker.{Marker}
-use Rattle.saphyr_scalar.specs.declared.scalar.fault.Refusal.{Refusal}
-use Rattle.saphyr_scalar.specs.Views.Cursor.{Cursor, ◌>>=◌, along, next_line, pass_break}
+use Rattle.saphyr_scalar.proofs.Common.{◌≡◌, ℕ, ◌<◌, Bool, true, false, List, [], ◌∷◌, ◌++◌, length, drop, slice_index, Result, Ok, Err, refl, sym, ap, ◌∙◌, arith, ◌||◌, ◌&&◌, ◌==◌, nat_lt, nat_tests, is_blank, is_break, tab, carriage_return, line_feed, is_blank_or_break, Marker, Refusal, Cursor, ◌>>=◌, along, next_line, pass_break, by_test, blank_cases}
 use Rattle.saphyr_scalar.specs.Steps.Plain.{lines, reached_gap, line_front, pass_white, content_behind_tab}
 use Rattle.saphyr_scalar.proofs.Quoted.Inside.{break_cases}
-use Rattle.saphyr_input.proofs.Basics.Booleans.{by_test}
-use Rattle.saphyr_input.proofs.Basics.Characters.{blank_cases}
 
 -- whether a tab is in the indentation, once a character of the line more is read
 abbrev pub tabbed_by : ℕ → Bool → Marker → ℕ → Bool

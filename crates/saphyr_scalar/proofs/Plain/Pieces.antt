@@ -1,22 +1,11 @@
 -- A plain scalar, read a piece at a time.
-use Rattle.std.proofs.Common.{◌≡◌, ℕ, zero, suc, ◌+◌, ◌<◌, Bool, true, false, List, [], ◌∷◌, ◌++◌, length, take, drop, slice_index, Result, Ok, Err, refl, sym, ap, ◌∙◌, arith, encode_utf8_all, append_assoc}
-use Rattle.std.specs.Prelude.{◌&&◌, ◌==◌, not, nat_lt, encode_utf8, if◌then◌else◌, pred}
-use Rattle.std.specs.Result.{IsErrAnd}
-use Rattle.std.proofs.lemmas.Bool.Decides.{nat_tests}
-use Rattle.std.proofs.lemmas.List.{append-nil}
-use Rattle.saphyr_input.specs.Indicators.{hyphen}
-use Rattle.saphyr_scalar.specs.declared.scalar.position.Marker.{Marker}
-use Rattle.saphyr_scalar.specs.declared.scalar.fault.Refusal.{Refusal}
+use Rattle.saphyr_scalar.proofs.Common.{◌≡◌, ℕ, zero, suc, ◌+◌, ◌<◌, Bool, true, false, List, [], ◌∷◌, ◌++◌, length, take, drop, slice_index, Result, Ok, Err, refl, sym, ap, ◌∙◌, arith, encode_utf8_all, append_assoc, ◌&&◌, ◌==◌, not, nat_lt, encode_utf8, if◌then◌else◌, pred, IsErrAnd, nat_tests, append-nil, hyphen, Marker, Refusal, Stop, Moves, Fails, Cursor, ◌>>=◌, refuse, along, by_test}
 use Rattle.saphyr_scalar.specs.declared.scalar.fault.FaultText.TheVariants as fault
-use Rattle.saphyr_scalar.specs.declared.scalar.fault.Stop.{Stop}
 use Rattle.saphyr_scalar.specs.declared.scalar.fault.Stop.TheVariants as stop
-use Rattle.saphyr_scalar.specs.Views.Reader.{Moves, Fails}
-use Rattle.saphyr_scalar.specs.Views.Cursor.{Cursor, ◌>>=◌, refuse, along}
 use Rattle.saphyr_scalar.specs.Steps.Quoted.{mid_line}
 use Rattle.saphyr_scalar.specs.Steps.Plain.{is_in_word, word_len, PlainWordsMoved, word_starts, PlainGap, gap_from, gap, next_word_starts, comment_of, PlainScalarRead, with_text, scalar_end, gap_len, word_behind_gap, word, plain}
 use Rattle.saphyr_scalar.proofs.Moving.{along_none, along_more, bind_same}
 use Rattle.saphyr_scalar.proofs.Plain.Gaps.{IsEnd, gap_end}
-use Rattle.saphyr_input.proofs.Basics.Booleans.{by_test}
 
 pub text_twice : (a b : List ℕ) (read : PlainScalarRead) → with_text a (with_text b read) ≡ with_text (a ++ b) read
 text_twice a b (Ok x) = rw append_assoc refl

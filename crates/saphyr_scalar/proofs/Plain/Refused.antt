@@ -1,12 +1,7 @@
 -- A plain scalar is refused where it begins, where a word of it would begin, or after the blanks of a line.
 use Rattle.std.proofs.Common.{◌≡◌, ℕ, zero, suc, Bool, true, false, List, [], ◌∷◌, ◌++◌, drop, slice_index, Result, Ok, Err, refl, sym, ap, ◌∙◌, subst, inl, inr, nat_lt, encode_utf8, arith}
 use Rattle.std.specs.Prelude.{◌⊎◌, ◌&&◌, ◌||◌, ◌==◌, not, pred, if◌then◌else◌}
-use Rattle.std.specs.List.{prefix_len}
-use Rattle.saphyr_input.specs.Classes.{is_blank, is_bom, is_break, is_z, tab, line_feed}
-use Rattle.saphyr_input.specs.Places.{is_blank_or_break}
-use Rattle.saphyr_scalar.specs.declared.scalar.position.Marker.{Marker}
-use Rattle.saphyr_scalar.specs.declared.scalar.fault.Refusal.{Refusal}
-use Rattle.saphyr_scalar.specs.Views.Cursor.{Cursor, ◌>>=◌, along, pass, pass_break}
+use Rattle.saphyr_scalar.proofs.Common.{prefix_len, is_blank, is_bom, is_break, is_z, tab, line_feed, is_blank_or_break, Marker, Refusal, Cursor, ◌>>=◌, along, pass, pass_break, or_left, by_test, blank_no_break}
 use Rattle.saphyr_scalar.specs.Passing.{IsPassed, nothing}
 use Rattle.saphyr_scalar.specs.Steps.Plain.{PlainGap, ends_line, is_in_word, word_starts, content_behind_tab, reached_gap, line_front, lines, next_lines, gap_from, gap, next_word_starts, PlainScalarRead, with_text, gap_len, word_behind_gap, word, plain}
 use Rattle.saphyr_scalar.specs.Steps.Quoted.{mid_line}
@@ -17,9 +12,6 @@ use Rattle.saphyr_scalar.proofs.Plain.Gaps.{gap_end}
 use Rattle.saphyr_scalar.proofs.Plain.Pieces.{some_count, dropped_at_end, starts_says, goes_says}
 use Rattle.saphyr_scalar.proofs.RefusedOnWay.{inside_from, refused_there, inside_start, one_more_passed}
 use Rattle.saphyr_scalar.proofs.Given.{Refused, RefusedAt, refused_bind, refused_more}
-use Rattle.std.proofs.lemmas.Bool.{or_left}
-use Rattle.saphyr_input.proofs.Basics.Booleans.{by_test}
-use Rattle.saphyr_input.proofs.Basics.Characters.{blank_no_break}
 
 -- ## The lines after a word's line
 

@@ -1,18 +1,5 @@
 -- Words of a plain scalar, and single spaces between them, taken off in one piece.
-use Rattle.std.proofs.Common.{◌≡◌, ℕ, ◌<◌, Bool, true, false, List, [], ◌∷◌, length-drop, slice_index, Result, Ok, refl, sym, ap, ◌∙◌, arith}
-use Rattle.std.specs.Prelude.{◌&&◌, ◌||◌, ◌==◌, not, nat_lt, encode_utf8}
-use Rattle.std.specs.List.{prefix_len}
-use Rattle.std.proofs.lemmas.Bool.Decides.{nat_tests}
-use Rattle.std.proofs.lemmas.List.{append-nil}
-use Rattle.std.proofs.lemmas.Bool.{not-true, false_from_ne_true}
-use Rattle.saphyr_input.specs.Indicators.{full_stop, hyphen, number_sign}
-use Rattle.saphyr_input.specs.Classes.{is_blank, is_break, is_flow, is_blank_or_breakz}
-use Rattle.saphyr_input.specs.Fronts.{ascii_in}
-use Rattle.saphyr_input.specs.Places.{is_document_indicator, goes_on}
-use Rattle.saphyr_input.proofs.WordRuns.{words_some, words_stop}
-use Rattle.saphyr_scalar.specs.declared.scalar.position.Marker.{Marker}
-use Rattle.saphyr_scalar.specs.declared.scalar.fault.Refusal.{Refusal}
-use Rattle.saphyr_scalar.specs.Views.Cursor.{Cursor, along}
+use Rattle.saphyr_scalar.proofs.Common.{◌≡◌, ℕ, ◌<◌, Bool, true, false, List, [], ◌∷◌, length-drop, slice_index, Result, Ok, refl, sym, ap, ◌∙◌, arith, ◌&&◌, ◌||◌, ◌==◌, not, nat_lt, encode_utf8, prefix_len, nat_tests, append-nil, not-true, false_from_ne_true, full_stop, hyphen, number_sign, is_blank, is_break, is_flow, is_blank_or_breakz, ascii_in, is_document_indicator, goes_on, words_some, words_stop, Marker, Refusal, Cursor, along, and_false, by_test, clash, either}
 use Rattle.saphyr_scalar.specs.Steps.Plain.{is_in_word, word_starts, next_word_starts, gap_from, gap, PlainGap, with_text, word, seen_gap, PlainWordsMoved}
 use Rattle.saphyr_scalar.specs.Steps.Quoted.{mid_line, WordsMoved}
 use Rattle.saphyr_scalar.specs.Steps.Sets.{in_plain, leads_plain, joins_plain, begins_any_plain}
@@ -21,7 +8,6 @@ use Rattle.saphyr_scalar.proofs.Plain.Words.{word_left}
 use Rattle.saphyr_scalar.proofs.Quoted.Inside.{Moved, IsQuotedContent, content_of}
 use Rattle.saphyr_scalar.proofs.Quoted.Words.{both_true}
 use Rattle.saphyr_scalar.proofs.TakenWords.{words_behind}
-use Rattle.saphyr_input.proofs.Basics.Booleans.{and_false, by_test, clash, either}
 
 -- a character of the set goes on with a word
 pub set_in_word : (f : Bool) (xs : List ℕ) → in_plain f (slice_index xs 0) ≡ true → is_in_word f xs ≡ true

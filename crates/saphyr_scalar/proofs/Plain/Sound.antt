@@ -1,12 +1,8 @@
 -- What is read as a plain scalar is the reading of a piece of the text.
 use Rattle.std.proofs.Common.{◌≡◌, ℕ, zero, suc, ◌+◌, ◌-◌, ◌≤◌, Bool, true, false, List, [], ◌∷◌, ◌++◌, length, take, drop, slice_index, Option, Result, Ok, Err, refl, sym, ap, ◌∙◌, arith, subst, encode_utf8_all}
-use Rattle.std.specs.Prelude.{if◌then◌else◌}
+use Rattle.saphyr_scalar.proofs.Common.{if◌then◌else◌, is_blank_or_break, Marker, Refusal, Cursor, ◌>>=◌, refuse, along}
 use Rattle.std.proofs.lemmas.List.{length-drop}
-use Rattle.saphyr_input.specs.Places.{is_blank_or_break}
-use Rattle.saphyr_scalar.specs.declared.scalar.position.Marker.{Marker}
-use Rattle.saphyr_scalar.specs.declared.scalar.fault.Refusal.{Refusal}
 use Rattle.saphyr_scalar.specs.declared.scalar.fault.FaultText.TheVariants as fault
-use Rattle.saphyr_scalar.specs.Views.Cursor.{Cursor, ◌>>=◌, refuse, along}
 use Rattle.saphyr_scalar.specs.Steps.Quoted.{mid_line}
 use Rattle.saphyr_scalar.specs.Steps.Plain.{is_in_word, word_len, word_starts, next_word_starts, PlainGap, gap, PlainScalarRead, with_text, scalar_end, word, plain}
 use Rattle.saphyr_scalar.specs.Reading.Plain.{IsPlainReading}

@@ -1,14 +1,6 @@
 -- How the pieces that plain scalars are read from are spelled.
-use Rattle.std.proofs.Common.{◌≡◌, ◌≢◌, ℕ, suc, ◌+◌, ◌<◌, Bool, true, false, List, [], ◌∷◌, ◌++◌, take, drop, slice_index, Result, Ok, refl, sym, ap, ◌∙◌, arith, subst, IsTrue, append_assoc}
-use Rattle.std.specs.Prelude.{◌||◌, ◌&&◌, ◌==◌, if◌then◌else◌, IsFalse}
-use Rattle.std.proofs.lemmas.Bool.Decides.{nat_tests}
-use Rattle.std.proofs.lemmas.List.{take-append-drop}
-use Rattle.saphyr_input.specs.Classes.{is_flow, is_blank_or_breakz}
-use Rattle.saphyr_input.specs.Places.{is_blank_or_break, is_document_indicator}
+use Rattle.saphyr_scalar.proofs.Common.{◌≡◌, ◌≢◌, ℕ, suc, ◌+◌, ◌<◌, Bool, true, false, List, [], ◌∷◌, ◌++◌, take, drop, slice_index, Result, Ok, refl, sym, ap, ◌∙◌, arith, subst, IsTrue, append_assoc, ◌||◌, ◌&&◌, ◌==◌, if◌then◌else◌, IsFalse, nat_tests, take-append-drop, is_flow, is_blank_or_breakz, is_blank_or_break, is_document_indicator, Marker, Refusal, Cursor, along, next_line, false≢true, eqb-true, colon, number_sign, by_test, blank_cases}
 use Rattle.saphyr_scalar.specs.Spelling.Tag.{AreIn}
-use Rattle.saphyr_scalar.specs.declared.scalar.position.Marker.{Marker}
-use Rattle.saphyr_scalar.specs.declared.scalar.fault.Refusal.{Refusal}
-use Rattle.saphyr_scalar.specs.Views.Cursor.{Cursor, along, next_line}
 use Rattle.saphyr_scalar.specs.Steps.Plain.{is_in_word, word_len, word_starts, next_word_starts, ends_line}
 use Rattle.saphyr_scalar.specs.Reading.Plain.{end_of_text, IsSpelledPlain, IsSafeInFlow, ends_piece}
 use Rattle.saphyr_scalar.proofs.Moving.{along_none, along_more}
@@ -16,10 +8,6 @@ use Rattle.saphyr_scalar.proofs.Quoted.Inside.{break_cases}
 use Rattle.saphyr_scalar.proofs.Quoted.Words.{both_true}
 use Rattle.saphyr_scalar.proofs.Plain.Words.{word_left}
 use Rattle.saphyr_scalar.proofs.Plain.Runs.{IsNonSpace, AreNonSpace, NoFeed, same_ends}
-use Rattle.std.proofs.lemmas.Bool.{false≢true, eqb-true}
-use Rattle.saphyr_input.specs.Indicators.{colon, number_sign}
-use Rattle.saphyr_input.proofs.Basics.Booleans.{by_test}
-use Rattle.saphyr_input.proofs.Basics.Characters.{blank_cases}
 
 -- a word's characters
 

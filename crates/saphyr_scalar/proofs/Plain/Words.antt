@@ -1,9 +1,5 @@
 -- The words of a plain scalar.
-use Rattle.std.proofs.Common.{◌≡◌, ◌≢◌, ℕ, ◌+◌, ◌<◌, Bool, true, false, List, [], ◌∷◌, length, drop, slice_index, refl, sym, ◌∙◌, arith}
-use Rattle.std.specs.Prelude.{◌==◌, ◌&&◌, ◌||◌, not}
-use Rattle.std.proofs.lemmas.Bool.Decides.{nat_tests}
-use Rattle.saphyr_input.specs.Classes.{is_blank_or_breakz, is_bom, is_flow}
-use Rattle.saphyr_input.specs.Indicators.{colon}
+use Rattle.saphyr_scalar.proofs.Common.{◌≡◌, ◌≢◌, ℕ, ◌+◌, ◌<◌, Bool, true, false, List, [], ◌∷◌, length, drop, slice_index, refl, sym, ◌∙◌, arith, ◌==◌, ◌&&◌, ◌||◌, not, nat_tests, is_blank_or_breakz, is_bom, is_flow, colon}
 use Rattle.saphyr_scalar.specs.Steps.Plain.{is_in_word, word_len}
 
 pub word_left : (f : Bool) (xs : List ℕ) → is_in_word f xs ≡ true → 0 < length xs

@@ -1,11 +1,7 @@
 -- A word of a plain scalar, and a gap before more words, are read as a piece of the text.
 use Rattle.std.proofs.Common.{◌≡◌, ℕ, suc, ◌+◌, ◌≤◌, Bool, true, false, List, [], ◌∷◌, ◌++◌, length, take, drop, slice_index, Option, sym, ap, ◌∙◌, arith, IsTrue, append_assoc, encode_utf8_all}
-use Rattle.std.proofs.lemmas.List.{append-nil, take-append-drop, length-take-le}
-use Rattle.std.proofs.lemmas.Str.{encodes-append}
-use Rattle.saphyr_input.specs.Places.{is_blank_or_break}
+use Rattle.saphyr_scalar.proofs.Common.{append-nil, take-append-drop, length-take-le, encodes-append, is_blank_or_break, Marker, Cursor, along, by_test}
 use Rattle.saphyr_scalar.specs.Spelling.Tag.{AreIn}
-use Rattle.saphyr_scalar.specs.declared.scalar.position.Marker.{Marker}
-use Rattle.saphyr_scalar.specs.Views.Cursor.{Cursor, along}
 use Rattle.saphyr_scalar.specs.Values.Folding.{folded}
 use Rattle.saphyr_scalar.specs.Steps.Plain.{is_in_word, word_len, comment_of, PlainGap}
 use Rattle.saphyr_scalar.specs.Reading.Plain.{end_of_text, IsSpelledPlain, IsSafeInFlow, ends_piece}
@@ -13,7 +9,6 @@ use Rattle.saphyr_scalar.proofs.Plain.Words.{word_left}
 use Rattle.saphyr_scalar.proofs.Plain.Pieces.{word_stops}
 use Rattle.saphyr_scalar.proofs.Plain.Spelled.{Begins, Closes, word_spelled, white_spelled, word_safe, white_safe, word_follows, word_closes}
 use Rattle.saphyr_scalar.proofs.Plain.Runs.{IsNonSpace, AreNonSpace, items_of, non_space_no_feed, folded_word, passed_append, passed_word}
-use Rattle.saphyr_input.proofs.Basics.Booleans.{by_test}
 use Rattle.saphyr_scalar.proofs.Plain.GapsRead.{GapReads}
 use Rattle.saphyr_scalar.proofs.Plain.Indented.{GoesOn, IsLine, later_append, later_non_space, later_weaken}
 use Rattle.saphyr_scalar.specs.Spelling.LaterLines.{IsPlainLine, ArePlainLines}

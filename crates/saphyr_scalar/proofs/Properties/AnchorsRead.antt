@@ -1,11 +1,5 @@
 -- Each spelled anchor is read, and what is read as one is spelled so.
-use Rattle.std.proofs.Common.{◌≡◌, ◌≢◌, ℕ, ◌+◌, ◌<◌, true, false, List, [], ◌∷◌, ◌++◌, length, slice_index, Ok, refl, ap, ◌∙◌, arith, encode_utf8_all}
-use Rattle.std.proofs.lemmas.Bool.{false≢true}
-use Rattle.std.proofs.lemmas.List.{take-append-drop, length-take-le}
-use Rattle.std.proofs.lemmas.List.Sums.{prefix_len-le-length}
-use Rattle.saphyr_input.specs.Classes.{is_anchor_char}
-use Rattle.saphyr_scalar.specs.declared.scalar.position.Marker.{Marker}
-use Rattle.saphyr_scalar.specs.Views.Cursor.{Cursor, along}
+use Rattle.saphyr_scalar.proofs.Common.{◌≡◌, ◌≢◌, ℕ, ◌+◌, ◌<◌, false, List, [], ◌∷◌, ◌++◌, length, slice_index, Ok, refl, ap, ◌∙◌, arith, encode_utf8_all, false≢true, take-append-drop, length-take-le, prefix_len-le-length, is_anchor_char, Marker, Cursor, along, first_and_rest, run_ends}
 use Rattle.saphyr_scalar.specs.Steps.Quoted.{mid_line}
 use Rattle.saphyr_scalar.specs.Steps.Anchor.{anchor, anchor_name_of}
 use Rattle.saphyr_scalar.specs.Spelling.Tag.{IsAnchorName}
@@ -13,7 +7,6 @@ use Rattle.saphyr_scalar.proofs.Moving.{along_more}
 use Rattle.saphyr_scalar.proofs.Runs.{run_read, run_is_in}
 use Rattle.saphyr_scalar.proofs.Properties.TagsRead.{some_bytes}
 use Rattle.saphyr_scalar.proofs.Steps.{no_result}
-use Rattle.saphyr_input.proofs.Basics.Lists.{first_and_rest, run_ends}
 use Rattle.saphyr_scalar.proofs.Given.{text_given}
 
 anchor_same : (s : Cursor) → anchor s ≡ anchor (mid_line s.mark s.rest)

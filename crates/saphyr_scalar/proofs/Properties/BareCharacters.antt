@@ -1,21 +1,11 @@
 -- The characters of a URI that begin no escape, taken off in one piece.
-use Rattle.std.proofs.Common.{◌≡◌, ℕ, suc, ◌+◌, ◌≤◌, true, false, List, [], ◌∷◌, ◌++◌, length, take, drop, slice_index, Result, Ok, refl, ap, ◌∙◌, arith, encode_utf8_all}
-use Rattle.std.specs.Prelude.{encode_utf8}
-use Rattle.std.specs.List.{prefix_len}
-use Rattle.std.proofs.lemmas.Bool.Decides.{nat_tests}
-use Rattle.saphyr_input.specs.Indicators.{percent_sign}
+use Rattle.saphyr_scalar.proofs.Common.{◌≡◌, ℕ, suc, ◌+◌, ◌≤◌, true, false, List, [], ◌∷◌, ◌++◌, length, take, drop, slice_index, Result, Ok, refl, ap, ◌∙◌, arith, encode_utf8_all, encode_utf8, prefix_len, nat_tests, percent_sign, Marker, Refusal, UriSet, Cursor, along, by_test, drop_shorter}
 use Rattle.saphyr_input.proofs.WordRuns.{run_ends}
-use Rattle.saphyr_scalar.specs.declared.scalar.position.Marker.{Marker}
-use Rattle.saphyr_scalar.specs.declared.scalar.fault.Refusal.{Refusal}
-use Rattle.saphyr_scalar.specs.declared.scalar.tag.UriSet.{UriSet}
-use Rattle.saphyr_scalar.specs.Views.Cursor.{Cursor, along}
 use Rattle.saphyr_scalar.specs.Steps.Quoted.{with_front, with_front_run}
 use Rattle.saphyr_scalar.specs.Steps.Sets.{is_bare}
 use Rattle.saphyr_scalar.specs.Steps.Tag.{is_in_set, percent_escape, uri_character, decoded_characters, decoded_at}
 use Rattle.saphyr_scalar.proofs.Moving.{along_none, along_more}
 use Rattle.saphyr_scalar.proofs.Quoted.Inside.{front_twice, no_front}
-use Rattle.saphyr_input.proofs.Basics.Booleans.{by_test}
-use Rattle.saphyr_input.proofs.Basics.Lists.{drop_shorter}
 
 bare_passed : (set : UriSet) (start m : Marker) (c : ℕ) (cs : List ℕ) → is_bare set c ≡ true
     → decoded_characters set start 0 m (c ∷ cs) ≡ with_front (encode_utf8 c) (decoded_characters set start 0

@@ -1,10 +1,5 @@
 -- The escape of a byte that was taken off, where each place is told again.
-use Rattle.std.proofs.Common.{◌≡◌, ℕ, ◌+◌, ◌-◌, ◌*◌, ◌^◌, ◌<◌, ◌≤◌, true, List, [], ◌∷◌, length, slice_index, Ok, arith}
-use Rattle.std.proofs.lemmas.Bool.{false≢true}
-use Rattle.saphyr_input.specs.Classes.{is_hex, hex_value}
-use Rattle.saphyr_input.specs.Indicators.{percent_sign}
-use Rattle.saphyr_scalar.specs.declared.scalar.position.Marker.{Marker}
-use Rattle.saphyr_scalar.specs.Views.Cursor.{Cursor, pass}
+use Rattle.saphyr_scalar.proofs.Common.{◌≡◌, ℕ, ◌+◌, ◌-◌, ◌*◌, ◌^◌, ◌<◌, ◌≤◌, true, List, [], ◌∷◌, length, slice_index, Ok, arith, false≢true, is_hex, hex_value, percent_sign, Marker, Cursor, pass}
 use Rattle.saphyr_scalar.specs.Steps.Tag.{escaped_byte, trailing_byte}
 
 -- the three characters that are shown: `%`, and two digits with their values

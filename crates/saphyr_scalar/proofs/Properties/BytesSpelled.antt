@@ -1,9 +1,5 @@
 -- What is read as escaped bytes is spelled so.
-use Rattle.std.proofs.Common.{◌≡◌, ℕ, zero, suc, ◌+◌, ◌-◌, ◌*◌, true, List, [], ◌∷◌, ◌++◌, length, length-append, cond, Ok, refl, sym, ap, ◌∙◌, arith}
-use Rattle.saphyr_input.specs.Indicators.{percent_sign}
-use Rattle.saphyr_input.specs.Classes.{is_hex, IsHex, hex_value}
-use Rattle.saphyr_scalar.specs.declared.scalar.position.Marker.{Marker}
-use Rattle.saphyr_scalar.specs.Views.Cursor.{Cursor, along}
+use Rattle.saphyr_scalar.proofs.Common.{◌≡◌, ℕ, zero, suc, ◌+◌, ◌-◌, ◌*◌, true, List, [], ◌∷◌, ◌++◌, length, length-append, cond, Ok, refl, sym, ap, ◌∙◌, arith, percent_sign, is_hex, IsHex, hex_value, Marker, Cursor, along}
 use Rattle.saphyr_scalar.specs.Steps.Quoted.{mid_line}
 use Rattle.saphyr_scalar.specs.Steps.Tag.{escaped_byte, is_trailing, trailing_byte, trailing_bytes}
 use Rattle.saphyr_scalar.specs.Spelling.Tag.{IsByteEscape, AreByteEscapes}

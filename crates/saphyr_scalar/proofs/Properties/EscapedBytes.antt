@@ -1,12 +1,8 @@
 -- The bytes of a character's UTF-8, as they are escaped and as they are read.
-use Rattle.std.proofs.Common.{◌≡◌, ℕ, suc, ◌+◌, ◌-◌, ◌*◌, ◌/◌, ◌%◌, ◌<◌, ◌≤◌, true, List, [], ◌∷◌, length, refl, arith}
-use Rattle.std.specs.Prelude.{nat_lt, encode_utf8}
+use Rattle.saphyr_scalar.proofs.Common.{◌≡◌, ℕ, suc, ◌+◌, ◌-◌, ◌*◌, ◌/◌, ◌%◌, ◌<◌, ◌≤◌, true, List, [], ◌∷◌, length, refl, arith, nat_lt, encode_utf8, nat_tests, by_test, lt-ltb, le-ltb, le-leb}
 use Rattle.std.proofs.Math.Utf8.{encode}
-use Rattle.std.proofs.lemmas.Bool.Decides.{nat_tests}
 use Rattle.saphyr_scalar.specs.Values.Escapes.{IsScalarValue, is_scalar_value}
 use Rattle.saphyr_scalar.specs.Steps.Tag.{utf8_width, leading_bits, is_trailing, is_encoded}
-use Rattle.saphyr_input.proofs.Basics.Booleans.{by_test}
-use Rattle.std.proofs.lemmas.Bool.{lt-ltb, le-ltb, le-leb}
 
 abbrev pub AreTrailing : List ℕ → Type 0
 AreTrailing [] = Unit {0}

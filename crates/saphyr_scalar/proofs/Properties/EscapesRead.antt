@@ -1,15 +1,6 @@
 -- Each spelled percent escape is read, and each character with escapes.
-use Rattle.std.proofs.Common.{◌≡◌, ℕ, suc, ◌+◌, ◌-◌, ◌*◌, Bool, true, false, List, [], ◌∷◌, ◌++◌, length, length-append, append_assoc, slice_index, nat_eq, Result, Ok, refl, ap, ◌∙◌, arith, encode_utf8_all}
-use Rattle.std.specs.Prelude.{encode_utf8}
-use Rattle.std.proofs.Common.{inl, inr}
-use Rattle.std.proofs.lemmas.Bool.Decides.{nat_tests}
-use Rattle.saphyr_input.specs.Indicators.{percent_sign}
-use Rattle.saphyr_input.specs.Classes.{is_hex, IsHex}
+use Rattle.saphyr_scalar.proofs.Common.{◌≡◌, ℕ, suc, ◌+◌, ◌-◌, ◌*◌, Bool, true, false, List, [], ◌∷◌, ◌++◌, length, length-append, append_assoc, slice_index, nat_eq, Result, Ok, refl, ap, ◌∙◌, arith, encode_utf8_all, encode_utf8, inl, inr, nat_tests, percent_sign, is_hex, IsHex, Marker, Refusal, UriSet, Cursor, ◌>>=◌, along}
 use Rattle.saphyr_scalar.specs.Values.Escapes.{IsScalarValue}
-use Rattle.saphyr_scalar.specs.declared.scalar.position.Marker.{Marker}
-use Rattle.saphyr_scalar.specs.declared.scalar.fault.Refusal.{Refusal}
-use Rattle.saphyr_scalar.specs.declared.scalar.tag.UriSet.{UriSet}
-use Rattle.saphyr_scalar.specs.Views.Cursor.{Cursor, ◌>>=◌, along}
 use Rattle.saphyr_scalar.specs.Steps.Quoted.{with_front, mid_line}
 use Rattle.saphyr_scalar.specs.Steps.Tag.{is_in_set, escaped_byte, utf8_width, leading_bits, is_trailing, is_encoded, trailing_byte, trailing_bytes, encoded_character, behind_leading_byte, percent_escape, uri_character, decoded_characters}
 use Rattle.saphyr_scalar.specs.Spelling.Tag.{IsByteEscape, AreByteEscapes, IsCharacter, IsDecoded}

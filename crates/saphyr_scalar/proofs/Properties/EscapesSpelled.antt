@@ -1,21 +1,13 @@
 -- What is read as a percent escape is spelled so, and so are characters with escapes.
-use Rattle.std.proofs.Common.{◌≡◌, ◌≢◌, ℕ, zero, suc, ◌-◌, ◌<◌, ◌≤◌, Bool, true, false, List, [], ◌∷◌, ◌++◌, length, length-append, append_assoc, drop, slice_index, nat_eq, Result, Ok, refl, sym, ap, ◌∙◌, arith, subst, encode_utf8_all, inl, inr}
-use Rattle.std.specs.Prelude.{encode_utf8}
-use Rattle.std.specs.Char.{len_utf8}
-use Rattle.std.proofs.lemmas.Bool.Decides.{nat_tests}
+use Rattle.saphyr_scalar.proofs.Common.{◌≡◌, ◌≢◌, ℕ, zero, suc, ◌-◌, ◌<◌, ◌≤◌, Bool, true, false, List, [], ◌∷◌, ◌++◌, length, length-append, append_assoc, drop, slice_index, nat_eq, Result, Ok, refl, sym, ap, ◌∙◌, arith, subst, encode_utf8_all, inl, inr, encode_utf8, len_utf8, nat_tests, Marker, Refusal, UriSet, Cursor, along, and_true_left, by_test}
 use Rattle.saphyr_scalar.specs.Values.Escapes.{IsScalarValue, is_scalar_value}
-use Rattle.saphyr_scalar.specs.declared.scalar.position.Marker.{Marker}
 use Rattle.saphyr_scalar.specs.declared.scalar.fault.FaultText.TheVariants as fault
-use Rattle.saphyr_scalar.specs.declared.scalar.fault.Refusal.{Refusal}
-use Rattle.saphyr_scalar.specs.declared.scalar.tag.UriSet.{UriSet}
-use Rattle.saphyr_scalar.specs.Views.Cursor.{Cursor, along}
 use Rattle.saphyr_scalar.specs.Steps.Quoted.{with_front, mid_line}
 use Rattle.saphyr_scalar.specs.Steps.Tag.{is_in_set, escaped_byte, utf8_width, leading_bits, is_encoded, trailing_bytes, encoded_character, behind_leading_byte, percent_escape, uri_character, decoded_characters, decoded_at}
 use Rattle.saphyr_scalar.specs.Spelling.Tag.{AreByteEscapes, IsCharacter, IsDecoded}
 use Rattle.saphyr_scalar.proofs.Moving.{along_none, along_more}
 use Rattle.saphyr_scalar.proofs.Properties.PercentEscapes.{decoded_one_more, ends_at, has_left, character_shorter}
 use Rattle.saphyr_scalar.proofs.Steps.{bind_ok, Chosen, ok_same, cond_ok, cond_not}
-use Rattle.saphyr_input.proofs.Basics.Booleans.{and_true_left, by_test}
 use Rattle.saphyr_scalar.proofs.Properties.BytesSpelled.{byte_spelled, escape_of_byte, trailing_spelled}
 use Rattle.saphyr_scalar.proofs.Properties.UniqueBytes.{scalar_is, bytes_unique}
 

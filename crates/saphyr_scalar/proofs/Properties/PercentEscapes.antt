@@ -1,24 +1,11 @@
 -- Percent escapes, read a byte at a time, and the characters of uris.
-use Rattle.std.proofs.Common.{◌≡◌, ℕ, zero, suc, ◌+◌, ◌-◌, ◌*◌, ◌^◌, ◌<◌, true, false, List, [], ◌∷◌, ◌++◌, length, drop, length-drop, slice_index, nat_eq, Result, Ok, Err, refl, sym, ap, ◌∙◌, arith, subst}
-use Rattle.std.specs.Prelude.{encode_utf8}
-use Rattle.std.proofs.Math.Nat.{pow-le-pow_right}
-use Rattle.std.proofs.lemmas.Grind.{pow_more}
-use Rattle.std.proofs.lemmas.Bool.Decides.{nat_tests}
-use Rattle.std.proofs.lemmas.List.{append-nil}
-use Rattle.std.specs.Result.{IsErrAnd}
-use Rattle.saphyr_scalar.specs.declared.scalar.position.Marker.{Marker}
-use Rattle.saphyr_scalar.specs.declared.scalar.fault.Refusal.{Refusal}
+use Rattle.saphyr_scalar.proofs.Common.{◌≡◌, ℕ, zero, suc, ◌+◌, ◌-◌, ◌*◌, ◌^◌, ◌<◌, true, false, List, [], ◌∷◌, ◌++◌, length, drop, length-drop, slice_index, nat_eq, Result, Ok, Err, refl, sym, ap, ◌∙◌, arith, subst, encode_utf8, pow-le-pow_right, pow_more, nat_tests, append-nil, IsErrAnd, Marker, Refusal, UriSet, Uri, Suffix, Cursor, ◌>>=◌, along, Gives, by_test}
 use Rattle.saphyr_scalar.specs.declared.scalar.fault.FaultText.TheVariants as fault
-use Rattle.saphyr_scalar.specs.declared.scalar.tag.UriSet.{UriSet}
-use Rattle.saphyr_scalar.specs.declared.scalar.tag.UriSet.TheVariants.{Uri, Suffix}
-use Rattle.saphyr_scalar.specs.Views.Cursor.{Cursor, ◌>>=◌, along}
 use Rattle.saphyr_scalar.specs.Steps.Quoted.{with_front, mid_line}
-use Rattle.saphyr_scalar.specs.Views.Reader.{Gives}
 use Rattle.saphyr_scalar.specs.Steps.Tag.{is_in_set, byte_value, shows_byte, is_encoded, escaped_byte, utf8_width, leading_bits, trailing_byte, trailing_bytes, encoded_character, behind_leading_byte, percent_escape, uri_character, uri_tail, decoded_characters, decoded_at}
 use Rattle.saphyr_scalar.proofs.Moving.{along_none, along_more, drop_more, bind_same}
 use Rattle.saphyr_scalar.proofs.Quoted.Inside.{front_twice}
 use Rattle.saphyr_scalar.proofs.Steps.{no_result}
-use Rattle.saphyr_input.proofs.Basics.Booleans.{by_test}
 use Rattle.saphyr_scalar.proofs.EscapeEnds.{EscapeEnds, refused_ends, read, then_ends}
 
 trailing_first : (start : Marker) (n i v : ℕ) (s : Cursor) → i < n

@@ -1,17 +1,10 @@
 -- Anchors and tags are refused where they begin.
-use Rattle.std.proofs.Common.{◌≡◌, ℕ, zero, suc, Bool, List, [], ◌∷◌, length, slice_index, Result, refl, arith}
-use Rattle.std.specs.Prelude.{◌==◌}
-use Rattle.saphyr_input.specs.Classes.{is_anchor_char}
-use Rattle.saphyr_scalar.specs.declared.scalar.position.Marker.{Marker}
-use Rattle.saphyr_scalar.specs.declared.scalar.fault.Refusal.{Refusal}
-use Rattle.saphyr_scalar.specs.declared.scalar.tag.UriSet.{UriSet}
-use Rattle.saphyr_scalar.specs.Views.Cursor.{Cursor, along, pass}
+use Rattle.saphyr_scalar.proofs.Common.{◌≡◌, ℕ, zero, suc, Bool, List, [], ◌∷◌, length, slice_index, Result, refl, arith, ◌==◌, is_anchor_char, Marker, Refusal, UriSet, Cursor, along, pass, by_test}
 use Rattle.saphyr_scalar.specs.Steps.Quoted.{with_front, with_run}
 use Rattle.saphyr_scalar.specs.Steps.Anchor as names
 use Rattle.saphyr_scalar.specs.Steps.Anchor.{anchor}
 use Rattle.saphyr_scalar.specs.Steps.Tag.{shows_byte, escaped_byte, is_trailing, trailing_byte, trailing_bytes, encoded_character, behind_leading_byte, percent_escape, uri_character, uri_tail, decoded_characters, verbatim_end, verbatim_tag, named_tag, named_tail, tag_behind_word, shorthand_tag, tag_end, tag}
 use Rattle.saphyr_scalar.proofs.Given.{Refused, RefusedAt, refused_bind}
-use Rattle.saphyr_input.proofs.Basics.Booleans.{by_test}
 
 -- ## Anchors
 

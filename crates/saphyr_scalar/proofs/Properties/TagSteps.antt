@@ -1,17 +1,9 @@
 -- The steps of a tag whose handle and suffix are put behind a text, where each place is told again.
 use Rattle.std.proofs.Common.{◌≡◌, append-nil, append_assoc, Bool, ℕ, ◌+◌, ◌<◌, true, false, List, [], ◌∷◌, ◌++◌, drop, length, slice_index, take, Result, Ok, Err, refl, sym, ap, ◌∙◌, arith}
 use Rattle.std.specs.Prelude.{◌==◌, codes, encode_utf8, encode_utf8_all}
-use Rattle.std.proofs.Math.Seq.{drop-append_seam}
-use Rattle.std.proofs.lemmas.Bool.Decides.{nat_tests}
+use Rattle.saphyr_scalar.proofs.Common.{drop-append_seam, nat_tests, encode_ascii, is_alpha, is_tag_char, exclamation_mark, greater_than, Refusal, Suffix, Marker, Cursor, ◌>>=◌, along, pass, refuse}
 use Rattle.std.proofs.lemmas.List.{get_or-drop, length-append, nil_from_length}
-use Rattle.std.proofs.lemmas.Str.{encode_ascii}
-use Rattle.saphyr_input.specs.Classes.{is_alpha, is_tag_char}
-use Rattle.saphyr_input.specs.Indicators.{exclamation_mark, greater_than}
 use Rattle.saphyr_scalar.specs.declared.scalar.fault.FaultText.TheVariants as fault
-use Rattle.saphyr_scalar.specs.declared.scalar.fault.Refusal.{Refusal}
-use Rattle.saphyr_scalar.specs.declared.scalar.tag.UriSet.TheVariants.{Suffix}
-use Rattle.saphyr_scalar.specs.declared.scalar.position.Marker.{Marker}
-use Rattle.saphyr_scalar.specs.Views.Cursor.{Cursor, ◌>>=◌, along, pass, refuse}
 use Rattle.saphyr_scalar.specs.Steps.Quoted.{TextRead, mid_line, with_front, with_run}
 use Rattle.saphyr_scalar.specs.Steps.Tag.{TagBehind, TagRead, decoded_at, decoded_characters, decoded_onto, handle_of, is_behind_tag, named_tag, named_tail, primary_tag, tag_behind_word, shorthand_tag, tag_end, verbatim_end, with_tag, with_word}
 use Rattle.saphyr_scalar.proofs.Given.{text_given}

@@ -1,18 +1,6 @@
 -- Each spelled tag is read.
-use Rattle.std.proofs.Common.{◌≡◌, ◌≢◌, ℕ, suc, ◌+◌, ◌≤◌, Bool, true, false, List, [], ◌∷◌, ◌++◌, length, length-append, append_assoc, take, drop, slice_index, nat_eq, Result, Ok, refl, sym, ap, ◌∙◌, arith, subst, encode_utf8_all, inl, inr}
-use Rattle.std.specs.Prelude.{◌&&◌, codes, encode_utf8}
-use Rattle.std.specs.List.{prefix_len}
+use Rattle.saphyr_scalar.proofs.Common.{◌≡◌, ◌≢◌, ℕ, suc, ◌+◌, ◌≤◌, Bool, true, false, List, [], ◌∷◌, ◌++◌, length, length-append, append_assoc, take, drop, slice_index, nat_eq, Result, Ok, refl, sym, ap, ◌∙◌, arith, subst, encode_utf8_all, inl, inr, ◌&&◌, codes, encode_utf8, prefix_len, nat_tests, false≢true, false_from_ne_true, encodes-append, length-le-encodes, exclamation_mark, greater_than, is_alpha, is_tag_char, is_uri_char, is_blank, is_break, is_z, is_breakz, is_blank_or_breakz, is_flow, is_one_of, run_stops, Marker, Refusal, Suffix, Cursor, ◌>>=◌, along, and_true_right, other_than, by_test, either}
 use Rattle.std.proofs.Math.Utf8.{encode}
-use Rattle.std.proofs.lemmas.Bool.Decides.{nat_tests}
-use Rattle.std.proofs.lemmas.Bool.{false≢true, false_from_ne_true}
-use Rattle.std.proofs.lemmas.Str.{encodes-append, length-le-encodes}
-use Rattle.saphyr_input.specs.Indicators.{exclamation_mark, greater_than}
-use Rattle.saphyr_input.specs.Classes.{is_alpha, is_tag_char, is_uri_char, is_blank, is_break, is_z, is_breakz, is_blank_or_breakz, is_flow, is_one_of}
-use Rattle.saphyr_input.proofs.Runs.{run_stops}
-use Rattle.saphyr_scalar.specs.declared.scalar.position.Marker.{Marker}
-use Rattle.saphyr_scalar.specs.declared.scalar.fault.Refusal.{Refusal}
-use Rattle.saphyr_scalar.specs.declared.scalar.tag.UriSet.TheVariants.{Suffix}
-use Rattle.saphyr_scalar.specs.Views.Cursor.{Cursor, ◌>>=◌, along}
 use Rattle.saphyr_scalar.specs.Steps.Quoted.{with_front, mid_line}
 use Rattle.saphyr_scalar.specs.Steps.Tag.{uri_character, decoded_characters, TagRead, verbatim_tag, verbatim_end, handle_of, named_tag, named_tail, primary_tag, tag_behind_word, shorthand_tag, tag, tag_end}
 use Rattle.saphyr_scalar.specs.Spelling.Tag.{AreIn, IsDecoded, IsTagText, EndsTag}
@@ -21,7 +9,6 @@ use Rattle.saphyr_scalar.proofs.Quoted.Inside.{front_twice, no_front}
 use Rattle.saphyr_scalar.proofs.Properties.PercentEscapes.{decoded_one_more, reads_on}
 use Rattle.saphyr_scalar.proofs.Properties.EscapesRead.{decoded_read, escape_first, character_first}
 use Rattle.saphyr_scalar.proofs.Runs.{run_read}
-use Rattle.saphyr_input.proofs.Basics.Booleans.{and_true_right, other_than, by_test, either}
 
 abbrev parts_given : List ℕ → List ℕ → Cursor → Result TagRead Refusal
 parts_given handle suffix s = Ok (handle, suffix, s)

@@ -1,16 +1,5 @@
 -- What is read as a tag is spelled so.
-use Rattle.std.proofs.Common.{◌≡◌, ◌≢◌, ℕ, ◌+◌, Bool, true, false, List, [], ◌∷◌, ◌++◌, length, length-append, append_assoc, take, drop, slice_index, nat_eq, cond, Result, Ok, refl, sym, ap, ◌∙◌, arith, subst, encode_utf8_all, inl, inr}
-use Rattle.std.specs.Prelude.{codes}
-use Rattle.std.specs.List.{prefix_len}
-use Rattle.std.proofs.lemmas.Bool.{false≢true, eqb-true}
-use Rattle.std.proofs.lemmas.List.{take-append-drop, length-take-le}
-use Rattle.std.proofs.lemmas.List.Sums.{prefix_len-le-length}
-use Rattle.saphyr_input.specs.Indicators.{exclamation_mark, greater_than, less_than}
-use Rattle.saphyr_input.specs.Classes.{is_alpha}
-use Rattle.saphyr_scalar.specs.declared.scalar.position.Marker.{Marker}
-use Rattle.saphyr_scalar.specs.declared.scalar.fault.Refusal.{Refusal}
-use Rattle.saphyr_scalar.specs.declared.scalar.tag.UriSet.TheVariants.{Uri, Suffix}
-use Rattle.saphyr_scalar.specs.Views.Cursor.{Cursor, along, pass}
+use Rattle.saphyr_scalar.proofs.Common.{◌≡◌, ◌≢◌, ℕ, ◌+◌, Bool, true, false, List, [], ◌∷◌, ◌++◌, length, length-append, append_assoc, take, drop, slice_index, nat_eq, cond, Result, Ok, refl, sym, ap, ◌∙◌, arith, subst, encode_utf8_all, inl, inr, codes, prefix_len, false≢true, eqb-true, take-append-drop, length-take-le, prefix_len-le-length, exclamation_mark, greater_than, less_than, is_alpha, Marker, Refusal, Uri, Suffix, Cursor, along, pass, by_test}
 use Rattle.saphyr_scalar.specs.Steps.Quoted.{mid_line}
 use Rattle.saphyr_scalar.specs.Steps.Tag.{decoded_characters, TagRead, verbatim_tag, verbatim_end, handle_of, named_tag, named_tail, primary_tag, tag_behind_word, shorthand_tag, tag, tag_end}
 use Rattle.saphyr_scalar.specs.Spelling.Tag.{AreIn, IsTagText, EndsTag}
@@ -20,7 +9,6 @@ use Rattle.saphyr_scalar.proofs.Properties.TagsRead.{some_bytes, alpha_on, bytes
 use Rattle.saphyr_scalar.proofs.Properties.EscapesSpelled.{decoded_spelled, DecodedOf}
 use Rattle.saphyr_scalar.proofs.Steps.{bind_ok, ok_same}
 use Rattle.saphyr_scalar.proofs.Places.{along_three, along_four}
-use Rattle.saphyr_input.proofs.Basics.Booleans.{by_test}
 
 pub record TagOf (m : Marker) (xs front back : List ℕ) (u : Cursor) : Type 0 where
   pub written : List ℕ

@@ -1,14 +1,10 @@
 -- The bytes that are read for a character are its UTF-8.
 use Rattle.std.proofs.Common.{◌≡◌, ℕ, suc, ◌+◌, ◌-◌, ◌*◌, ◌<◌, ◌≤◌, true, List, [], ◌∷◌, length, nat_lt, arith, inl, inr}
-use Rattle.std.specs.Prelude.{◌&&◌, nat_le, encode_utf8}
-use Rattle.std.specs.Char.{len_utf8}
+use Rattle.saphyr_scalar.proofs.Common.{◌&&◌, nat_le, encode_utf8, len_utf8, nat_tests, encode_ascii, either}
 use Rattle.std.proofs.Math.Utf8.{encode}
-use Rattle.std.proofs.lemmas.Bool.Decides.{nat_tests}
-use Rattle.std.proofs.lemmas.Str.{encode_ascii}
 use Rattle.saphyr_scalar.specs.Values.Escapes.{IsScalarValue, is_scalar_value}
 use Rattle.saphyr_scalar.specs.Steps.Tag.{utf8_width, leading_bits, is_trailing, is_encoded}
 use Rattle.saphyr_scalar.proofs.Properties.EscapedBytes.{AreTrailing, joined_bytes, bits_one, bits_two, bits_three, bits_four}
-use Rattle.saphyr_input.proofs.Basics.Booleans.{either}
 
 pub scalar_is : (c : ℕ) → is_scalar_value c ≡ true → IsScalarValue c
 scalar_is c h = either (nat_lt c 0xD800) (nat_le 0xE000 c && nat_le c 0x10FFFF) (IsScalarValue c) h

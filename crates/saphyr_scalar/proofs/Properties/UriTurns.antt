@@ -1,11 +1,5 @@
 -- A turn of the reader of a URI's characters: those that begin no escape, and the escape after them or the end.
-use Rattle.std.proofs.Common.{◌≡◌, ℕ, ◌<◌, true, List, ◌++◌, length, slice_index, Result, Ok, Err, sym, ap, ◌∙◌, arith}
-use Rattle.std.specs.Prelude.{encode_utf8}
-use Rattle.saphyr_input.specs.Indicators.{percent_sign}
-use Rattle.saphyr_scalar.specs.declared.scalar.position.Marker.{Marker}
-use Rattle.saphyr_scalar.specs.declared.scalar.fault.Refusal.{Refusal}
-use Rattle.saphyr_scalar.specs.declared.scalar.tag.UriSet.{UriSet}
-use Rattle.saphyr_scalar.specs.Views.Cursor.{Cursor}
+use Rattle.saphyr_scalar.proofs.Common.{◌≡◌, ℕ, ◌<◌, true, List, ◌++◌, length, slice_index, Result, Ok, Err, sym, ap, ◌∙◌, arith, encode_utf8, percent_sign, Marker, Refusal, UriSet, Cursor}
 use Rattle.saphyr_scalar.specs.Steps.Quoted.{with_front, mid_line}
 use Rattle.saphyr_scalar.specs.Steps.Tag.{is_in_set, percent_escape, uri_character, decoded_at}
 use Rattle.saphyr_scalar.proofs.Properties.BareCharacters.{BareTurn, escape_in_set, escape_is_character}

@@ -1,9 +1,6 @@
 -- Spellings of quoted scalars in which no later line begins with a document marker, and each is indented.
-use Rattle.std.specs.Prelude.{◌||◌, ◌==◌}
-use Rattle.saphyr_input.specs.Indicators.{quotation_mark}
+use Rattle.saphyr_scalar.proofs.Common.{◌||◌, ◌==◌, quotation_mark, is_break, is_document_indicator, Item, Raw, Escaped, Break, EscapedBreak, Quote, Single, Double}
 use Rattle.std.proofs.Common.{◌≡◌, ℕ, List, [], ◌∷◌, ◌++◌, drop, slice_index, Some, IsTrue, IsFalse}
-use Rattle.saphyr_input.specs.Classes.{is_break}
-use Rattle.saphyr_input.specs.Places.{is_document_indicator}
 use Rattle.saphyr_scalar.specs.Values.Flow.{mark, raw_item, apostrophe, backslash}
 use Rattle.saphyr_scalar.specs.Values.Escapes.{short_escape}
 use Rattle.saphyr_scalar.specs.Spelling.OneLine.{IsNumber}
@@ -13,10 +10,6 @@ use Rattle.saphyr_scalar.specs.Spelling.IndentedQuotes.{HasIndentedLines}
 use Rattle.saphyr_scalar.specs.Spelling.QuotedMarkers.{HasNoMarker}
 use Rattle.saphyr_scalar.specs.Spelling.Quoted as quotes
 pub use Rattle.saphyr_scalar.specs.Spelling.Quoted.{stands_for_itself, IsQuotedText}
-use Rattle.saphyr_scalar.specs.declared.values.Item.{Item}
-use Rattle.saphyr_scalar.specs.declared.values.Item.TheVariants.{Raw, Escaped, Break, EscapedBreak}
-use Rattle.saphyr_scalar.specs.declared.values.Quote.{Quote}
-use Rattle.saphyr_scalar.specs.declared.values.Quote.TheVariants.{Single, Double}
 
 abbrev pub IsCleanText : ℕ → Quote → List ℕ → List Item → List ℕ → Type 0
 IsCleanText n q t items x =

@@ -1,9 +1,5 @@
 -- The bytes of a gap in a quoted scalar, and of the items after it.
-use Rattle.std.proofs.Common.{◌≡◌, ℕ, ◌+◌, Bool, true, false, List, [], ◌∷◌, ◌++◌, sym, ap, arith, encode_utf8_all, cond, append_assoc, zero-add, add-zero}
-use Rattle.std.specs.Prelude.{encode_utf8}
-use Rattle.std.proofs.lemmas.Str.{encodes-append}
-use Rattle.saphyr_scalar.specs.declared.values.Item.{Item}
-use Rattle.saphyr_scalar.specs.declared.values.Item.TheVariants.{Blank, Raw, Escaped, Break, EscapedBreak}
+use Rattle.saphyr_scalar.proofs.Common.{◌≡◌, ℕ, ◌+◌, Bool, true, false, List, [], ◌∷◌, ◌++◌, sym, ap, arith, encode_utf8_all, cond, append_assoc, zero-add, add-zero, encode_utf8, encodes-append, Item, Blank, Raw, Escaped, Break, EscapedBreak}
 use Rattle.saphyr_scalar.specs.Values.Folding.{is_before_break, empty_lines, line_feeds, folded_from}
 use Rattle.saphyr_scalar.specs.Steps.Quoted.{QuotedGap, on_line, over_lines, no_gap, break_in, folded_break}
 

@@ -1,22 +1,10 @@
 -- What is between the words of a quoted scalar, and its closing quote.
-use Rattle.std.proofs.Common.{◌≡◌, ℕ, ◌<◌, ◌≤◌, Bool, true, false, List, [], ◌∷◌, ◌++◌, length, length-drop, drop, slice_index, Result, Ok, refl, sym, ap, ◌∙◌, arith, IsTrue}
-use Rattle.std.specs.Prelude.{◌==◌, OnOk}
-use Rattle.std.proofs.lemmas.Bool.Decides.{nat_tests}
-use Rattle.std.proofs.lemmas.List.{append-nil}
-use Rattle.saphyr_input.specs.Classes.{is_z, is_blank, is_break}
-use Rattle.saphyr_scalar.specs.declared.scalar.position.Marker.{Marker}
-use Rattle.saphyr_scalar.specs.declared.scalar.fault.Refusal.{Refusal}
+use Rattle.saphyr_scalar.proofs.Common.{◌≡◌, ℕ, ◌<◌, ◌≤◌, Bool, true, false, List, [], ◌∷◌, ◌++◌, length, length-drop, drop, slice_index, Result, Ok, refl, sym, ap, ◌∙◌, arith, IsTrue, ◌==◌, OnOk, nat_tests, append-nil, is_z, is_blank, is_break, Marker, Refusal, Stop, Quote, Double, ReadsOn, Cursor, refuse, along, pass, pass_break, pass_line, next_line, backslash}
 use Rattle.saphyr_scalar.specs.declared.scalar.fault.FaultText.TheVariants as fault
-use Rattle.saphyr_scalar.specs.declared.scalar.fault.Stop.{Stop}
-use Rattle.saphyr_scalar.specs.declared.values.Quote.{Quote}
-use Rattle.saphyr_scalar.specs.declared.values.Quote.TheVariants.{Double}
-use Rattle.saphyr_scalar.specs.Views.Reader.{ReadsOn}
-use Rattle.saphyr_scalar.specs.Views.Cursor.{Cursor, refuse, along, pass, pass_break, pass_line, next_line}
 use Rattle.saphyr_scalar.specs.Values.Flow as flow
 use Rattle.saphyr_scalar.proofs.NoBreaks.{mark_no_nul}
 use Rattle.saphyr_scalar.proofs.Quoted.Inside.{front_twice, passed_over, behind_no_gap, at_break, at_end, flushed, Moved, moved_stops}
 use Rattle.saphyr_scalar.proofs.Quoted.Parts.{blanks_moved}
-use Rattle.saphyr_input.specs.Indicators.{backslash}
 use Rattle.saphyr_scalar.specs.Steps.Quoted.{is_literal, is_escaped_break, is_closing, ends_word, with_front, mid_line, special, on_line, over_lines, no_gap, escaped_gap, break_len, inner_text, inner_text_at}
 
 pub by_break_len : (s : Cursor) → is_break (slice_index s.rest 0) ≡ true → pass_break s ≡ pass_line (break_len s.rest) s

@@ -1,25 +1,10 @@
 -- The inside of a quoted scalar, read a piece at a time.
-use Rattle.std.proofs.Common.{◌≡◌, ℕ, zero, suc, ◌+◌, ◌<◌, Bool, true, false, List, [], ◌∷◌, ◌++◌, length, take, drop, slice_index, Result, Ok, Err, refl, sym, ap, ◌∙◌, arith, subst, encode_utf8_all, append_assoc, nat_eq, cond}
-use Rattle.std.specs.Prelude.{◌==◌, encode_utf8}
-use Rattle.std.specs.List.{prefix_len}
-use Rattle.std.proofs.lemmas.Bool.Decides.{nat_tests}
-use Rattle.std.proofs.lemmas.List.{append-nil}
-use Rattle.saphyr_input.specs.Classes.{is_z, is_blank, is_break, is_blank_or_breakz}
-use Rattle.saphyr_scalar.specs.declared.scalar.position.Marker.{Marker}
-use Rattle.saphyr_scalar.specs.declared.scalar.fault.Refusal.{Refusal}
+use Rattle.saphyr_scalar.proofs.Common.{◌≡◌, ℕ, zero, suc, ◌+◌, ◌<◌, Bool, true, false, List, [], ◌∷◌, ◌++◌, length, take, drop, slice_index, Result, Ok, Err, refl, sym, ap, ◌∙◌, arith, subst, encode_utf8_all, append_assoc, nat_eq, cond, ◌==◌, encode_utf8, prefix_len, nat_tests, append-nil, is_z, is_blank, is_break, is_blank_or_breakz, Marker, Refusal, IsErrAnd, Stop, Quote, ReadsOn, Cursor, ◌>>=◌, refuse, along, pass, pass_break, next_line, run_ends, neither_parts, by_test, either, backslash}
 use Rattle.saphyr_scalar.specs.declared.scalar.fault.FaultText.TheVariants as fault
-use Rattle.std.specs.Result.{IsErrAnd}
-use Rattle.saphyr_scalar.specs.declared.scalar.fault.Stop.{Stop}
 use Rattle.saphyr_scalar.specs.declared.scalar.fault.Stop.TheVariants as stop
-use Rattle.saphyr_scalar.specs.declared.values.Quote.{Quote}
-use Rattle.saphyr_scalar.specs.Views.Reader.{ReadsOn}
-use Rattle.saphyr_scalar.specs.Views.Cursor.{Cursor, ◌>>=◌, refuse, along, pass, pass_break, next_line}
 use Rattle.saphyr_scalar.specs.Values.Flow as flow
 use Rattle.saphyr_scalar.proofs.Moving.{along_none, along_more}
 use Rattle.saphyr_scalar.specs.Steps.Quoted.{TextRead, is_literal, with_front, mid_line, special, special_len, QuotedGap, on_line, no_gap, blank_in, break_in, end_gap, escaped_gap, break_len, if_some, inner_text, inner_text_at, quoted, with_run, with_blanks}
-use Rattle.saphyr_input.proofs.Basics.Lists.{run_ends}
-use Rattle.saphyr_input.proofs.Basics.Booleans.{neither_parts, by_test, either}
-use Rattle.saphyr_input.specs.Indicators.{backslash}
 
 pub front_twice : (a b : List ℕ) (read : TextRead) → with_front a (with_front b read) ≡ with_front (a ++ b) read
 front_twice a b (Ok x) = rw append_assoc refl

@@ -1,10 +1,6 @@
 -- A turn over a line after a break inside a quoted scalar: its spaces, and then a blank or a break. Lemmas on their
 -- own, since a tactic reads little here and much at a goal.
-use Rattle.std.proofs.Common.{◌≡◌, ℕ, ◌+◌, ◌^◌, ◌<◌, ◌≤◌, true, length, slice_index, sym, arith, subst}
-use Rattle.std.proofs.lemmas.Bool.{false≢true}
-use Rattle.saphyr_input.specs.Classes.{is_blank, is_break}
-use Rattle.saphyr_input.proofs.Basics.Lists.{shows_character, drop_one_shorter}
-use Rattle.saphyr_scalar.specs.Views.Cursor.{Cursor, pass_spaces, pass_blanks, pass_break}
+use Rattle.saphyr_scalar.proofs.Common.{◌≡◌, ℕ, ◌+◌, ◌^◌, ◌<◌, ◌≤◌, true, length, slice_index, sym, arith, subst, false≢true, is_blank, is_break, shows_character, drop_one_shorter, Cursor, pass_spaces, pass_blanks, pass_break}
 use Rattle.saphyr_scalar.proofs.Lengths.{below_at_most, at_most_below}
 use Rattle.saphyr_scalar.proofs.SpaceRuns.{spaces_shorter}
 use Rattle.saphyr_scalar.proofs.Quoted.Lines.{break_on_shorter}

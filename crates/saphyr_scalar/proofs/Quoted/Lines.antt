@@ -1,18 +1,9 @@
 -- The breaks inside a quoted scalar, and the lines after them.
 use Rattle.std.proofs.Common.{◌≡◌, ℕ, ◌+◌, ◌<◌, ◌≤◌, Bool, true, false, List, [], ◌∷◌, ◌++◌, length, slice_index, Result, Ok, Err, refl, sym, ap, ◌∙◌, arith, encode_utf8_all, nat_lt, cond, add-one}
-use Rattle.std.specs.Prelude.{◌&&◌, ◌==◌}
-use Rattle.std.proofs.lemmas.Bool.Decides.{nat_tests}
-use Rattle.saphyr_input.specs.Classes.{is_z, is_blank, is_break}
-use Rattle.saphyr_input.specs.Places.{is_document_indicator}
-use Rattle.saphyr_scalar.specs.declared.scalar.position.Marker.{Marker}
-use Rattle.saphyr_scalar.specs.declared.scalar.fault.Refusal.{Refusal}
+use Rattle.saphyr_scalar.proofs.Common.{◌&&◌, ◌==◌, nat_tests, is_z, is_blank, is_break, is_document_indicator, Marker, Refusal, Quote, Cursor, ◌>>=◌, refuse, pass_blanks, pass_break, and_false, lt-ltb}
 use Rattle.saphyr_scalar.specs.declared.scalar.fault.FaultText.TheVariants as fault
-use Rattle.saphyr_scalar.specs.declared.values.Quote.{Quote}
-use Rattle.saphyr_scalar.specs.Views.Cursor.{Cursor, ◌>>=◌, refuse, pass_blanks, pass_break}
 use Rattle.saphyr_scalar.proofs.Quoted.Inside.{front_twice, quoted_behind_gap, behind_no_gap, word_from, at_break}
 use Rattle.saphyr_scalar.specs.Steps.Quoted.{TextRead, with_front, mid_line, over_lines, no_gap, is_left, blank_in, folded_break, quoted_line, end_gap, inner_text, inner_text_at}
-use Rattle.saphyr_input.proofs.Basics.Booleans.{and_false}
-use Rattle.std.proofs.lemmas.Bool.{lt-ltb}
 use Rattle.saphyr_scalar.proofs.PassedBreaks.{break_shorter}
 
 -- a blank at the start of a line

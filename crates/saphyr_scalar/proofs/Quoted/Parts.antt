@@ -1,21 +1,10 @@
 -- What the calls that read a part of a quoted scalar leave.
-use Rattle.std.proofs.Common.{◌≡◌, ℕ, ◌+◌, ◌<◌, true, false, List, [], ◌∷◌, ◌++◌, length, drop, length-drop, slice_index, Result, Ok, Err, refl, sym, ap, ◌∙◌, arith, subst, IsTrue}
-use Rattle.std.specs.Prelude.{◌&&◌, ◌==◌, not, encode_utf8, Option, Some, None}
-use Rattle.saphyr_input.specs.Classes.{is_blank, is_break}
-use Rattle.saphyr_input.specs.Places.{next_2_are}
+use Rattle.saphyr_scalar.proofs.Common.{◌≡◌, ℕ, ◌+◌, ◌<◌, true, false, List, [], ◌∷◌, ◌++◌, length, drop, length-drop, slice_index, Result, Ok, Err, refl, sym, ap, ◌∙◌, arith, subst, IsTrue, ◌&&◌, ◌==◌, not, encode_utf8, Option, Some, None, is_blank, is_break, next_2_are, Marker, Refusal, Quote, Single, Double, Cursor, ◌>>=◌, along, pass, eqb-true, apostrophe, backslash, clash, and_true_left, and_true_right, and_false, by_test}
 use Rattle.saphyr_scalar.specs.Values.Escapes.{digit_count, short_escape}
-use Rattle.saphyr_scalar.specs.declared.scalar.position.Marker.{Marker}
-use Rattle.saphyr_scalar.specs.declared.scalar.fault.Refusal.{Refusal}
-use Rattle.saphyr_scalar.specs.declared.values.Quote.{Quote}
-use Rattle.saphyr_scalar.specs.declared.values.Quote.TheVariants.{Single, Double}
-use Rattle.saphyr_scalar.specs.Views.Cursor.{Cursor, ◌>>=◌, along, pass}
 use Rattle.saphyr_scalar.proofs.Moving.{bind_same}
 use Rattle.saphyr_scalar.proofs.Quoted.Escapes.{escape_place}
 use Rattle.saphyr_scalar.proofs.Quoted.Inside.{front_twice, passed_over, behind_no_gap, run_blanks, Moved, slash_left}
 use Rattle.saphyr_scalar.specs.Steps.Quoted.{is_literal, ends_word, hex_digit_count, escape_by_number, escape_of, escaped_character, with_front, mid_line, special, on_line, no_gap, inner_text, inner_text_at}
-use Rattle.std.proofs.lemmas.Bool.{eqb-true}
-use Rattle.saphyr_input.specs.Indicators.{apostrophe, backslash}
-use Rattle.saphyr_input.proofs.Basics.Booleans.{clash, and_true_left, and_true_right, and_false, by_test}
 
 -- A run that was put after a text.
 

@@ -1,16 +1,8 @@
 -- The piece of a text that is read as a quoted scalar, and what the standard reads of it.
 use Rattle.std.proofs.Common.{◌≡◌, ℕ, ◌+◌, ◌*◌, true, false, List, [], ◌∷◌, ◌++◌, length, drop, slice_index, Some, refl, sym, ap, ◌∙◌, arith, encode_utf8_all, nat_eq, IsTrue, append_assoc, inl, inr}
-use Rattle.std.specs.Prelude.{◌==◌, option_map, IsFalse}
-use Rattle.std.proofs.lemmas.Bool.Decides.{nat_tests}
-use Rattle.saphyr_input.specs.Classes.{is_break, is_hex, hex_value, carriage_return, line_feed}
-use Rattle.saphyr_input.specs.Breaks.{normalized}
-use Rattle.saphyr_scalar.specs.declared.values.Item.{Item}
-use Rattle.saphyr_scalar.specs.declared.values.Item.TheVariants.{Raw, Escaped, Break, EscapedBreak}
-use Rattle.saphyr_scalar.specs.declared.values.Quote.{Quote}
-use Rattle.saphyr_scalar.specs.declared.values.Quote.TheVariants.{Single, Double}
+use Rattle.saphyr_scalar.proofs.Common.{◌==◌, option_map, IsFalse, nat_tests, is_break, is_hex, hex_value, carriage_return, line_feed, normalized, Item, Raw, Escaped, Break, EscapedBreak, Quote, Single, Double, Cursor, normalized_other}
 use Rattle.saphyr_scalar.specs.Values.Escapes.{digit_count, hex_character, is_scalar_value, short_escape}
 use Rattle.saphyr_scalar.specs.Spelling.Tag.{AreIn}
-use Rattle.saphyr_scalar.specs.Views.Cursor.{Cursor}
 use Rattle.saphyr_scalar.specs.Values.Flow as flow
 use Rattle.saphyr_scalar.specs.Values.Folding.{folded}
 use Rattle.saphyr_scalar.specs.Spelling.OneLine as line
@@ -21,7 +13,6 @@ use Rattle.saphyr_scalar.proofs.Quoted.Inside.{break_cases}
 use Rattle.saphyr_scalar.proofs.Quoted.SpelledLines.{quoted_spelled}
 use Rattle.saphyr_scalar.proofs.Quoted.SpelledEscapes.{GaveText}
 use Rattle.saphyr_scalar.proofs.Readings.ItemsRead.{quoted_read}
-use Rattle.saphyr_input.proofs.Basics.Characters.{normalized_other}
 
 digits_number : (v : ℕ) (ds : List ℕ) → AreIn is_hex ds → IsTrue (is_scalar_value (line.hexadecimal_from v ds))
     → hex_character v ds ≡ Some (line.hexadecimal_from v ds)

@@ -1,13 +1,6 @@
 -- A quoted scalar is refused where it begins, or at a tab in the indentation of a line.
 use Rattle.std.proofs.Common.{◌≡◌, ℕ, zero, suc, ◌+◌, Bool, true, false, List, [], ◌∷◌, drop, slice_index, Result, Ok, Err, refl, sym, ap, ◌∙◌, arith, subst, encode_utf8}
-use Rattle.std.specs.Prelude.{◌&&◌, ◌||◌, ◌==◌, not, pred, Option, Some, None}
-use Rattle.saphyr_input.specs.Classes.{is_blank, is_break, is_hex}
-use Rattle.saphyr_input.specs.Places.{next_2_are}
-use Rattle.saphyr_scalar.specs.declared.values.Quote.{Quote}
-use Rattle.saphyr_scalar.specs.declared.values.Quote.TheVariants.{Single, Double}
-use Rattle.saphyr_scalar.specs.declared.scalar.fault.Refusal.{Refusal}
-use Rattle.saphyr_scalar.specs.declared.scalar.position.Marker.{Marker}
-use Rattle.saphyr_scalar.specs.Views.Cursor.{Cursor, ◌>>=◌, along, next_line, pass}
+use Rattle.saphyr_scalar.proofs.Common.{◌&&◌, ◌||◌, ◌==◌, not, pred, Option, Some, None, is_blank, is_break, is_hex, next_2_are, Quote, Single, Double, Refusal, Marker, Cursor, ◌>>=◌, along, next_line, pass, and_true_left, and_true_right, by_test, eqb-true, apostrophe, blank_no_break}
 use Rattle.saphyr_scalar.specs.Values.Flow as flow
 use Rattle.saphyr_scalar.specs.Passing.{IsPassed, nothing, character, line_break}
 use Rattle.saphyr_scalar.specs.Steps.Quoted.{is_literal, hex_digit_count, digits, escape_by_number, escape_of, escaped_character, TextRead, mid_line, special, special_len, QuotedGap, no_gap, blank_in, break_in, quoted_line, end_gap, escaped_gap, break_len, if_some, inner_text, quoted}
@@ -23,10 +16,6 @@ use Rattle.saphyr_scalar.proofs.Properties.Refused.{front_refused}
 use Rattle.saphyr_scalar.proofs.Quoted.SpelledEscapes.{escape_spelled, no_escape}
 use Rattle.saphyr_scalar.proofs.Quoted.SpelledWords.{special_of}
 use Rattle.saphyr_scalar.proofs.Quoted.SpelledLines.{gap_ended}
-use Rattle.saphyr_input.proofs.Basics.Booleans.{and_true_left, and_true_right, by_test}
-use Rattle.std.proofs.lemmas.Bool.{eqb-true}
-use Rattle.saphyr_input.specs.Indicators.{apostrophe}
-use Rattle.saphyr_input.proofs.Basics.Characters.{blank_no_break}
 use Rattle.saphyr_scalar.proofs.NoBreaks.{mark_no_break, mark_no_nul}
 
 -- ## Escapes and gaps, which are refused where the scalar begins

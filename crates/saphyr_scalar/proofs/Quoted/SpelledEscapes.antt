@@ -1,17 +1,7 @@
 -- What is read as an escape is spelled so.
-use Rattle.std.proofs.Common.{◌≡◌, ℕ, zero, suc, ◌+◌, ◌*◌, ◌≤◌, true, List, [], ◌∷◌, ◌++◌, length, length-append, drop, slice_index, Result, Ok, Err, refl, sym, ap, ◌∙◌, arith, subst, IsTrue}
-use Rattle.std.proofs.lemmas.Bool.{false≢true}
-use Rattle.std.specs.Prelude.{Option, Some, None}
-use Rattle.saphyr_input.specs.Indicators.{backslash}
-use Rattle.saphyr_input.specs.Classes.{is_hex, hex_value}
+use Rattle.saphyr_scalar.proofs.Common.{◌≡◌, ℕ, zero, suc, ◌+◌, ◌*◌, ◌≤◌, true, List, [], ◌∷◌, ◌++◌, length, length-append, drop, slice_index, Result, Ok, Err, refl, sym, ap, ◌∙◌, arith, subst, IsTrue, false≢true, Option, Some, None, backslash, is_hex, hex_value, Marker, Refusal, Item, Escaped, Double, Cursor, ◌>>=◌, along, pass, by_test}
 use Rattle.saphyr_scalar.specs.Values.Escapes.{digit_count, is_scalar_value, short_escape}
 use Rattle.saphyr_scalar.specs.Spelling.Tag.{AreIn}
-use Rattle.saphyr_scalar.specs.declared.scalar.position.Marker.{Marker}
-use Rattle.saphyr_scalar.specs.declared.scalar.fault.Refusal.{Refusal}
-use Rattle.saphyr_scalar.specs.declared.values.Item.{Item}
-use Rattle.saphyr_scalar.specs.declared.values.Item.TheVariants.{Escaped}
-use Rattle.saphyr_scalar.specs.declared.values.Quote.TheVariants.{Double}
-use Rattle.saphyr_scalar.specs.Views.Cursor.{Cursor, ◌>>=◌, along, pass}
 use Rattle.saphyr_scalar.specs.Steps.Quoted.{digits, character, escape_by_number, escape_of, escaped_character, with_front, mid_line}
 use Rattle.saphyr_scalar.specs.Spelling.OneLine as spelling
 use Rattle.saphyr_scalar.proofs.Quoted.Clean as quotes
@@ -19,7 +9,6 @@ use Rattle.saphyr_scalar.specs.Passing.{IsPassed}
 use Rattle.saphyr_scalar.specs.Passing as passing
 use Rattle.saphyr_scalar.proofs.Passings.{letter_passed, hex_no_break}
 use Rattle.saphyr_scalar.proofs.Quoted.Spellings.{no_break_simple, no_break_digits}
-use Rattle.saphyr_input.proofs.Basics.Booleans.{by_test}
 
 -- a reading that gave something
 abbrev pub Gave : Result (ℕ × Cursor) Refusal → ℕ → Cursor → Type 0

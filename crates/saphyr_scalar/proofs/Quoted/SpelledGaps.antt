@@ -1,15 +1,5 @@
 -- Blanks and breaks of a quoted scalar that is read are spelled so, and so is what is read after them.
-use Rattle.std.proofs.Common.{◌≡◌, ℕ, ◌+◌, ◌-◌, ◌≤◌, Bool, true, false, List, ◌∷◌, ◌++◌, length, drop, Result, refl, sym, ap, ◌∙◌, arith, IsTrue, subst}
-use Rattle.std.specs.Prelude.{◌&&◌, ◌==◌, nat_le, encode_utf8}
-use Rattle.std.proofs.lemmas.Bool.{le-leb, or_left, or_right}
-use Rattle.saphyr_input.specs.Classes.{is_blank, is_break, tab}
-use Rattle.saphyr_scalar.specs.declared.scalar.position.Marker.{Marker}
-use Rattle.saphyr_scalar.specs.declared.scalar.fault.Refusal.{Refusal}
-use Rattle.saphyr_scalar.specs.declared.values.Item.{Item}
-use Rattle.saphyr_scalar.specs.declared.values.Item.TheVariants.{Blank, Break}
-use Rattle.saphyr_scalar.specs.declared.values.Quote.{Quote}
-use Rattle.saphyr_scalar.specs.declared.values.Quote.TheVariants.{Single, Double}
-use Rattle.saphyr_scalar.specs.Views.Cursor.{Cursor, ◌>>=◌, along, pass_line}
+use Rattle.saphyr_scalar.proofs.Common.{◌≡◌, ℕ, ◌+◌, ◌-◌, ◌≤◌, Bool, true, false, List, ◌∷◌, ◌++◌, length, drop, Result, refl, sym, ap, ◌∙◌, arith, IsTrue, subst, ◌&&◌, ◌==◌, nat_le, encode_utf8, le-leb, or_left, or_right, is_blank, is_break, tab, Marker, Refusal, Item, Blank, Break, Quote, Single, Double, Cursor, ◌>>=◌, along, pass_line, by_test, blank_cases, blank_no_break}
 use Rattle.saphyr_scalar.specs.Values.Flow as flow
 use Rattle.saphyr_scalar.specs.Steps.Quoted.{mid_line, QuotedGap, on_line, over_lines, is_left, blank_in, break_in, break_len, inner_text, inner_text_at}
 use Rattle.saphyr_scalar.proofs.Quoted.Clean as quotes
@@ -19,8 +9,6 @@ use Rattle.saphyr_scalar.specs.Passing.{IsPassed, character, line_break}
 use Rattle.saphyr_scalar.proofs.Quoted.Inside.{break_cases, one_blank, at_break}
 use Rattle.saphyr_scalar.proofs.Quoted.Gaps.{by_break_len}
 use Rattle.saphyr_scalar.proofs.Quoted.SpelledEscapes.{GaveText, nothing_text}
-use Rattle.saphyr_input.proofs.Basics.Booleans.{by_test}
-use Rattle.saphyr_input.proofs.Basics.Characters.{blank_cases, blank_no_break}
 use Rattle.saphyr_scalar.proofs.Quoted.GapBytes.{gap_bytes, blank_bytes, break_bytes}
 
 -- a line began

@@ -1,13 +1,5 @@
 -- The words of a quoted scalar that is read are spelled so, and its closing quote.
-use Rattle.std.proofs.Common.{◌≡◌, ℕ, ◌≤◌, Bool, true, false, List, [], ◌∷◌, ◌++◌, length, drop, slice_index, refl, sym, ap, ◌∙◌, arith, subst, IsTrue, cond}
-use Rattle.std.specs.Prelude.{◌==◌, encode_utf8}
-use Rattle.saphyr_input.specs.Classes.{is_break}
-use Rattle.saphyr_scalar.specs.declared.scalar.position.Marker.{Marker}
-use Rattle.saphyr_scalar.specs.declared.values.Item.{Item}
-use Rattle.saphyr_scalar.specs.declared.values.Item.TheVariants.{Raw, Escaped, EscapedBreak}
-use Rattle.saphyr_scalar.specs.declared.values.Quote.{Quote}
-use Rattle.saphyr_scalar.specs.declared.values.Quote.TheVariants.{Single, Double}
-use Rattle.saphyr_scalar.specs.Views.Cursor.{Cursor, along, next_line}
+use Rattle.saphyr_scalar.proofs.Common.{◌≡◌, ℕ, ◌≤◌, Bool, true, false, List, [], ◌∷◌, ◌++◌, length, drop, slice_index, refl, sym, ap, ◌∙◌, arith, subst, IsTrue, cond, ◌==◌, encode_utf8, is_break, Marker, Item, Raw, Escaped, EscapedBreak, Quote, Single, Double, Cursor, along, next_line, eqb-true, or_right, apostrophe, backslash, quotation_mark, either, or_false_left, drop_shorter}
 use Rattle.saphyr_scalar.specs.Values.Flow as flow
 use Rattle.saphyr_scalar.specs.Steps.Quoted.{is_literal, mid_line, QuotedGap, over_lines, no_gap, escaped_gap, break_len, is_closing, escaped_character, inner_text, inner_text_at}
 use Rattle.saphyr_scalar.specs.Spelling.LaterLines.{is_quoted_line}
@@ -19,10 +11,6 @@ use Rattle.saphyr_scalar.proofs.Quoted.Inside.{IsQuotedContent, stands}
 use Rattle.saphyr_scalar.proofs.Quoted.Parts.{at_escape, at_two_quotes}
 use Rattle.saphyr_scalar.proofs.Quoted.Gaps.{at_escaped_break, at_closing}
 use Rattle.saphyr_scalar.proofs.Quoted.SpelledEscapes.{GaveText, text_first, text_second, then_text, front_gave, escape_spelled, no_escape}
-use Rattle.std.proofs.lemmas.Bool.{eqb-true, or_right}
-use Rattle.saphyr_input.specs.Indicators.{apostrophe, backslash, quotation_mark}
-use Rattle.saphyr_input.proofs.Basics.Booleans.{either, or_false_left}
-use Rattle.saphyr_input.proofs.Basics.Lists.{drop_shorter}
 use Rattle.saphyr_scalar.proofs.NoBreaks.{mark_no_break}
 use Rattle.saphyr_scalar.proofs.Quoted.GapBytes.{gap_bytes, gap_front, closed_bytes, raw_bytes, escaped_bytes, escaped_break_bytes}
 use Rattle.saphyr_scalar.proofs.Quoted.SpelledGaps.{Spelled, Known}

@@ -1,13 +1,7 @@
 -- An escape that is spelled is read, without a fault, and gives its character.
-use Rattle.std.proofs.Common.{◌≡◌, ℕ, suc, Bool, true, false, List, [], ◌∷◌, ◌++◌, length, Ok, refl, sym, ap, ◌∙◌, arith}
-use Rattle.std.proofs.lemmas.Option.{none-some}
-use Rattle.std.specs.Prelude.{Option, Some, None}
-use Rattle.saphyr_input.specs.Indicators.{backslash}
-use Rattle.saphyr_input.specs.Classes.{is_break, is_hex}
+use Rattle.saphyr_scalar.proofs.Common.{◌≡◌, ℕ, suc, Bool, true, false, List, [], ◌∷◌, ◌++◌, length, Ok, refl, sym, ap, ◌∙◌, arith, none-some, Option, Some, None, backslash, is_break, is_hex, Marker, along}
 use Rattle.saphyr_scalar.specs.Values.Escapes.{digit_count, short_escape}
 use Rattle.saphyr_scalar.specs.Spelling.Tag.{AreIn}
-use Rattle.saphyr_scalar.specs.declared.scalar.position.Marker.{Marker}
-use Rattle.saphyr_scalar.specs.Views.Cursor.{along}
 use Rattle.saphyr_scalar.specs.Steps.Quoted.{digits, character, escape_by_number, escape_of, escaped_character, mid_line}
 use Rattle.saphyr_scalar.specs.Spelling.OneLine as spelling
 use Rattle.saphyr_scalar.proofs.Moving.{along_none, along_more}

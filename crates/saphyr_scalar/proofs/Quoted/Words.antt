@@ -1,15 +1,5 @@
 -- Words between quotes, and single spaces between them, taken off in one piece.
-use Rattle.std.proofs.Common.{◌≡◌, ℕ, Bool, true, false, List, [], ◌∷◌, length-drop, slice_index, refl, ◌∙◌, arith}
-use Rattle.std.specs.Prelude.{◌&&◌, ◌==◌, encode_utf8}
-use Rattle.std.proofs.lemmas.Bool.Decides.{nat_tests}
-use Rattle.std.proofs.lemmas.Bool.{not-true}
-use Rattle.saphyr_input.specs.Classes.{is_blank_or_breakz}
-use Rattle.saphyr_input.specs.Places.{goes_on}
-use Rattle.saphyr_input.proofs.WordRuns.{words_stop}
-use Rattle.saphyr_input.proofs.Basics.Booleans.{either, or_false_left}
-use Rattle.saphyr_scalar.specs.declared.scalar.position.Marker.{Marker}
-use Rattle.saphyr_scalar.specs.declared.values.Quote.{Quote}
-use Rattle.saphyr_scalar.specs.Views.Cursor.{Cursor, along}
+use Rattle.saphyr_scalar.proofs.Common.{◌≡◌, ℕ, Bool, true, false, List, [], ◌∷◌, length-drop, slice_index, refl, ◌∙◌, arith, ◌&&◌, ◌==◌, encode_utf8, nat_tests, not-true, is_blank_or_breakz, goes_on, words_stop, either, or_false_left, Marker, Quote, Cursor, along}
 use Rattle.saphyr_scalar.specs.Steps.Quoted.{is_literal, with_front, no_gap, inner_text, WordsMoved, QuotedWordsMoved}
 use Rattle.saphyr_scalar.specs.Steps.Sets.{is_content, joins_quoted}
 use Rattle.saphyr_scalar.proofs.Quoted.Inside.{front_twice, no_front, content_of, stands, one_blank, flushed}

@@ -1,7 +1,5 @@
 -- Breaks with blanks round them, before a character.
-use Rattle.std.proofs.Common.{◌≡◌, ℕ, zero, suc, Bool, true, false, List, [], ◌∷◌, ◌++◌, refl, ◌∙◌, ap, cond, append_assoc}
-use Rattle.saphyr_scalar.specs.declared.values.Item.{Item}
-use Rattle.saphyr_scalar.specs.declared.values.Item.TheVariants.{Blank, Raw, Escaped, Break, EscapedBreak}
+use Rattle.saphyr_scalar.proofs.Common.{◌≡◌, ℕ, zero, suc, Bool, true, false, List, [], ◌∷◌, ◌++◌, refl, ◌∙◌, ap, cond, append_assoc, Item, Blank, Raw, Escaped, Break, EscapedBreak}
 use Rattle.saphyr_scalar.specs.Values.Folding.{is_before_break, empty_lines, line_feeds, raw_break, folded_from, folded, AreBlankItems, AreBreaks, FoldsBreaks}
 
 -- blanks at a line's start

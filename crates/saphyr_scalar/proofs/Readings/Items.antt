@@ -1,10 +1,7 @@
 -- The items of a quoted scalar, one after another.
 use Rattle.std.proofs.Common.{◌≡◌, ℕ, zero, suc, ◌<◌, false, List, [], ◌∷◌, drop, Some, refl, arith}
-use Rattle.std.specs.Prelude.{option_map}
-use Rattle.saphyr_scalar.specs.declared.values.Item.{Item}
-use Rattle.saphyr_scalar.specs.declared.values.Quote.{Quote}
+use Rattle.saphyr_scalar.proofs.Common.{option_map, Item, Quote, cond-false}
 use Rattle.saphyr_scalar.specs.Values.Flow.{is_closing_at_end, first_item, items_to_quote}
-use Rattle.std.proofs.lemmas.Bool.{cond-false}
 
 -- what belongs to an item that was read is passed over
 pub passed_over : (quote : Quote) (taken : ℕ) (text : List ℕ)

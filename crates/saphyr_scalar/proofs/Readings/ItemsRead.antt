@@ -1,19 +1,11 @@
 -- Each spelling of a quoted scalar is read.
 use Rattle.std.proofs.Common.{◌≡◌, ℕ, zero, false, List, [], ◌∷◌, ◌++◌, length, Option, Some, None, refl, sym, ◌∙◌, ap, subst, arith, append_assoc, inl, inr, add-one}
-use Rattle.std.specs.Prelude.{option_map, option_and_then, ◌==◌}
-use Rattle.std.proofs.Math.Seq.{take-append_seam, drop-append_seam}
+use Rattle.saphyr_scalar.proofs.Common.{option_map, option_and_then, ◌==◌, take-append_seam, drop-append_seam, nat_tests, line_feed, Item, Blank, Raw, Escaped, Break, EscapedBreak, Quote, Single, Double, cond-false}
 use Rattle.std.proofs.lemmas.List.{length-append}
-use Rattle.std.proofs.lemmas.Bool.Decides.{nat_tests}
-use Rattle.saphyr_input.specs.Classes.{line_feed}
 use Rattle.saphyr_scalar.specs.Values.Escapes.{short_escape, digit_count, hex_character, long_escape, escape_named, escape}
 use Rattle.saphyr_scalar.specs.Values.Flow.{mark, first_item, is_closing_at_end, items_to_quote, quoted_items}
 use Rattle.saphyr_scalar.specs.Values.Items.{IsItself, IsEscape, IsSpelling, Spells, IsSpelledQuote}
-use Rattle.saphyr_scalar.specs.declared.values.Item.{Item}
-use Rattle.saphyr_scalar.specs.declared.values.Item.TheVariants.{Blank, Raw, Escaped, Break, EscapedBreak}
-use Rattle.saphyr_scalar.specs.declared.values.Quote.{Quote}
-use Rattle.saphyr_scalar.specs.declared.values.Quote.TheVariants.{Single, Double}
 use Rattle.saphyr_scalar.proofs.Readings.Items.{one_item}
-use Rattle.std.proofs.lemmas.Bool.{cond-false}
 use Rattle.saphyr_input.proofs.Basics.Numbers.{equal_by_test}
 
 -- the name of a short escape is not a break

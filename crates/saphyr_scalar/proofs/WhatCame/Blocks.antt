@@ -1,13 +1,7 @@
 -- Block scalars.
 use Rattle.std.proofs.Common.{◌≡◌, ℕ, ◌+◌, Bool, true, false, List, [], ◌∷◌, ◌++◌, drop, slice_index, Option, Some, None, Ok, refl, ap, arith}
-use Rattle.std.specs.Prelude.{◌&&◌, ◌==◌, not, nat_lt, nat_le, unwrap_or, if◌then◌else◌}
-use Rattle.saphyr_input.specs.Classes.{is_breakz, is_blank, is_digit, is_z, is_yaml_non_break}
-use Rattle.saphyr_scalar.specs.declared.values.BlockStyle.{BlockStyle}
-use Rattle.saphyr_scalar.specs.declared.values.Chomping.{Chomping}
-use Rattle.saphyr_scalar.specs.declared.values.Chomping.TheVariants.{Strip, Clip, Keep}
-use Rattle.saphyr_scalar.specs.declared.scalar.position.Marker.{Marker}
+use Rattle.saphyr_scalar.proofs.Common.{◌&&◌, ◌==◌, not, nat_lt, nat_le, unwrap_or, if◌then◌else◌, is_breakz, is_blank, is_digit, is_z, is_yaml_non_break, BlockStyle, Chomping, Strip, Clip, Keep, Marker, Cursor, ◌>>=◌, refuse, along, next_line, pass, pass_break}
 use Rattle.saphyr_scalar.specs.declared.scalar.fault.FaultText.TheVariants as fault
-use Rattle.saphyr_scalar.specs.Views.Cursor.{Cursor, ◌>>=◌, refuse, along, next_line, pass, pass_break}
 use Rattle.saphyr_scalar.specs.Steps.Block.{EmptyLinesRead, LinesRead, chomping, indicator, header_break, header_end, last_chomping, header_behind, header, is_indentation, inside_break, with_empty_line, pass_empty_lines, line_starts, break_before, lines_behind_text, between, line, is_unfinished, tail_alone, given_indentation, chomped_lines, content, behind_leading_lines, no_lines, behind_header, block_scalar}
 use Rattle.saphyr_scalar.specs.Known.{is_open, longer}
 use Rattle.saphyr_scalar.proofs.WhatCame.Rests.{is_nothing, some, enough_before, shows, shows_is, later_here, later_drop, first_known, indicator_known, drop_known}

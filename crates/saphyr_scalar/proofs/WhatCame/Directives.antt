@@ -1,9 +1,6 @@
 -- Directives.
 use Rattle.std.proofs.Common.{ℕ, suc, ◌+◌, ◌-◌, ◌*◌, false, List, [], ◌∷◌, ◌++◌, length, drop, Ok, refl, encode_utf8, codes}
-use Rattle.std.specs.Prelude.{◌||◌, ◌==◌, nat_lt, bytes_eq}
-use Rattle.saphyr_input.specs.Classes.{is_blank, is_breakz, is_blank_or_breakz, is_digit, is_alpha, is_tag_char, is_yaml_non_space, is_yaml_non_break}
-use Rattle.saphyr_scalar.specs.declared.scalar.position.Marker.{Marker}
-use Rattle.saphyr_scalar.specs.Views.Cursor.{Cursor, along, pass}
+use Rattle.saphyr_scalar.proofs.Common.{◌||◌, ◌==◌, nat_lt, bytes_eq, is_blank, is_breakz, is_blank_or_breakz, is_digit, is_alpha, is_tag_char, is_yaml_non_space, is_yaml_non_break, Marker, Cursor, along, pass}
 use Rattle.saphyr_scalar.specs.Steps.Quoted.{mid_line, with_run}
 use Rattle.saphyr_scalar.specs.Steps.Tag.{handle_of}
 use Rattle.saphyr_scalar.specs.Steps.Directive.{directive_name_of, name, number_end, number_from, number, behind_major, version_directive, handle_behind_word, handle, prefix, behind_prefix, tag_directive, value, line_end, directive}

@@ -1,11 +1,6 @@
 -- Names of anchors and aliases, and tags.
 use Rattle.std.proofs.Common.{◌≡◌, ℕ, zero, suc, ◌-◌, ◌<◌, Bool, true, false, List, [], ◌∷◌, ◌++◌, length, drop, slice_index, Ok, refl, ap, ◌∙◌, encode_utf8}
-use Rattle.std.specs.Prelude.{◌&&◌, ◌||◌, ◌==◌}
-use Rattle.std.proofs.lemmas.List.{drop-drop}
-use Rattle.saphyr_input.specs.Classes.{is_hex, is_anchor_char, is_alpha, is_blank_or_breakz, is_flow}
-use Rattle.saphyr_input.proofs.Basics.Booleans.{and_true_right}
-use Rattle.saphyr_scalar.specs.declared.scalar.position.Marker.{Marker}
-use Rattle.saphyr_scalar.specs.Views.Cursor.{Cursor, pass}
+use Rattle.saphyr_scalar.proofs.Common.{◌&&◌, ◌||◌, ◌==◌, drop-drop, is_hex, is_anchor_char, is_alpha, is_blank_or_breakz, is_flow, and_true_right, Marker, Cursor, pass}
 use Rattle.saphyr_scalar.specs.Steps.Quoted.{TextRead, with_front, with_run, mid_line}
 use Rattle.saphyr_scalar.specs.Steps.Anchor.{anchor, anchor_name_of}
 use Rattle.saphyr_scalar.specs.Steps.Tag.{is_encoded, is_trailing, CharacterSet, is_in_set, byte_value, shows_byte, escaped_byte, utf8_width, leading_bits, trailing_byte, trailing_bytes, encoded_character, behind_leading_byte, percent_escape, uri_character, decoded_at, verbatim_end, verbatim_tag, named_tag, named_tail, primary_tag, tag_behind_word, shorthand_tag, tag_end, tag}

@@ -1,12 +1,6 @@
 -- Plain scalars.
 use Rattle.std.proofs.Common.{◌≡◌, ℕ, ◌<◌, Bool, true, false, List, [], ◌∷◌, ◌++◌, length, slice_index, Result, Ok, refl, ◌∙◌, arith, encode_utf8}
-use Rattle.std.specs.Prelude.{◌&&◌, ◌||◌, ◌==◌, not, nat_lt, Option, if◌then◌else◌}
-use Rattle.saphyr_input.specs.Classes.{is_break, is_blank, is_z, is_bom, is_flow, tab, line_feed}
-use Rattle.saphyr_input.specs.Places.{is_document_indicator, is_blank_or_break}
-use Rattle.saphyr_input.proofs.Basics.Booleans.{and_true_left}
-use Rattle.saphyr_scalar.specs.declared.scalar.position.Marker.{Marker}
-use Rattle.saphyr_scalar.specs.declared.scalar.fault.Refusal.{Refusal}
-use Rattle.saphyr_scalar.specs.Views.Cursor.{Cursor, along, next_line, pass_break}
+use Rattle.saphyr_scalar.proofs.Common.{◌&&◌, ◌||◌, ◌==◌, not, nat_lt, Option, if◌then◌else◌, is_break, is_blank, is_z, is_bom, is_flow, tab, line_feed, is_document_indicator, is_blank_or_break, and_true_left, Marker, Refusal, Cursor, along, next_line, pass_break}
 use Rattle.saphyr_scalar.specs.Steps.Quoted.{mid_line, with_run}
 use Rattle.saphyr_scalar.specs.Steps.Plain.{seen_gap, is_in_word, word_starts, PlainGap, content_behind_tab, reached_gap, line_front, ends_line, lines, next_lines, gap_from, gap, next_word_starts, comment_of, PlainScalarRead, with_text, scalar_end, word, plain}
 use Rattle.saphyr_scalar.proofs.Plain.Gaps.{gap_end}

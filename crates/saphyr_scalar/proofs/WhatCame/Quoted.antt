@@ -1,15 +1,6 @@
 -- Quoted scalars.
 use Rattle.std.proofs.Common.{◌≡◌, ℕ, zero, suc, ◌+◌, ◌*◌, true, false, List, [], ◌∷◌, ◌++◌, drop, slice_index, Option, Some, None, Ok, refl, sym, subst, arith, encode_utf8}
-use Rattle.std.specs.Prelude.{◌&&◌, ◌==◌, not, pred, if◌then◌else◌}
-use Rattle.std.proofs.lemmas.Bool.Decides.{nat_tests}
-use Rattle.saphyr_input.specs.Classes.{is_blank, is_z, is_break, is_hex, hex_value}
-use Rattle.saphyr_input.specs.Places.{is_document_indicator}
-use Rattle.saphyr_input.proofs.Basics.Booleans.{and_true_left}
-use Rattle.saphyr_input.specs.Indicators.{backslash}
-use Rattle.saphyr_scalar.specs.declared.values.Quote.{Quote}
-use Rattle.saphyr_scalar.specs.declared.values.Quote.TheVariants.{Single, Double}
-use Rattle.saphyr_scalar.specs.declared.scalar.position.Marker.{Marker}
-use Rattle.saphyr_scalar.specs.Views.Cursor.{Cursor, along, next_line}
+use Rattle.saphyr_scalar.proofs.Common.{◌&&◌, ◌==◌, not, pred, if◌then◌else◌, nat_tests, is_blank, is_z, is_break, is_hex, hex_value, is_document_indicator, and_true_left, backslash, Quote, Single, Double, Marker, Cursor, along, next_line}
 use Rattle.saphyr_scalar.specs.Values.Flow as flow
 use Rattle.saphyr_scalar.specs.Values.Escapes.{short_escape, digit_count, is_scalar_value}
 use Rattle.saphyr_scalar.specs.Steps.Quoted.{TextRead, mid_line, with_front, is_literal, digits, character, escape_by_number, escape_of, escaped_character, special, special_len, QuotedGap, on_line, over_lines, blank_in, break_in, break_len, end_gap, quoted_line, is_left, escaped_gap, if_some, no_gap, inner_text, quoted}

@@ -1,12 +1,6 @@
 -- A rest that is not open shows what it is, whatever comes behind it.
-use Rattle.std.proofs.Common.{◌≡◌, ℕ, zero, suc, ◌+◌, Bool, true, false, List, [], ◌∷◌, ◌++◌, take, drop, slice_index, refl, sym, ap, ◌∙◌, subst, arith, cond}
-use Rattle.std.specs.Prelude.{◌&&◌, ◌==◌}
-use Rattle.std.specs.List.{prefix_len}
-use Rattle.std.proofs.lemmas.Bool.Decides.{nat_tests}
+use Rattle.saphyr_scalar.proofs.Common.{◌≡◌, ℕ, zero, suc, ◌+◌, Bool, true, false, List, [], ◌∷◌, ◌++◌, take, drop, slice_index, refl, sym, ap, ◌∙◌, subst, arith, cond, ◌&&◌, ◌==◌, prefix_len, nat_tests, is_blank_or_breakz, is_z, is_blank, is_flow, next_3_are, is_document_start, is_document_end, is_document_indicator, can_be_plain, by_test}
 use Rattle.std.proofs.lemmas.List.{append_assoc, take-append-drop}
-use Rattle.saphyr_input.specs.Classes.{is_blank_or_breakz, is_z, is_blank, is_flow}
-use Rattle.saphyr_input.specs.Places.{next_3_are, is_document_start, is_document_end, is_document_indicator, can_be_plain}
-use Rattle.saphyr_input.proofs.Basics.Booleans.{by_test}
 use Rattle.saphyr_scalar.specs.Spelling.LineBreaks.{break_len}
 use Rattle.saphyr_scalar.specs.Known.{is_open, begins_marker, may_be_open, IsRestOfText}
 

@@ -1,15 +1,6 @@
 -- Characters that are taken off, runs, breaks, and white space with a comment.
-use Rattle.std.proofs.Common.{◌≡◌, ℕ, ◌+◌, Bool, true, false, List, ◌++◌, drop, slice_index, Result, Ok, refl, ap, arith, cond}
-use Rattle.std.specs.Prelude.{◌&&◌, ◌==◌, nat_lt}
-use Rattle.std.specs.List.{prefix_len}
-use Rattle.std.proofs.lemmas.List.{drop-drop}
-use Rattle.std.proofs.lemmas.Bool.Decides.{nat_tests}
-use Rattle.saphyr_input.specs.Classes.{is_break, is_bom, is_yaml_non_break}
-use Rattle.saphyr_input.specs.Separation.{is_skipped, blank_len, comment_len, is_bare_comment, separation_len}
-use Rattle.saphyr_input.specs.declared.input.SkipTabs.{SkipTabs}
-use Rattle.saphyr_input.proofs.Basics.Booleans.{by_test, and_true_left, and_true_right}
+use Rattle.saphyr_scalar.proofs.Common.{◌≡◌, ℕ, ◌+◌, Bool, true, false, List, ◌++◌, drop, slice_index, Result, Ok, refl, ap, arith, cond, ◌&&◌, ◌==◌, nat_lt, prefix_len, drop-drop, nat_tests, is_break, is_bom, is_yaml_non_break, is_skipped, blank_len, comment_len, is_bare_comment, separation_len, SkipTabs, by_test, and_true_left, and_true_right, Refusal}
 use Rattle.saphyr_scalar.specs.Spelling.LineBreaks.{break_len}
-use Rattle.saphyr_scalar.specs.declared.scalar.fault.Refusal.{Refusal}
 use Rattle.saphyr_scalar.specs.Views.Cursor.{Cursor, pass, pass_blanks, pass_break, pass_line, behind_separation, separation}
 use Rattle.saphyr_scalar.specs.Steps.Quoted.{with_run}
 use Rattle.saphyr_scalar.specs.Known.{longer}

@@ -1,10 +1,5 @@
 -- Steps that give the same where more of the text comes, one after another.
-use Rattle.std.proofs.Common.{◌≡◌, ℕ, Bool, true, false, List, [], ◌∷◌, ◌++◌, slice_index, Result, Ok, Err, refl, ap, ◌∙◌, arith, cond}
-use Rattle.std.specs.Prelude.{◌&&◌, ◌||◌, ◌==◌}
-use Rattle.std.proofs.lemmas.Bool.Decides.{nat_tests}
-use Rattle.saphyr_input.specs.Classes.{is_break}
-use Rattle.saphyr_scalar.specs.declared.scalar.fault.Refusal.{Refusal}
-use Rattle.saphyr_scalar.specs.Views.Cursor.{Cursor, ◌>>=◌}
+use Rattle.saphyr_scalar.proofs.Common.{◌≡◌, ℕ, Bool, true, false, List, [], ◌∷◌, ◌++◌, slice_index, Result, Ok, Err, refl, ap, ◌∙◌, arith, cond, ◌&&◌, ◌||◌, ◌==◌, nat_tests, is_break, Refusal, Cursor, ◌>>=◌}
 use Rattle.saphyr_scalar.specs.Steps.Block.{is_cr_lf}
 use Rattle.saphyr_scalar.specs.Known.{is_open, longer, is_seen, IsRestOfText}
 use Rattle.saphyr_scalar.proofs.WhatCame.Rests.{later_here, later_on, later_than, lacks, enough_of, some_of, nothing_lacks, enough_before, left_enough, right_enough, is_nothing, first_known}

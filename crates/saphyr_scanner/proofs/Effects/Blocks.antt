@@ -1,14 +1,6 @@
 -- What each step of block collections does.
-use Rattle.std.proofs.Common.{◌≡◌, ℕ, ◌+◌, ◌≤◌, Bool, true, false, [], ◌∷◌, None, refl, sym, ap, ◌∙◌, arith, inl, inr, IsTrue}
-use Rattle.std.specs.Prelude.{◌&&◌, ◌||◌, ◌==◌, slice_index, not, if◌then◌else◌, nat_le}
-use Rattle.saphyr_input.specs.Classes.{is_break, is_flow, is_blank_or_breakz}
-use Rattle.saphyr_input.specs.Separation.{found_tabs}
-use Rattle.saphyr_scalar.specs.declared.scalar.position.Marker.{Marker}
-use Rattle.saphyr_scalar.specs.declared.scalar.position.Span.{Span}
-use Rattle.saphyr_scalar.specs.Views.Cursor.{Cursor, ◌>>=◌, pass}
-use Rattle.saphyr_scanner.specs.declared.engine.level.Context.{Context}
+use Rattle.saphyr_scanner.proofs.Common.{◌≡◌, ℕ, ◌+◌, ◌≤◌, Bool, true, false, [], ◌∷◌, None, refl, sym, ap, ◌∙◌, arith, inl, inr, IsTrue, ◌&&◌, ◌||◌, ◌==◌, slice_index, not, if◌then◌else◌, nat_le, is_break, is_flow, is_blank_or_breakz, found_tabs, Marker, Span, Cursor, ◌>>=◌, pass, Context, Piece, by_test, second_is, not-false, hyphen, question_mark}
 use Rattle.saphyr_scanner.specs.Grammar.Tokens as tokens
-use Rattle.saphyr_scanner.specs.Views.Tokens.{Piece}
 use Rattle.saphyr_scanner.specs.Steps.Gap.{spaces_at}
 use Rattle.saphyr_scanner.specs.Steps.Queue.{empty_piece}
 use Rattle.saphyr_scanner.specs.Steps.Core.{Core, at_mark, up_to_here, in_block, forget_key, remove_key, is_further, enter_block, with_context, completed_step}
@@ -33,10 +25,6 @@ use Rattle.saphyr_scanner.proofs.Effects.Flow.{has_some}
 use Rattle.saphyr_scanner.proofs.Taken.Later.{apart_later}
 use Rattle.saphyr_scanner.proofs.Taken.Places.{Reaches, reaches_reaches, at_here}
 use Rattle.saphyr_scanner.proofs.Taken.Separated.{spaces_apart}
-use Rattle.saphyr_input.proofs.Basics.Booleans.{by_test}
-use Rattle.saphyr_input.proofs.Basics.Lists.{second_is}
-use Rattle.std.proofs.lemmas.Bool.{not-false}
-use Rattle.saphyr_input.specs.Indicators.{hyphen, question_mark}
 
 reaches_on : (s t u : Cursor) → Reaches s t → AreApart t u → Reaches s u
 reaches_on s t u a p = reaches_reaches s t u a (apart_reached t.mark t.rest u.mark u.rest p)

@@ -1,18 +1,6 @@
 -- What each step of documents does: markers, byte order marks and directives.
-use Rattle.std.proofs.Common.{◌≡◌, ℕ, ◌+◌, ◌≤◌, ◌<◌, ◌⊎◌, Bool, true, false, List, [], ◌∷◌, ◌++◌, length, drop, None, Result, Ok, Err, refl, sym, ap, ◌∙◌, arith, subst, inl, inr}
-use Rattle.std.specs.Prelude.{◌&&◌, ◌||◌, ◌==◌, slice_index, not, nat_lt, codes}
-use Rattle.saphyr_input.specs.Classes.{is_bom, is_break, is_breakz, is_blank_or_breakz, byte_order_mark}
-use Rattle.saphyr_input.specs.Places.{is_document_end, next_3_are}
-use Rattle.saphyr_input.specs.declared.input.SkipTabs.{SkipTabs}
-use Rattle.saphyr_scalar.specs.declared.scalar.position.Marker.{Marker}
-use Rattle.saphyr_scalar.specs.declared.scalar.position.Span.{Span}
-use Rattle.saphyr_scalar.specs.declared.scalar.fault.Refusal.{Refusal}
-use Rattle.saphyr_scalar.specs.Views.Cursor.{Cursor, ◌>>=◌, along, pass, pass_break}
+use Rattle.saphyr_scanner.proofs.Common.{◌≡◌, ℕ, ◌+◌, ◌<◌, Bool, true, false, List, [], ◌∷◌, ◌++◌, length, drop, None, Result, Ok, Err, refl, sym, ap, ◌∙◌, arith, subst, inl, inr, ◌&&◌, ◌||◌, ◌==◌, slice_index, not, nat_lt, codes, is_bom, is_break, is_breakz, is_blank_or_breakz, byte_order_mark, is_document_end, next_3_are, SkipTabs, Marker, Span, Refusal, Cursor, ◌>>=◌, along, pass, pass_break, ReadDirective, mid_line, along_more, cut_at, by_test, or_false_left, breakz_no_non_break, Given, eqb-true, and_parts, nat_tests, percent_sign}
 use Rattle.saphyr_scalar.specs.Steps.Directive as directives
-use Rattle.saphyr_scalar.specs.Spelling.Directive.{ReadDirective}
-use Rattle.saphyr_scalar.specs.Steps.Quoted.{mid_line}
-use Rattle.saphyr_scalar.proofs.Moving.{along_more}
-use Rattle.saphyr_scalar.proofs.Properties.TagsSpelled.{cut_at}
 use Rattle.saphyr_scanner.specs.Grammar.Tokens as tokens
 use Rattle.saphyr_scanner.specs.Grammar.Tokens.{Kind}
 use Rattle.saphyr_scanner.specs.Steps.Core.{Core, Step, from_to, up_to_here, perform, in_block, forget_key, remove_key, completed_step}
@@ -20,14 +8,13 @@ use Rattle.saphyr_scanner.specs.Steps.Passing.{separate, with_cursor}
 use Rattle.saphyr_scanner.specs.Steps.State.{State, on_core, on_core_with, after_step}
 use Rattle.saphyr_scanner.specs.Steps.Unrolling.{unroll}
 use Rattle.saphyr_scanner.specs.Steps.Document as document
-use Rattle.saphyr_scanner.specs.Steps.Level.{Level, is_block}
 use Rattle.saphyr_scanner.specs.TokensInPlace.{is_of_flow_node}
 use Rattle.saphyr_scanner.specs.TokensTaken as taken
 use Rattle.saphyr_scanner.specs.TokensTaken.{AreApart, IsReached, IsToken, IsContentEnd}
 use Rattle.saphyr_scanner.proofs.Added.Queue.{IsNoEnd}
 use Rattle.saphyr_scanner.proofs.Blocks.{unrolled_cursor, unrolled_comment}
 use Rattle.saphyr_scanner.proofs.Counted.{stays, text_passed}
-use Rattle.saphyr_scanner.proofs.Effects.Moves.{Around, Does, and_then, NoComment, Same, still, further}
+use Rattle.saphyr_scanner.proofs.Effects.Moves.{Does, and_then, NoComment, Same, still, further}
 use Rattle.saphyr_scanner.proofs.Effects.Puts.{Reading, freed, quiet}
 use Rattle.saphyr_scanner.proofs.Effects.Walked.{Premises, Walked, walked_then, at_most, resting, unsaved_step, at_reach}
 use Rattle.saphyr_scanner.proofs.Effects.Walked.{at_inside, read_walked, separate_walked}
@@ -41,16 +28,10 @@ use Rattle.saphyr_scanner.proofs.Taken.Cores.{surroundings}
 use Rattle.saphyr_scanner.proofs.Taken.Neutral.{Neutral, neutral}
 use Rattle.saphyr_scanner.proofs.Taken.Held.{Setting, is_unbound}
 use Rattle.saphyr_scanner.proofs.Taken.Later.{apart_later}
-use Rattle.saphyr_scanner.proofs.Taken.Indented.{BeginsNoNode, IsRight, stays_no_node}
+use Rattle.saphyr_scanner.proofs.Taken.Indented.{IsRight, stays_no_node}
 use Rattle.saphyr_scanner.proofs.Taken.Parts.{is_quiet}
 use Rattle.saphyr_scanner.proofs.Taken.Places.{Reaches, reaches_reaches, At, at_here}
 use Rattle.saphyr_scanner.proofs.Taken.Separated.{apart_apart}
-use Rattle.saphyr_input.proofs.Basics.Booleans.{by_test, or_false_left}
-use Rattle.saphyr_input.proofs.Basics.Characters.{breakz_no_non_break}
-use Rattle.saphyr_scalar.proofs.Given.{Given}
-use Rattle.std.proofs.lemmas.Bool.{eqb-true, and_parts}
-use Rattle.std.proofs.lemmas.Bool.Decides.{nat_tests}
-use Rattle.saphyr_input.specs.Indicators.{percent_sign}
 
 -- from s to t, at the same place, the content of a document ends
 record Content (s t : State) : Type 0 where

@@ -1,15 +1,9 @@
 -- What is done where a token is fetched, in one statement.
-use Rattle.std.proofs.Common.{◌≡◌, ℕ, ◌+◌, ◌-◌, ◌≤◌, ◌<◌, Bool, true, false, List, [], ◌∷◌, ◌++◌, length, Result, Ok, Err, refl, sym, ap, ◌∙◌, arith, cond, subst, ◌⊎◌, inl, inr, IsTrue}
-use Rattle.std.specs.Prelude.{codes, ◌&&◌, ◌||◌, slice_index, not, ◌==◌, nat_lt, nat_le, Some, None}
-use Rattle.saphyr_input.specs.Classes.{is_bom, is_z, is_flow, is_blank_or_breakz}
-use Rattle.saphyr_input.specs.Places.{is_document_start, is_document_end}
-use Rattle.saphyr_scalar.specs.declared.scalar.position.Marker.{Marker}
-use Rattle.saphyr_scalar.specs.declared.scalar.fault.Refusal.{Refusal}
+use Rattle.saphyr_scanner.proofs.Common.{◌≡◌, ℕ, ◌+◌, ◌-◌, ◌≤◌, ◌<◌, Bool, true, false, List, [], ◌∷◌, ◌++◌, length, Result, Ok, Err, refl, sym, ap, ◌∙◌, arith, cond, subst, ◌⊎◌, inr, IsTrue, is_bom, is_z, is_flow, is_blank_or_breakz, is_document_start, is_document_end, Marker, Refusal, ◌>>=◌, Piece, by_test, Given, given_bind, given_of, and_parts, eqb-true}
+use Rattle.std.specs.Prelude.{codes, ◌&&◌, ◌||◌, slice_index, not, ◌==◌, nat_lt, Some, None}
 use Rattle.saphyr_scalar.specs.declared.values.BlockStyle.TheVariants as block_style
-use Rattle.saphyr_scalar.specs.Views.Cursor.{◌>>=◌}
 use Rattle.saphyr_scanner.specs.declared.engine.level.Context.TheVariants as context
 use Rattle.saphyr_scanner.specs.Grammar.Tokens as tokens
-use Rattle.saphyr_scanner.specs.Views.Tokens.{Piece}
 use Rattle.saphyr_scanner.specs.Steps.Queue.{Place, empty_piece, bare_place, next}
 use Rattle.saphyr_scanner.specs.Steps.Level.{ends_pair}
 use Rattle.saphyr_scanner.specs.Steps.Core.{Core, StepResult, least_column, drop_far_key, in_block}
@@ -17,7 +11,7 @@ use Rattle.saphyr_scanner.specs.Steps.Passing.{pass_gap}
 use Rattle.saphyr_scanner.specs.Steps.State.{State, on_core}
 use Rattle.saphyr_scanner.specs.Steps.Unrolling.{unroll}
 use Rattle.saphyr_scanner.specs.Steps.Document as document
-use Rattle.saphyr_scanner.specs.Steps.Fetch.{size, step, state_behind_content, fetch_here, arrive, begin, fetch, check_limit, fetch_within, without_far_key}
+use Rattle.saphyr_scanner.specs.Steps.Fetch.{size, step, state_behind_content, fetch_here, arrive, begin, fetch, fetch_within, without_far_key}
 use Rattle.saphyr_scanner.specs.TokensTaken.{parts_colon}
 use Rattle.saphyr_scanner.proofs.Steps.Choice.{cases}
 use Rattle.saphyr_scanner.proofs.Blocks.{unrolled_cursor}
@@ -38,10 +32,6 @@ use Rattle.saphyr_scanner.proofs.Taken.Places.{at_here}
 use Rattle.saphyr_scanner.proofs.Effects.States.{FetchesTokens, advances_advances, on_core_fetches, after_step_fetches, same_index, unroll_advances}
 use Rattle.saphyr_scanner.proofs.Effects.Documents.{start_walked, end_marker_walked, mark_walked, directive_walked, documents_advance}
 use Rattle.saphyr_scanner.proofs.Taken.Documents.{start_marking}
-use Rattle.saphyr_input.proofs.Basics.Booleans.{by_test}
-use Rattle.saphyr_scalar.proofs.Given.{Given, given_bind, given_of}
-use Rattle.std.proofs.lemmas.Bool.{and_parts, or_cases, eqb-true}
-use Rattle.std.proofs.Math.Bool.{or-true}
 
 -- ## What begins at a place
 

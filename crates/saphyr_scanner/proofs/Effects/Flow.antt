@@ -1,16 +1,8 @@
 -- What each step of flow collections does.
-use Rattle.std.proofs.Common.{◌≡◌, ℕ, ◌+◌, ◌-◌, ◌≤◌, ◌<◌, Bool, true, false, List, [], ◌∷◌, length, suc, ◌∙◌, Some, None, refl, sym, ap, arith, subst, inl, inr, IsTrue}
-use Rattle.std.specs.Prelude.{◌&&◌, ◌==◌, slice_index, nat_le, if◌then◌else◌}
-use Rattle.saphyr_input.specs.Indicators.{colon, comma}
-use Rattle.saphyr_input.specs.Classes.{is_break}
-use Rattle.saphyr_scalar.specs.declared.scalar.position.Marker.{Marker}
-use Rattle.saphyr_scalar.specs.declared.scalar.position.Span.{Span}
-use Rattle.saphyr_scalar.specs.Views.Cursor.{Cursor, ◌>>=◌, pass}
-use Rattle.saphyr_scanner.specs.declared.engine.level.Context.{Context}
+use Rattle.saphyr_scanner.proofs.Common.{◌≡◌, ℕ, ◌+◌, ◌-◌, ◌≤◌, ◌<◌, Bool, true, false, List, [], ◌∷◌, length, suc, ◌∙◌, Some, None, refl, sym, ap, arith, subst, inl, inr, IsTrue, ◌&&◌, ◌==◌, slice_index, nat_le, if◌then◌else◌, colon, comma, is_break, Marker, Span, Cursor, ◌>>=◌, pass, Context, Piece, by_test, lt-ltb}
 use Rattle.saphyr_scanner.specs.declared.engine.level.Context.TheVariants as context
 use Rattle.saphyr_scanner.specs.Grammar.Tokens as tokens
 use Rattle.saphyr_scanner.specs.Grammar.Tokens.{Kind}
-use Rattle.saphyr_scanner.specs.Views.Tokens.{Piece}
 use Rattle.saphyr_scanner.specs.Steps.Queue.{empty_piece}
 use Rattle.saphyr_scanner.specs.Steps.Core.{Core, Put, in_block, forget_key, remove_key, go_deeper, at_mark, up_to_here, with_context, with_key, completed_step}
 use Rattle.saphyr_scanner.specs.Steps.Level.{Level, is_block, ends_pair, behind_entry}
@@ -22,7 +14,7 @@ use Rattle.saphyr_scanner.specs.TokensInPlace as place
 use Rattle.saphyr_scanner.specs.TokensInPlace.{Enclosure, Enclosures, has_text, enclosures_behind, may_end_pair, is_of_flow_node, fits}
 use Rattle.saphyr_scanner.specs.Limits.{most_open}
 use Rattle.saphyr_scanner.proofs.Added.Queue.{IsNoEnd}
-use Rattle.saphyr_scanner.proofs.Effects.Moves.{Around, around, DoesWithin, Does, encloses, NoComment, and_then, Same, same, lesser, further, still_within, allows_right, same_right, leaving}
+use Rattle.saphyr_scanner.proofs.Effects.Moves.{DoesWithin, Does, encloses, NoComment, and_then, Same, same, lesser, further, still_within, allows_right, same_right, leaving}
 use Rattle.saphyr_scanner.proofs.Effects.Puts.{freed, Reading, empty_reading, IndicatorStands, passes, indicated, quiet_within, saving, entered, left}
 use Rattle.saphyr_scanner.proofs.Effects.Walked.{Premises, Walked, walked_then, at_most, Doing}
 use Rattle.saphyr_scanner.proofs.Effects.Walked.{separate_walked}
@@ -37,8 +29,6 @@ use Rattle.saphyr_scanner.proofs.Taken.KeysInPlace.{no_text, Outside, free}
 use Rattle.saphyr_scanner.proofs.Taken.Later.{apart_later}
 use Rattle.saphyr_scanner.proofs.Taken.Parts.{is_quiet, Begins, pair_ends}
 use Rattle.saphyr_scanner.proofs.Taken.Places.{Reaches, at_here}
-use Rattle.saphyr_input.proofs.Basics.Booleans.{by_test}
-use Rattle.std.proofs.lemmas.Bool.{lt-ltb}
 
 -- a bracket or a comma
 pub record Bracket (x : ℕ) (kind : Kind) : Type 0 where

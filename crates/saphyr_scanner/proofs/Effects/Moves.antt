@@ -1,15 +1,12 @@
 -- What a step does, in one statement, and the moves of which each step is put together. From the statement follow what
 -- is taken off the text, the order of the tokens, how many they are, what may be a key, and that each is a token of the
 -- text.
-use Rattle.std.proofs.Common.{◌≡◌, ℕ, ◌+◌, ◌-◌, ◌≤◌, ◌<◌, ◌⊎◌, Bool, true, false, List, [], ◌∷◌, ◌++◌, length, Option, Some, None, arith}
-use Rattle.std.proofs.Common.{refl, sym, ap, ◌∙◌, arith, subst, inl, inr}
-use Rattle.saphyr_scalar.specs.Views.Cursor.{Cursor}
+use Rattle.saphyr_scanner.proofs.Common.{◌≡◌, ℕ, ◌+◌, ◌-◌, ◌≤◌, ◌<◌, ◌⊎◌, Bool, true, false, List, [], ◌∷◌, ◌++◌, length, Option, Some, None, arith, refl, sym, ap, ◌∙◌, subst, inl, Cursor}
 use Rattle.saphyr_scanner.specs.Steps.Queue.{Queue, is_empty_list, next}
 use Rattle.saphyr_scanner.specs.Steps.Core.{Core, Action, Put, Open, act, perform}
-use Rattle.saphyr_scanner.specs.Steps.Level.{Candidate, Level, is_block, at_root}
+use Rattle.saphyr_scanner.specs.Steps.Level.{Level, is_block}
 use Rattle.saphyr_scanner.specs.Steps.Core.{in_block}
 use Rattle.saphyr_scanner.specs.Steps.Flow as flow
-use Rattle.saphyr_scanner.specs.TokensTaken as taken
 use Rattle.saphyr_scanner.specs.TokensTaken.{AreApart}
 use Rattle.saphyr_scanner.specs.TokensInPlace.{Enclosures, left_for}
 use Rattle.saphyr_scanner.proofs.Added.Queue.{PutsGoOn, added, at_most_one, open_blocks}
@@ -19,7 +16,7 @@ use Rattle.saphyr_scanner.proofs.Ordered.Queue.{PutsInOrder}
 use Rattle.saphyr_scanner.proofs.PlainBehind.{IsNoted}
 use Rattle.saphyr_scanner.proofs.Taken.Candidates.{KeyAbove, LevelsAbove, Above, ActionsAbove}
 use Rattle.saphyr_scanner.proofs.Taken.Cores.{HoldsWithin, Lesser, Requires, holds_lesser}
-use Rattle.saphyr_scanner.proofs.Taken.Indented.{BeginsNoNode, IsRight, root_key}
+use Rattle.saphyr_scanner.proofs.Taken.Indented.{IsRight, root_key}
 use Rattle.saphyr_scanner.proofs.Taken.Held.{enclosure_of, enclosed_by, enclosures_of, Setting, AllowsKey}
 use Rattle.saphyr_scanner.proofs.Taken.Keys.{Keys}
 use Rattle.saphyr_scanner.proofs.Taken.KeysInPlace.{free}

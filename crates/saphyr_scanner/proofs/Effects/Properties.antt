@@ -1,12 +1,7 @@
 -- What each step of anchors, aliases and tags does, by the laws of the readers.
-use Rattle.std.proofs.Common.{◌≡◌, ℕ, ◌+◌, ◌<◌, Bool, true, false, List, [], ◌∷◌, ◌++◌, length, Some, refl, sym, ap, ◌∙◌, arith, subst, inl, inr, IsTrue}
-use Rattle.std.specs.Prelude.{◌==◌, slice_index, not}
-use Rattle.saphyr_input.specs.Indicators.{colon, exclamation_mark}
-use Rattle.saphyr_scalar.specs.declared.scalar.position.Span.{Span}
-use Rattle.saphyr_scalar.specs.Spelling.Tag.{IsHandleText, IsTagText, EndsTag}
+use Rattle.saphyr_scanner.proofs.Common.{◌≡◌, ℕ, ◌+◌, ◌<◌, Bool, true, false, List, ◌∷◌, ◌++◌, length, Some, refl, sym, ap, ◌∙◌, arith, subst, inl, inr, IsTrue, ◌==◌, slice_index, not, colon, exclamation_mark, Span, IsHandleText, IsTagText, EndsTag, Cursor, along}
 use Rattle.saphyr_scalar.specs.Steps.Anchor as anchors
 use Rattle.saphyr_scalar.specs.Steps.Tag as tags
-use Rattle.saphyr_scalar.specs.Views.Cursor.{Cursor, along}
 use Rattle.saphyr_scalar.proofs.TakingMore.{tag_some}
 use Rattle.saphyr_scanner.specs.Grammar.Tokens as tokens
 use Rattle.saphyr_scanner.specs.Grammar.Tokens.{Kind}

@@ -1,15 +1,8 @@
 -- The moves that put a token, save a key, or turn a candidate into a key.
-use Rattle.std.proofs.Common.{◌<◌, ◌≡◌, ℕ, ◌+◌, ◌≤◌, Bool, true, false, List, [], ◌∷◌, length, Option, Some, None, arith}
-use Rattle.std.proofs.Common.{refl, sym, ap, ◌∙◌, arith, subst, inl, inr, IsTrue}
+use Rattle.saphyr_scanner.proofs.Common.{◌<◌, ◌≡◌, ℕ, ◌+◌, ◌≤◌, Bool, true, false, List, [], ◌∷◌, length, Option, Some, None, arith, refl, sym, ap, ◌∙◌, subst, inl, inr, IsTrue, is_break, Span, Cursor, pass, Context, Opening, Piece, by_test}
 use Rattle.std.specs.Prelude.{◌-◌, ◌==◌, slice_index, not, suc}
-use Rattle.saphyr_input.specs.Classes.{is_break}
-use Rattle.saphyr_scalar.specs.declared.scalar.position.Span.{Span}
-use Rattle.saphyr_scalar.specs.Views.Cursor.{Cursor, pass}
-use Rattle.saphyr_scanner.specs.declared.engine.level.Context.{Context}
-use Rattle.saphyr_scanner.specs.declared.queue.Opening.{Opening}
 use Rattle.saphyr_scanner.specs.declared.queue.Opening.TheVariants as opening
 use Rattle.saphyr_scanner.specs.Grammar.Tokens.{Kind}
-use Rattle.saphyr_scanner.specs.Views.Tokens.{Piece}
 use Rattle.saphyr_scanner.specs.Steps.Queue.{Queue, is_empty_list, next, with_piece, with_opening, empty_piece}
 use Rattle.saphyr_scanner.specs.Steps.Core.{Core, Put, Open, at_mark}
 use Rattle.saphyr_scanner.specs.Steps.Level.{Candidate, Level, is_block}
@@ -39,7 +32,6 @@ use Rattle.saphyr_scanner.specs.TokensInPlace.{Enclosure, Begun, Enclosures, wit
 use Rattle.saphyr_scanner.proofs.Taken.Later.{apart_later}
 use Rattle.saphyr_scanner.proofs.Taken.Parts.{is_quiet, Begins, opens_block, with_column, EndsOnLine}
 use Rattle.saphyr_scanner.proofs.Taken.Places.{Reaches, character_reached}
-use Rattle.saphyr_input.proofs.Basics.Booleans.{by_test}
 
 -- ## A token is put
 

@@ -1,19 +1,6 @@
 -- What each step of quoted scalars does, by the laws of the readers.
-use Rattle.std.proofs.Common.{◌≡◌, ℕ, ◌+◌, ◌-◌, ◌≤◌, ◌<◌, ◌⊎◌, Bool, true, false, List, length, drop, Some, Ok, IsTrue, refl, sym, ap, ◌∙◌, arith, inl, inr}
-use Rattle.std.specs.Prelude.{◌&&◌, ◌==◌, slice_index}
-use Rattle.saphyr_input.specs.Classes.{is_break, is_breakz, is_z}
-use Rattle.saphyr_scalar.specs.declared.values.Quote.{Quote}
-use Rattle.saphyr_scalar.specs.declared.values.Quote.TheVariants.{Single, Double}
-use Rattle.saphyr_scalar.specs.Values.Flow.{mark}
-use Rattle.saphyr_scalar.specs.declared.scalar.position.Marker.{Marker}
-use Rattle.saphyr_scalar.specs.declared.scalar.position.Span.{Span}
-use Rattle.saphyr_scalar.specs.Steps.Plain as words
+use Rattle.saphyr_scanner.proofs.Common.{◌≡◌, ℕ, ◌+◌, ◌-◌, ◌≤◌, ◌<◌, ◌⊎◌, Bool, true, false, List, length, drop, Some, IsTrue, refl, sym, ap, ◌∙◌, arith, inl, inr, ◌==◌, slice_index, is_break, is_breakz, Quote, Single, Double, mark, Marker, Span, Cursor, ◌>>=◌, IsPassed, Piece, or_cases, colon, by_test, clash, blank_no_break}
 use Rattle.saphyr_scalar.specs.Steps.Quoted as quoted
-use Rattle.saphyr_scalar.specs.Views.Cursor.{Cursor, ◌>>=◌, along, next_line}
-use Rattle.saphyr_scalar.specs.Passing as passing
-use Rattle.saphyr_scalar.specs.Passing.{IsPassed}
-use Rattle.saphyr_scalar.specs.Steps.Quoted.{break_len}
-use Rattle.saphyr_scanner.specs.Views.Tokens.{Piece}
 use Rattle.saphyr_scanner.specs.Steps.Core.{Core, in_block, least_column}
 use Rattle.saphyr_scanner.specs.Steps.Level.{Level, is_block}
 use Rattle.saphyr_scanner.specs.Steps.Passing.{separate, pass_gap, with_cursor}
@@ -21,14 +8,12 @@ use Rattle.saphyr_scanner.specs.Steps.Scalar as scalar
 use Rattle.saphyr_scanner.specs.Steps.Scalar.{quote_style}
 use Rattle.saphyr_scanner.specs.Views.Reads.{quote_kind}
 use Rattle.saphyr_scanner.specs.TokensInPlace.{is_flow_style}
-use Rattle.saphyr_scanner.specs.TokensTaken as taken
 use Rattle.saphyr_scanner.specs.TokensTaken.{Surroundings, AreApart, IsPassedOver, IsToken, IsQuotedToken, begins_text, ends_json_behind}
-use Rattle.saphyr_scanner.proofs.Counted.{Ahead}
 use Rattle.saphyr_scanner.proofs.Effects.Moves.{Around}
 use Rattle.saphyr_scanner.proofs.Effects.Puts.{saving, saved, same_block}
 use Rattle.saphyr_scanner.proofs.Effects.Walked.{Premises, Walked, walked_then, Doing, at_inside, read_walked}
 use Rattle.saphyr_scanner.proofs.Effects.Walked.{at_reach, separate_walked, gap_walked}
-use Rattle.saphyr_scanner.proofs.Effects.Readers.{Readers, ReaderEnds, TextLaws, Less}
+use Rattle.saphyr_scanner.proofs.Effects.Readers.{TextLaws}
 use Rattle.saphyr_scanner.proofs.LineTails.{OnLine}
 use Rattle.saphyr_scanner.proofs.LessIndented.{less_indented}
 use Rattle.saphyr_scanner.proofs.Reached.{apart_reached, passed_reached}
@@ -42,10 +27,6 @@ use Rattle.saphyr_scanner.proofs.Taken.OnLine.{quoted_shorter}
 use Rattle.saphyr_scanner.proofs.Taken.Parts.{is_quiet}
 use Rattle.saphyr_scanner.proofs.Taken.Places.{Reaches, reaches_reaches}
 use Rattle.saphyr_scanner.proofs.Taken.Separated.{apart_apart}
-use Rattle.std.proofs.lemmas.Bool.{or_cases, and_parts, eqb-true}
-use Rattle.saphyr_input.specs.Indicators.{colon}
-use Rattle.saphyr_input.proofs.Basics.Booleans.{by_test, clash}
-use Rattle.saphyr_input.proofs.Basics.Characters.{blank_no_break}
 
 -- a span begins where a text does
 abbrev pub Starts : Span → Cursor → Type 0

@@ -1,36 +1,15 @@
 -- The laws of the readers, as they are called: where each ends what it reads, what that is, and
 -- where it refuses, from a text that begins with its indicator.
-use Rattle.std.proofs.Common.{◌≡◌, ℕ, ◌+◌, ◌≤◌, ◌<◌, ◌⊎◌, Bool, true, false, List, ◌∷◌, ◌++◌, length, Ok, Err}
+use Rattle.saphyr_scanner.proofs.Common.{◌≡◌, ℕ, ◌+◌, ◌≤◌, ◌<◌, ◌⊎◌, Bool, true, false, List, ◌∷◌, ◌++◌, length, Ok, Err, exclamation_mark, percent_sign, is_anchor_char, is_z, is_break, is_breakz, is_blank_or_break, SkipTabs, BlockStyle, Quote, Item, mark, Marker, Span, Refusal, IsPassed, IsPlainReading, IsRefusedInside, IsReadDirective, IsLineTail, ReadDirective, HasIndentedLines, ArePlainLines, IsQuotedText, IsAnchorName, IsTagText, EndsTag, Cursor, along, pass_break, separation, mid_line}
 use Rattle.std.specs.Prelude.{slice_index, Option, encode_utf8_all}
-use Rattle.saphyr_input.specs.Indicators.{apostrophe, exclamation_mark, percent_sign, quotation_mark}
-use Rattle.saphyr_input.specs.Classes.{is_anchor_char, is_z, is_break, is_breakz}
-use Rattle.saphyr_input.specs.Places.{is_blank_or_break}
-use Rattle.saphyr_input.specs.declared.input.SkipTabs.{SkipTabs}
-use Rattle.saphyr_scalar.specs.declared.values.BlockStyle.{BlockStyle}
-use Rattle.saphyr_scalar.specs.declared.values.Quote.{Quote}
-use Rattle.saphyr_scalar.specs.declared.values.Item.{Item}
-use Rattle.saphyr_scalar.specs.Values.Flow.{mark}
 use Rattle.saphyr_scalar.specs.Values.Folding.{folded}
-use Rattle.saphyr_scalar.specs.declared.scalar.position.Marker.{Marker}
-use Rattle.saphyr_scalar.specs.declared.scalar.position.Span.{Span}
-use Rattle.saphyr_scalar.specs.declared.scalar.fault.Refusal.{Refusal}
-use Rattle.saphyr_scalar.specs.Passing.{IsPassed}
 use Rattle.saphyr_scalar.specs.Reading.BlockText.{IsBlockText}
-use Rattle.saphyr_scalar.specs.Reading.Plain.{IsPlainReading}
-use Rattle.saphyr_scalar.specs.RefusedInside.{IsRefusedInside}
-use Rattle.saphyr_scalar.specs.Spelling.Directive.{IsReadDirective, IsLineTail, ReadDirective}
-use Rattle.saphyr_scalar.specs.Spelling.IndentedQuotes.{HasIndentedLines}
-use Rattle.saphyr_scalar.specs.Spelling.LaterLines.{ArePlainLines}
-use Rattle.saphyr_scalar.specs.Spelling.Quoted.{IsQuotedText}
 use Rattle.saphyr_scalar.specs.Spelling.QuotedMarkers.{HasNoMarker}
-use Rattle.saphyr_scalar.specs.Spelling.Tag.{IsAnchorName, IsTagText, EndsTag}
 use Rattle.saphyr_scalar.specs.Steps.Anchor as anchors
 use Rattle.saphyr_scalar.specs.Steps.Block as blocks
-use Rattle.saphyr_scalar.specs.Views.Cursor.{Cursor, along, pass_break, separation}
 use Rattle.saphyr_scalar.specs.Steps.Directive as directives
 use Rattle.saphyr_scalar.specs.Steps.Plain as words
 use Rattle.saphyr_scalar.specs.Steps.Quoted as quoted
-use Rattle.saphyr_scalar.specs.Steps.Quoted.{mid_line}
 use Rattle.saphyr_scalar.specs.Steps.Tag as tags
 pub use Rattle.saphyr_scanner.specs.TakenOff.{Less, Readers}
 use Rattle.saphyr_scanner.specs.TokensTaken as taken

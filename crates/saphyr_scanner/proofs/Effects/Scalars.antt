@@ -1,18 +1,9 @@
 -- What each step of scalars does, by the laws of the readers.
-use Rattle.std.proofs.Common.{◌≡◌, ◌≢◌, ℕ, ◌+◌, ◌-◌, ◌<◌, Bool, true, false, List, [], ◌∷◌, ◌++◌, length, Some, IsTrue, IsFalse, refl, sym, ap, ◌∙◌, arith, subst, inl, inr}
-use Rattle.std.specs.Prelude.{◌&&◌, ◌||◌, ◌==◌, slice_index, not, nat_lt, codes}
-use Rattle.saphyr_input.specs.Classes.{is_break, is_blank_or_breakz, is_one_of}
-use Rattle.saphyr_input.specs.Places.{is_blank_or_break}
-use Rattle.saphyr_scalar.specs.declared.values.BlockStyle.{BlockStyle}
-use Rattle.saphyr_scalar.specs.Values.Flow.{mark}
-use Rattle.saphyr_scalar.specs.declared.scalar.position.Marker.{Marker}
+use Rattle.saphyr_scanner.proofs.Common.{◌≡◌, ◌≢◌, ℕ, ◌+◌, ◌-◌, ◌<◌, Bool, true, false, List, [], ◌∷◌, length, Some, IsTrue, IsFalse, refl, sym, ap, ◌∙◌, arith, subst, inl, inr, ◌&&◌, ◌||◌, ◌==◌, slice_index, not, nat_lt, codes, is_break, is_blank_or_breakz, is_one_of, is_blank_or_break, BlockStyle, mark, Marker, IsSpelledPlain, IsPlainReading, Cursor, Piece, or_parts, ne_eqb, ampersand, apostrophe, asterisk, at_sign, colon, exclamation_mark, grave_accent, left_brace, left_bracket, number_sign, percent_sign, quotation_mark, right_brace, right_bracket, by_test, given_of}
 use Rattle.saphyr_scalar.specs.declared.scalar.style.ScalarStyle.TheVariants.{Plain}
-use Rattle.saphyr_scalar.specs.Reading.Plain.{IsSpelledPlain, IsPlainReading}
 use Rattle.saphyr_scalar.specs.Steps.Block as blocks
 use Rattle.saphyr_scalar.specs.Steps.Plain as words
-use Rattle.saphyr_scalar.specs.Views.Cursor.{Cursor}
 use Rattle.saphyr_scanner.specs.Grammar.Tokens as tokens
-use Rattle.saphyr_scanner.specs.Views.Tokens.{Piece}
 use Rattle.saphyr_scanner.specs.Steps.Core.{Core, in_block}
 use Rattle.saphyr_scanner.specs.Steps.Scalar as scalar
 use Rattle.saphyr_scanner.specs.TokensTaken as taken
@@ -25,10 +16,6 @@ use Rattle.saphyr_scanner.proofs.Taken.SavedKeys.{IsSaved}
 use Rattle.saphyr_scanner.proofs.Taken.Neutral.{neutral}
 use Rattle.saphyr_scanner.proofs.Taken.Places.{at_here}
 use Rattle.saphyr_scanner.proofs.Taken.States.{block_fetched}
-use Rattle.std.proofs.lemmas.Bool.{or_parts, ne_eqb}
-use Rattle.saphyr_input.specs.Indicators.{ampersand, apostrophe, asterisk, at_sign, colon, exclamation_mark, grave_accent, left_brace, left_bracket, number_sign, percent_sign, quotation_mark, right_brace, right_bracket}
-use Rattle.saphyr_input.proofs.Basics.Booleans.{by_test}
-use Rattle.saphyr_scalar.proofs.Given.{given_of}
 
 -- ## Plain scalars
 

@@ -1,10 +1,8 @@
 -- What a step does, in one statement: what it takes off the text, that its tokens are in order between the place
 -- where it begins and the one that is reached, that they are few, that none is the end of the stream, and that what may
 -- be a key after it might be one before, or is its own token.
-use Rattle.std.proofs.Common.{◌≡◌, ℕ, ◌+◌, ◌≤◌, refl, arith}
+use Rattle.saphyr_scanner.proofs.Common.{◌≡◌, ℕ, ◌+◌, ◌≤◌, refl, arith, Marker, Cursor, by_test, Given, given_bind, given_of}
 use Rattle.std.specs.Prelude.{◌&&◌, not, Option, Some, None}
-use Rattle.saphyr_scalar.specs.declared.scalar.position.Marker.{Marker}
-use Rattle.saphyr_scalar.specs.Views.Cursor.{Cursor}
 use Rattle.saphyr_scanner.specs.Steps.Gap as gaps
 use Rattle.saphyr_scanner.specs.Steps.Core.{Core, Step, in_block, remove_key, forget_key, drop_far_key, is_too_far, least_column}
 use Rattle.saphyr_scanner.specs.Steps.Passing.{pass_gap, check_comment, goes_on_behind, behind_gap, check_comment_of}
@@ -14,8 +12,6 @@ use Rattle.saphyr_scanner.proofs.Ordered.Queue.{PutsInOrder}
 use Rattle.saphyr_scanner.proofs.Taken.Separated.{gap_apart}
 use Rattle.saphyr_scanner.proofs.Taken.Candidates.{Above, KeepsPlacesAbove}
 use Rattle.saphyr_scanner.proofs.Added.Queue.{PutsGoOn, added, open_blocks}
-use Rattle.saphyr_input.proofs.Basics.Booleans.{by_test}
-use Rattle.saphyr_scalar.proofs.Given.{Given, given_bind, given_of}
 
 -- ## The statement
 

@@ -1,14 +1,7 @@
 -- What a colon does.
-use Rattle.std.proofs.Common.{◌≡◌, ℕ, ◌+◌, Bool, true, false, List, [], ◌∷◌, ◌++◌, Option, Some, None, refl, sym, ap, ◌∙◌, arith, inl, inr, ◌≤◌, ◌<◌, ◌⊎◌}
+use Rattle.saphyr_scanner.proofs.Common.{◌≡◌, ℕ, ◌+◌, Bool, true, false, List, [], ◌∷◌, ◌++◌, Option, Some, None, refl, sym, ap, ◌∙◌, arith, inl, inr, ◌≤◌, ◌<◌, ◌⊎◌, colon, is_alpha, is_blank_or_breakz, has_valid_yaml_ws, Marker, Cursor, pass, Context, Opening, by_test, second_is, not-false, not-true}
 use Rattle.std.specs.Prelude.{◌-◌, ◌&&◌, ◌||◌, ◌==◌, slice_index, not, nat_lt, nat_le, if◌then◌else◌, IsTrue}
-use Rattle.saphyr_input.specs.Indicators.{colon}
-use Rattle.saphyr_input.specs.Classes.{is_alpha, is_blank_or_breakz}
-use Rattle.saphyr_input.specs.Separation.{has_valid_yaml_ws}
-use Rattle.saphyr_scalar.specs.declared.scalar.position.Marker.{Marker}
-use Rattle.saphyr_scalar.specs.Views.Cursor.{Cursor, pass}
-use Rattle.saphyr_scanner.specs.declared.engine.level.Context.{Context}
 use Rattle.saphyr_scanner.specs.declared.engine.level.Context.TheVariants as context
-use Rattle.saphyr_scanner.specs.declared.queue.Opening.{Opening}
 use Rattle.saphyr_scanner.specs.declared.queue.Opening.TheVariants as opening
 use Rattle.saphyr_scanner.specs.Grammar.Tokens as tokens
 use Rattle.saphyr_scanner.specs.Steps.Queue.{empty_piece}
@@ -37,9 +30,6 @@ use Rattle.saphyr_scanner.proofs.Taken.KeysInPlace.{no_text, Outside, free, in_k
 use Rattle.saphyr_scanner.proofs.Taken.Later.{apart_later, top}
 use Rattle.saphyr_scanner.proofs.Taken.Parts.{pair_starts}
 use Rattle.saphyr_scanner.proofs.Taken.Places.{Reaches, reaches_reaches, at_here}
-use Rattle.saphyr_input.proofs.Basics.Booleans.{by_test}
-use Rattle.saphyr_input.proofs.Basics.Lists.{second_is}
-use Rattle.std.proofs.lemmas.Bool.{not-false, not-true}
 
 -- after the colon, where what is known stays
 abbrev Behind : Core → Core → Type 0

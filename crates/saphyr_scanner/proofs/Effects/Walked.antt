@@ -1,13 +1,6 @@
 -- What is known of each step, told with the place of its refusal: of what it passes, and of all that it does.
-use Rattle.std.proofs.Common.{◌≡◌, ℕ, ◌^◌, ◌≤◌, ◌<◌, false, List, length, Option, Some, None, Result, Ok}
-use Rattle.std.proofs.Common.{Err, refl, arith, IsTrue}
-use Rattle.std.specs.Prelude.{slice_index}
-use Rattle.saphyr_input.specs.declared.input.SkipTabs.{SkipTabs}
+use Rattle.saphyr_scanner.proofs.Common.{◌≡◌, ℕ, ◌^◌, ◌≤◌, ◌<◌, false, List, length, Option, Some, None, Result, Ok, Err, refl, arith, IsTrue, slice_index, SkipTabs, Marker, Refusal, IsRefusedInside, Cursor, start_cursor, ◌>>=◌, separation, by_test, Given}
 use Rattle.saphyr_input.specs.declared.input.SkipTabs.TheVariants as tabs
-use Rattle.saphyr_scalar.specs.declared.scalar.position.Marker.{Marker}
-use Rattle.saphyr_scalar.specs.declared.scalar.fault.Refusal.{Refusal}
-use Rattle.saphyr_scalar.specs.RefusedInside.{IsRefusedInside}
-use Rattle.saphyr_scalar.specs.Views.Cursor.{Cursor, start_cursor, ◌>>=◌, separation}
 use Rattle.saphyr_scanner.specs.Steps.Queue.{Queue, next}
 use Rattle.saphyr_scanner.specs.Steps.Core.{Core, Action, Step, StepResult, perform, least_column}
 use Rattle.saphyr_scanner.specs.Steps.Gap as gaps
@@ -29,8 +22,6 @@ use Rattle.saphyr_scanner.proofs.Taken.Places.{Reaches, At, at_here, at_further,
 use Rattle.saphyr_scanner.proofs.Taken.Separated.{Refused, gap_apart, gap_refused, BeginsText, gap_begins, Breaks, gap_breaks}
 use Rattle.saphyr_scanner.proofs.Taken.Arrivals.{AllowsBehind, gap_allows}
 use Rattle.saphyr_scanner.proofs.Taken.States.{FetchedStep, holds_fetched}
-use Rattle.saphyr_input.proofs.Basics.Booleans.{by_test}
-use Rattle.saphyr_scalar.proofs.Given.{Given}
 
 -- ## What a step gives, and where it refuses
 

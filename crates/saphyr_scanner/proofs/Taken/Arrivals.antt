@@ -1,35 +1,26 @@
 -- What is passed up to where the next token begins is separation, or the text's end.
-use Rattle.std.proofs.Common.{◌≡◌, ℕ, ◌+◌, ◌-◌, ◌^◌, ◌≤◌, ◌<◌, ◌⊎◌, Bool, true, false, List, ◌∷◌, length, Option, Some, None, Result, Ok, Err, refl, sym, ap, ◌∙◌, arith, subst, inl, inr, IsTrue}
-use Rattle.std.specs.Prelude.{◌&&◌, ◌||◌, slice_index, not}
-use Rattle.saphyr_input.specs.Classes.{is_z}
-use Rattle.saphyr_scalar.specs.declared.scalar.position.Marker.{Marker}
-use Rattle.saphyr_scalar.specs.declared.scalar.fault.Refusal.{Refusal}
-use Rattle.saphyr_scalar.specs.Views.Cursor.{Cursor, start_cursor, ◌>>=◌}
+use Rattle.saphyr_scanner.proofs.Common.{◌≡◌, ℕ, ◌+◌, ◌-◌, ◌^◌, ◌≤◌, ◌<◌, ◌⊎◌, true, false, List, ◌∷◌, length, Option, Some, None, Result, Ok, Err, refl, sym, ap, ◌∙◌, arith, subst, inl, inr, IsTrue, ◌&&◌, slice_index, not, is_z, Refusal, Cursor, start_cursor, ◌>>=◌, by_test, and_false, Given, not-true, le-ltb}
 use Rattle.saphyr_scanner.specs.Steps.Queue.{Queue, next}
-use Rattle.saphyr_scanner.specs.Steps.Core.{Core, in_block, is_too_far, forget_key, drop_far_key, least_column}
+use Rattle.saphyr_scanner.specs.Steps.Core.{Core, in_block, is_too_far, forget_key, drop_far_key}
 use Rattle.saphyr_scanner.specs.Steps.Level.{Candidate, Level, is_block}
 use Rattle.saphyr_scanner.specs.Steps.Gap as gaps
-use Rattle.saphyr_scanner.specs.Steps.Passing.{pass_gap, check_comment, goes_on_behind, behind_gap, check_comment_of}
+use Rattle.saphyr_scanner.specs.Steps.Passing.{pass_gap, check_comment, behind_gap}
 use Rattle.saphyr_scanner.specs.Steps.State.{State, on_core, with_core}
 use Rattle.saphyr_scanner.specs.Steps.Unrolling.{unroll, end_blocks, is_right_of, go_less_deep}
 use Rattle.saphyr_scanner.specs.Steps.Fetch.{arrive}
-use Rattle.saphyr_scanner.specs.TokensTaken as taken
 use Rattle.saphyr_scanner.specs.TokensTaken.{AreApart, begins_text}
 use Rattle.saphyr_scanner.specs.TokensInPlace.{Enclosures}
 use Rattle.saphyr_scanner.proofs.Blocks.{none_ends, unrolled_cursor, blocks_cursor, go_less_deep_cursor}
-use Rattle.saphyr_scanner.proofs.Taken.Separated.{gap_apart, BeginsText, gap_begins, Breaks, gap_breaks}
-use Rattle.saphyr_scanner.proofs.Taken.Later.{top, Later, LaterThan, later_later, apart_later, end_stays}
+use Rattle.saphyr_scanner.proofs.Taken.Separated.{gap_apart, gap_begins, Breaks, gap_breaks}
+use Rattle.saphyr_scanner.proofs.Taken.Later.{top, LaterThan, later_later, apart_later}
 use Rattle.saphyr_scanner.proofs.Taken.Held.{enclosures_of, Setting, Taken, taken_within, AllowsKey, taken_further}
 use Rattle.saphyr_scanner.proofs.Taken.Indented.{BeginsNoNode, stays_no_node, IsRight, root_key}
 use Rattle.saphyr_scanner.proofs.Taken.Keys.{Keys}
-use Rattle.saphyr_scanner.proofs.Taken.Cores.{Alike, alike_enclosures, keys_of, keys_lesser, no_keys, outermost_level}
+use Rattle.saphyr_scanner.proofs.Taken.Cores.{Alike, alike_enclosures, keys_lesser, no_keys, outermost_level}
 use Rattle.saphyr_scanner.proofs.Taken.SavedKeys.{line_near}
 use Rattle.saphyr_scanner.proofs.Taken.Keys.{IsNear, IsBehindKey}
 use Rattle.saphyr_scanner.proofs.Taken.SavedKeys.{key_known}
 use Rattle.saphyr_scanner.proofs.Taken.States.{line_small, taken_later, key_stands, Live, TakenState, unroll_taken, blocks_levels}
-use Rattle.saphyr_input.proofs.Basics.Booleans.{by_test, and_false}
-use Rattle.saphyr_scalar.proofs.Given.{Given}
-use Rattle.std.proofs.lemmas.Bool.{not-true, le-ltb}
 
 -- ## What is passed
 

@@ -1,21 +1,17 @@
 -- What is held stays so where the core of a scanner changes, and where a token comes.
-use Rattle.std.proofs.Common.{◌≡◌, ℕ, ◌+◌, ◌-◌, ◌<◌, ◌⊎◌, Bool, true, false, List, [], ◌∷◌, length, Option, None, refl, sym, ap, ◌∙◌, arith, subst, inl, inr, length-append}
-use Rattle.std.specs.Prelude.{◌==◌, ◌&&◌, slice_index, not, nat_lt}
-use Rattle.saphyr_scalar.specs.Views.Cursor.{Cursor, pass}
-use Rattle.saphyr_scalar.proofs.Properties.TagsSpelled.{cut_at}
-use Rattle.saphyr_scanner.specs.Views.Tokens.{Piece}
+use Rattle.saphyr_scanner.proofs.Common.{◌≡◌, ℕ, ◌+◌, ◌-◌, ◌<◌, ◌⊎◌, Bool, true, false, List, [], ◌∷◌, length, None, refl, sym, ap, ◌∙◌, arith, inl, inr, length-append, ◌==◌, ◌&&◌, slice_index, not, nat_lt, Cursor, pass, cut_at, Piece}
 use Rattle.saphyr_scanner.specs.Steps.Queue.{Queue, is_empty_list, bare_place, with_piece, next}
 use Rattle.saphyr_scanner.specs.Steps.Core.{Core, in_block, forget_key}
-use Rattle.saphyr_scanner.specs.Steps.Level.{Candidate, Level, is_block}
+use Rattle.saphyr_scanner.specs.Steps.Level.{Level, is_block}
 use Rattle.saphyr_scanner.specs.TokensTaken as taken
 use Rattle.saphyr_scanner.specs.TokensTaken.{Collections, Surroundings, AreApart, IsToken, TakesCharacter, open_behind}
 use Rattle.saphyr_scanner.specs.TokensInPlace.{Enclosures, enclosures_behind, is_of_flow_node}
 use Rattle.saphyr_scanner.proofs.Taken.KeysInPlace.{calm}
-use Rattle.saphyr_scanner.proofs.Taken.Parts.{is_quiet, quiet_open}
-use Rattle.saphyr_scanner.proofs.Taken.Held.{Stack, enclosures_of, Setting, TakenWithin, taken_further, Opens, FitsWithin, PutsIndented, taken_put, Adjoins, AllowsKey, IsParted}
-use Rattle.saphyr_scanner.proofs.Taken.Indented.{IsRight, root_key, own_root, root_outer, KeepsRequired, no_node_fits, indented_put, indented_alone}
+use Rattle.saphyr_scanner.proofs.Taken.Parts.{is_quiet}
+use Rattle.saphyr_scanner.proofs.Taken.Held.{enclosures_of, Setting, TakenWithin, taken_further, Opens, FitsWithin, PutsIndented, taken_put, Adjoins, AllowsKey, IsParted}
+use Rattle.saphyr_scanner.proofs.Taken.Indented.{IsRight, root_key, own_root, KeepsRequired, no_node_fits, indented_put, indented_alone}
 use Rattle.saphyr_scanner.proofs.Taken.Neutral.{KeepsBrackets}
-use Rattle.saphyr_scanner.proofs.Taken.Keys.{KeyOf, lower, KeysFrom, Keys, keys_weaken, KeepsDepth, keeps_depth, keys_put}
+use Rattle.saphyr_scanner.proofs.Taken.Keys.{Keys, keys_weaken, KeepsDepth, keeps_depth, keys_put}
 use Rattle.saphyr_scanner.proofs.Taken.OpenedKeys.{below_key}
 
 pub record HoldsWithin (within : Enclosures) (opened : Setting) (from : Cursor) (c : Core) (q : Queue) : Type 0 where

@@ -1,15 +1,6 @@
 -- What is held after a document's content and at the stream's end, and which texts are tokens of markers and
 -- directives.
-use Rattle.std.proofs.Common.{◌≡◌, ℕ, Bool, true, false, List, [], ◌∷◌, ◌++◌, length, drop, None, refl, ap, ◌∙◌, arith, inl, inr, IsTrue}
-use Rattle.std.specs.Prelude.{◌&&◌, ◌==◌, nat_lt, slice_index, codes}
-use Rattle.std.proofs.lemmas.Bool.Decides.{nat_tests}
-use Rattle.saphyr_input.specs.Classes.{is_break, is_blank_or_breakz, is_z}
-use Rattle.saphyr_input.specs.Places.{is_document_start, is_document_end, is_document_indicator, next_2_are, next_3_are}
-use Rattle.saphyr_scalar.specs.declared.scalar.position.Marker.{Marker}
-use Rattle.saphyr_scalar.specs.declared.scalar.position.Span.{Span}
-use Rattle.saphyr_scalar.specs.Views.Cursor.{Cursor, pass_break}
-use Rattle.saphyr_scalar.specs.Spelling.Directive.{ReadDirective, version, tag_prefix, reserved}
-use Rattle.saphyr_scalar.specs.Steps.Quoted.{break_len}
+use Rattle.saphyr_scanner.proofs.Common.{◌≡◌, ℕ, Bool, true, false, List, [], ◌∷◌, ◌++◌, length, drop, None, refl, ap, ◌∙◌, arith, inl, inr, IsTrue, ◌&&◌, ◌==◌, nat_lt, slice_index, codes, nat_tests, is_break, is_z, is_document_start, is_document_end, is_document_indicator, next_2_are, next_3_are, Marker, Span, Cursor, pass_break, ReadDirective, break_len, eqb-true, and_parts, by_test, Given}
 use Rattle.saphyr_scanner.specs.Grammar.Tokens as tokens
 use Rattle.saphyr_scanner.specs.Grammar.Tokens.{Kind}
 use Rattle.saphyr_scanner.specs.Steps.Queue.{next, empty_piece}
@@ -26,12 +17,8 @@ use Rattle.saphyr_scanner.proofs.Taken.Parts.{is_quiet}
 use Rattle.saphyr_scanner.proofs.Taken.Held.{enclosures_of, Setting, taken_further, is_unbound, unbound_parted, taken_put}
 use Rattle.saphyr_scanner.proofs.Taken.Cores.{HoldsTaken, holds_forgotten, forget_requires, no_keys, outermost}
 use Rattle.saphyr_scanner.proofs.Taken.Indented.{no_node_fits, indented_put}
-use Rattle.saphyr_scanner.proofs.Taken.Neutral.{Neutral, neutral}
+use Rattle.saphyr_scanner.proofs.Taken.Neutral.{Neutral}
 use Rattle.saphyr_scanner.proofs.Taken.States.{Fetched, TakenState, unroll_taken, blocks_levels, BlocksEnd}
-use Rattle.std.proofs.lemmas.Bool.{eqb-true, and_parts, or_cases}
-use Rattle.std.proofs.Math.Bool.{or-true}
-use Rattle.saphyr_input.proofs.Basics.Booleans.{by_test}
-use Rattle.saphyr_scalar.proofs.Given.{Given}
 
 abbrev pub HoldsState : Setting → Cursor → State → Type 0
 HoldsState opened from s = HoldsTaken opened from s.core s.queue

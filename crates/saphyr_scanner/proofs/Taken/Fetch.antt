@@ -1,17 +1,9 @@
 -- Each token that is fetched is taken from the text.
-use Rattle.std.proofs.Common.{◌≡◌, ℕ, ◌^◌, ◌<◌, true, false, List, [], ◌∷◌, length, None, Result, Ok, Err, refl, ap, ◌∙◌, subst, inl, inr, arith}
-use Rattle.std.specs.Prelude.{◌&&◌, ◌==◌, slice_index, not, nat_lt, nat_le, codes}
-use Rattle.saphyr_input.specs.Classes.{is_z, is_bom}
-use Rattle.saphyr_input.specs.Places.{is_document_start, is_document_end}
-use Rattle.saphyr_scalar.specs.declared.scalar.position.Marker.{Marker}
-use Rattle.saphyr_scalar.specs.declared.scalar.fault.Refusal.{Refusal}
-use Rattle.saphyr_scalar.specs.Views.Cursor.{Cursor, start_cursor, ◌>>=◌}
+use Rattle.saphyr_scanner.proofs.Common.{◌≡◌, ℕ, ◌^◌, ◌<◌, true, false, List, [], length, None, Result, Ok, Err, refl, ◌∙◌, inl, inr, arith, ◌&&◌, ◌==◌, slice_index, not, nat_lt, nat_le, codes, is_z, is_bom, is_document_start, is_document_end, Marker, Refusal, Cursor, start_cursor, ◌>>=◌, by_test, and_false, Given, given_bind, given_of, and_parts, not-true, eqb-true, ltb-false}
 use Rattle.saphyr_scanner.specs.Grammar.Tokens as tokens
-use Rattle.saphyr_scanner.specs.Views.Tokens.{Piece}
-use Rattle.saphyr_scanner.specs.Steps.Queue.{Queue, bare_place, with_piece, next, empty_piece}
+use Rattle.saphyr_scanner.specs.Steps.Queue.{Queue, with_piece, next, empty_piece}
 use Rattle.saphyr_scanner.specs.Steps.Core.{StepResult, in_block, is_too_far, forget_key, drop_far_key, least_column}
 use Rattle.saphyr_scanner.specs.Steps.State.{State, on_core, after_step}
-use Rattle.saphyr_scanner.specs.Steps.Unrolling.{unroll}
 use Rattle.saphyr_scanner.specs.Steps.Document as document
 use Rattle.saphyr_scanner.specs.Steps.Fetch.{step, state_behind_content, fetch_here, arrive, fetch, begin, check_limit, fetch_within, without_far_key}
 use Rattle.saphyr_scanner.specs.TokensTaken as taken
@@ -29,9 +21,6 @@ use Rattle.saphyr_scanner.proofs.Effects.Walked.{Premises, Walked, walked_given,
 use Rattle.saphyr_scanner.proofs.Effects.Documents.{Documented, start_walked, end_marker_walked, mark_walked, directive_walked, documents_advance, documents_hold}
 use Rattle.saphyr_scanner.proofs.Taken.States.{line_small, taken_later, unrolled_required, Live, Fetched, holds_fetched, FetchedStep, TakenState}
 use Rattle.saphyr_scanner.proofs.Taken.Documents.{HoldsState, start_marking, end_fetched}
-use Rattle.saphyr_input.proofs.Basics.Booleans.{by_test, and_false}
-use Rattle.saphyr_scalar.proofs.Given.{Given, given_bind, given_of}
-use Rattle.std.proofs.lemmas.Bool.{and_parts, not-true, eqb-true, ltb-false}
 use Rattle.saphyr_scanner.proofs.Queues.{flat_append}
 use Rattle.saphyr_scanner.proofs.Taken.Arrivals.{key_column, forgotten_live, forgotten_taken, Arrived, arrived}
 

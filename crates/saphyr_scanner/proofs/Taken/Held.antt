@@ -1,19 +1,13 @@
 -- What is known of the tokens that a scanner holds: they are taken from the text, and each may be where it is.
-use Rattle.std.proofs.Common.{◌≡◌, ℕ, zero, suc, ◌+◌, List, [], ◌∷◌, ◌++◌, length, None, refl, sym, ap, ◌∙◌, arith, subst, IsTrue, ◌≤◌, ◌<◌, ◌⊎◌, Bool, true, inl, inr, false}
-use Rattle.std.specs.Prelude.{nat_lt, not, ◌&&◌}
-use Rattle.saphyr_scalar.specs.Views.Cursor.{Cursor}
-use Rattle.saphyr_scalar.specs.declared.scalar.position.Marker.{Marker}
-use Rattle.saphyr_scalar.specs.declared.scalar.position.Span.{Span}
+use Rattle.saphyr_scanner.proofs.Common.{◌≡◌, ℕ, zero, suc, ◌+◌, List, [], ◌∷◌, ◌++◌, length, None, refl, sym, ap, ◌∙◌, arith, subst, IsTrue, ◌≤◌, ◌<◌, ◌⊎◌, Bool, true, inl, inr, false, nat_lt, not, ◌&&◌, Cursor, Span, Piece, Context, ltb-false}
 use Rattle.saphyr_scanner.specs.Grammar.Tokens as tokens
 use Rattle.saphyr_scanner.specs.Grammar.Tokens.{Kind}
-use Rattle.saphyr_scanner.specs.Views.Tokens.{Piece}
 use Rattle.saphyr_scanner.specs.Steps.Queue.{Queue, bare_place, with_piece}
 use Rattle.saphyr_scanner.specs.Steps.Core.{Core, enter_block}
 use Rattle.saphyr_scanner.specs.Steps.Level.{Level}
-use Rattle.saphyr_scanner.specs.declared.engine.level.Context.{Context}
 use Rattle.saphyr_scanner.specs.declared.engine.level.Context.TheVariants as context
 use Rattle.saphyr_scanner.specs.TokensInPlace as place
-use Rattle.saphyr_scanner.specs.TokensInPlace.{Enclosure, Enclosed, Begun, Enclosures, with_begun, begun_at, enclosures_behind, may_stand, AreInPlace, has_text, is_of_flow_node, fits_at, may_follow}
+use Rattle.saphyr_scanner.specs.TokensInPlace.{Enclosure, Enclosed, Begun, Enclosures, with_begun, begun_at, enclosures_behind, may_stand, AreInPlace, is_of_flow_node, fits_at, may_follow}
 use Rattle.saphyr_scanner.specs.TokensTaken.{Collections, Surroundings, AreApart, IsToken, AreTokens, open_behind, least_column_in, surroundings_in, ends_json_behind}
 use Rattle.saphyr_scanner.proofs.Leads.{flat}
 use Rattle.saphyr_scanner.proofs.Taken.InPlace.{all_behind, behind_append, each_append, begun_by, begun_behind}
@@ -22,11 +16,8 @@ use Rattle.saphyr_scanner.proofs.Taken.Indented.{IsRight, Indented, KeepsRequire
 use Rattle.saphyr_scanner.proofs.Taken.Later.{top, apart_later, end_stays}
 use Rattle.saphyr_scanner.proofs.Taken.Separated.{apart_apart}
 use Rattle.saphyr_scanner.proofs.Taken.Places.{token_goes_on, token_later, tokens_later}
-use Rattle.saphyr_scanner.proofs.Taken.JsonEnds.{GoesOn}
 use Rattle.saphyr_scanner.proofs.Taken.Parts.{open_all, open_append, tokens_append}
 use Rattle.saphyr_scanner.proofs.Queues.{flat_append}
-use Rattle.std.proofs.lemmas.Bool.{ltb-false}
-use Rattle.saphyr_input.proofs.Basics.Booleans.{by_test}
 
 -- ## The open collections
 

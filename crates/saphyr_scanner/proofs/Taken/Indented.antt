@@ -1,15 +1,10 @@
 -- Which tokens of flow nodes are right of their collection's column: all that are held, or where a key has to be one,
 -- those before it.
-use Rattle.std.proofs.Common.{◌≡◌, ℕ, ◌+◌, ◌≤◌, ◌<◌, ◌⊎◌, Bool, true, false, List, [], ◌∷◌, ◌++◌, length, drop, Option, Some, None, refl, sym, ap, ◌∙◌, arith, subst, inl, inr, append_assoc, IsTrue}
-use Rattle.std.specs.Prelude.{◌==◌, slice_index}
-use Rattle.saphyr_input.specs.Classes.{is_z, is_blank_or_breakz}
-use Rattle.saphyr_input.specs.Indicators.{colon}
-use Rattle.saphyr_scalar.specs.Views.Cursor.{Cursor}
-use Rattle.saphyr_scanner.specs.Views.Tokens.{Piece}
-use Rattle.saphyr_scanner.specs.Steps.Queue.{Place, Queue, bare_place, with_piece, is_empty_list}
+use Rattle.saphyr_scanner.proofs.Common.{◌≡◌, ℕ, ◌+◌, ◌≤◌, ◌<◌, ◌⊎◌, Bool, true, false, List, [], ◌∷◌, ◌++◌, length, drop, Option, Some, None, refl, sym, ap, ◌∙◌, arith, subst, inl, inr, append_assoc, IsTrue, ◌==◌, slice_index, is_z, is_blank_or_breakz, colon, Cursor, Piece}
+use Rattle.saphyr_scanner.specs.Steps.Queue.{Place, Queue, with_piece, is_empty_list}
 use Rattle.saphyr_scanner.specs.Steps.Core.{Core, in_block}
 use Rattle.saphyr_scanner.specs.Steps.Level.{Candidate, Level}
-use Rattle.saphyr_scanner.specs.TokensTaken.{AreApart, begins_text}
+use Rattle.saphyr_scanner.specs.TokensTaken.{AreApart}
 use Rattle.saphyr_scanner.specs.TokensInPlace.{Enclosures, is_of_flow_node, is_indented, AreIndented}
 use Rattle.saphyr_scanner.proofs.Leads.{flat, place_pieces}
 use Rattle.saphyr_scanner.proofs.Queues.{flat_append}

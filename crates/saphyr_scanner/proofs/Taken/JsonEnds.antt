@@ -1,13 +1,7 @@
 -- What is passed with a token: a character at least; or the text ends like JSON after it; or it is one without a text,
 -- which changes neither that nor the open brackets; or it is outside flow.
-use Rattle.std.proofs.Common.{◌≡◌, ℕ, ◌<◌, ◌⊎◌, Bool, true, false, List, [], ◌∷◌, ◌++◌, length, refl, ap, ◌∙◌, arith, inl, inr}
-use Rattle.std.specs.Prelude.{nat_lt}
-use Rattle.std.proofs.lemmas.Bool.{ltb-true}
+use Rattle.saphyr_scanner.proofs.Common.{◌≡◌, ℕ, ◌<◌, ◌⊎◌, Bool, true, false, List, [], ◌∷◌, ◌++◌, length, ap, ◌∙◌, arith, inl, inr, nat_lt, Marker, Span, Cursor, IsPlainReading}
 use Rattle.std.proofs.lemmas.List.{length-append}
-use Rattle.saphyr_scalar.specs.declared.scalar.position.Marker.{Marker}
-use Rattle.saphyr_scalar.specs.declared.scalar.position.Span.{Span}
-use Rattle.saphyr_scalar.specs.Views.Cursor.{Cursor}
-use Rattle.saphyr_scalar.specs.Reading.Plain.{IsPlainReading}
 use Rattle.saphyr_scanner.specs.Grammar.Tokens.{Kind}
 use Rattle.saphyr_scanner.specs.TokensTaken.{Collections, Surroundings, IsSpan, open_behind, ends_json_behind}
 use Rattle.saphyr_scanner.specs.TokensInPlace.{has_text}

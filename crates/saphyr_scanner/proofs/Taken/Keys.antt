@@ -1,14 +1,11 @@
 -- Candidates for keys: each is a token that the scanner holds, from which the tokens lead as deep as brackets enclose.
-use Rattle.std.proofs.Common.{◌≡◌, ℕ, suc, ◌+◌, ◌-◌, ◌≤◌, ◌<◌, Bool, true, false, List, [], ◌∷◌, ◌++◌, length, ◌⊎◌, Option, Some, None, sym, arith, subst, inl, inr, append_assoc, IsTrue}
-use Rattle.std.specs.Prelude.{◌&&◌, slice_index}
-use Rattle.saphyr_input.specs.Classes.{is_z}
-use Rattle.saphyr_scanner.specs.Views.Tokens.{Piece}
+use Rattle.saphyr_scanner.proofs.Common.{◌≡◌, ℕ, suc, ◌+◌, ◌≤◌, ◌<◌, Bool, true, false, List, [], ◌∷◌, ◌++◌, length, ◌⊎◌, Option, Some, None, arith, inr, append_assoc, IsTrue, ◌&&◌, slice_index, is_z, Piece}
 use Rattle.saphyr_scanner.specs.Steps.Queue.{Place, Queue, is_empty_list, bare_place, with_piece}
 use Rattle.saphyr_scanner.specs.Steps.Core.{Core, in_block, is_too_far, least_column}
 use Rattle.saphyr_scanner.specs.Steps.Level.{Candidate, Level, is_block}
 use Rattle.saphyr_scanner.specs.TokensInPlace.{Enclosures, is_of_flow_node}
 use Rattle.saphyr_scanner.proofs.Leads.{flat}
-use Rattle.saphyr_scanner.proofs.Taken.InPlace.{all_behind, deeper, AreInside, inside_of, inside_append}
+use Rattle.saphyr_scanner.proofs.Taken.InPlace.{all_behind, deeper, AreInside, inside_append}
 use Rattle.saphyr_scanner.proofs.Taken.KeysInPlace.{IsPast}
 use Rattle.saphyr_scanner.proofs.Taken.Later.{top}
 use Rattle.saphyr_scanner.proofs.Taken.Parts.{is_quiet, AreQuiet, quiet_append, Begins}

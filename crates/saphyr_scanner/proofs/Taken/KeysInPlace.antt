@@ -1,14 +1,7 @@
 -- Tokens stay in their places where a candidate turns out to be a key.
-use Rattle.std.proofs.Common.{◌≡◌, ℕ, ◌+◌, ◌-◌, true, false, List, ◌∷◌, ◌++◌, None, refl, arith, IsTrue, ◌≤◌, ◌<◌}
-use Rattle.std.specs.Prelude.{nat_lt}
-use Rattle.std.proofs.lemmas.Bool.Decides.{nat_tests}
-use Rattle.std.proofs.Math.Bool.{or-true}
-use Rattle.saphyr_scalar.specs.declared.scalar.position.Marker.{Marker}
-use Rattle.saphyr_scalar.specs.declared.scalar.position.Span.{Span}
-use Rattle.saphyr_scanner.specs.declared.queue.Opening.{Opening}
+use Rattle.saphyr_scanner.proofs.Common.{◌≡◌, ℕ, ◌+◌, ◌-◌, true, false, List, ◌∷◌, ◌++◌, None, refl, arith, IsTrue, ◌≤◌, ◌<◌, nat_lt, nat_tests, or-true, Marker, Span, Opening, Piece}
 use Rattle.saphyr_scanner.specs.declared.queue.Opening.TheVariants as opening
 use Rattle.saphyr_scanner.specs.Grammar.Tokens as tokens
-use Rattle.saphyr_scanner.specs.Views.Tokens.{Piece}
 use Rattle.saphyr_scanner.specs.Steps.Queue.{empty_piece}
 use Rattle.saphyr_scanner.specs.TokensInPlace as place
 use Rattle.saphyr_scanner.specs.TokensInPlace.{Enclosure, Enclosed, Begun, Enclosures, with_begun, begun_at, turned_to, awaiting_colon, may_begin_pair, may_begin_key, may_follow, AreInPlace, AreIndented}

@@ -1,19 +1,9 @@
 -- What is reached moves the place on: its lines count up, and no more than its characters do.
-use Rattle.std.proofs.Common.{◌≡◌, ℕ, Bool, ◌+◌, ◌≤◌, ◌<◌, true, false, List, [], ◌∷◌, ◌++◌, length, drop, refl, ap, ◌∙◌, arith, subst, IsTrue}
-use Rattle.std.specs.Prelude.{slice_index}
-use Rattle.std.proofs.lemmas.Bool.{eqb-true}
-use Rattle.std.proofs.lemmas.List.{length-drop}
-use Rattle.saphyr_input.specs.Classes.{is_blank, is_break, is_z}
-use Rattle.saphyr_scalar.specs.declared.scalar.position.Marker.{Marker}
-use Rattle.saphyr_scalar.specs.Views.Cursor.{Cursor, along, next_line}
-use Rattle.saphyr_scalar.specs.Passing.{IsPassed}
+use Rattle.saphyr_scanner.proofs.Common.{◌≡◌, ℕ, Bool, ◌+◌, ◌≤◌, ◌<◌, true, false, List, [], ◌∷◌, ◌++◌, length, drop, refl, arith, subst, IsTrue, slice_index, is_blank, is_break, is_z, Marker, Cursor, along, next_line, IsPassed, end_of_text, IsPlainReading, break_len, by_test}
 use Rattle.saphyr_scalar.specs.Steps.Plain.{ends_line}
-use Rattle.saphyr_scalar.specs.Reading.Plain.{end_of_text, IsPlainReading}
-use Rattle.saphyr_scalar.specs.Steps.Quoted.{break_len}
 use Rattle.saphyr_scanner.specs.TokensTaken as taken
 use Rattle.saphyr_scanner.specs.TokensTaken.{IsReached, IsPassedOver, past_mark, begins_text}
-use Rattle.saphyr_scanner.proofs.Reached.{break_len_within, apart_reached, passed_reached}
-use Rattle.saphyr_input.proofs.Basics.Booleans.{by_test}
+use Rattle.saphyr_scanner.proofs.Reached.{apart_reached, passed_reached}
 
 -- the greatest number of a line
 abbrev pub top : ℕ

@@ -1,9 +1,7 @@
 -- Tokens that change nothing of what encloses those after, but for properties that come right before.
-use Rattle.std.proofs.Common.{◌≡◌, ℕ, Bool, true, false, List, refl, IsTrue, arith}
-use Rattle.saphyr_scalar.specs.declared.scalar.position.Span.{Span}
+use Rattle.saphyr_scanner.proofs.Common.{◌≡◌, ℕ, Bool, true, false, List, IsTrue, arith, Span, Piece}
 use Rattle.saphyr_scanner.specs.Grammar.Tokens as tokens
 use Rattle.saphyr_scanner.specs.Grammar.Tokens.{Kind}
-use Rattle.saphyr_scanner.specs.Views.Tokens.{Piece}
 use Rattle.saphyr_scanner.specs.TokensTaken.{Collections, open_behind}
 use Rattle.saphyr_scanner.specs.TokensInPlace.{Enclosure, enclosures_behind, fits}
 use Rattle.saphyr_scanner.proofs.Taken.KeysInPlace.{Outside, free, calm}

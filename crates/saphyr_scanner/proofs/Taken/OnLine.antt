@@ -1,21 +1,7 @@
 -- Scalars that end on the line where they begin have no later lines.
 use Rattle.std.proofs.Common.{◌≡◌, ℕ, ◌≤◌, ◌<◌, Bool, true, false, List, [], ◌∷◌, ◌++◌, length, drop, slice_index, refl, sym, ap, ◌∙◌, arith, IsTrue}
-use Rattle.std.specs.Prelude.{◌&&◌, ◌==◌, not}
-use Rattle.std.proofs.lemmas.Bool.{false≢true}
-use Rattle.saphyr_input.specs.Classes.{is_break}
-use Rattle.saphyr_input.proofs.Basics.Booleans.{by_test, and_true_left, and_false}
-use Rattle.saphyr_scalar.specs.declared.values.Item.{Item}
-use Rattle.saphyr_scalar.specs.declared.values.Quote.{Quote}
-use Rattle.saphyr_scalar.specs.Values.Flow.{mark}
-use Rattle.saphyr_scalar.specs.declared.scalar.position.Marker.{Marker}
-use Rattle.saphyr_scalar.specs.Passing.{IsPassed, nothing, character, line_break}
-use Rattle.saphyr_scalar.specs.Reading.Plain.{end_of_text, IsPlainReading}
-use Rattle.saphyr_scalar.specs.Spelling.IndentedQuotes.{HasIndentedLines}
-use Rattle.saphyr_scalar.specs.Spelling.LaterLines.{AreLaterLines, ArePlainLines, IsPlainLine}
+use Rattle.saphyr_scanner.proofs.Common.{◌&&◌, ◌==◌, not, false≢true, is_break, by_test, and_true_left, and_false, Item, Quote, mark, Marker, IsPassed, nothing, character, line_break, end_of_text, IsPlainReading, HasIndentedLines, AreLaterLines, ArePlainLines, IsPlainLine, IsText, IsQuotedText, closed, itself, broken, two_quotes, escaped, numbered, escaped_break, stands_for_itself, Cursor, along, next_line, mark_no_break}
 use Rattle.saphyr_scalar.specs.Spelling.LineBreaks.{break_len, ends_line}
-use Rattle.saphyr_scalar.specs.Spelling.Quoted.{IsText, IsQuotedText, closed, itself, broken, two_quotes, escaped, numbered, escaped_break, stands_for_itself}
-use Rattle.saphyr_scalar.specs.Views.Cursor.{Cursor, along, next_line}
-use Rattle.saphyr_scalar.proofs.NoBreaks.{mark_no_break}
 use Rattle.saphyr_scalar.proofs.Passings.{digits_passed, one_place}
 use Rattle.saphyr_scalar.proofs.Quoted.Spellings.{no_break_simple, no_break_digits}
 use Rattle.saphyr_scanner.proofs.Taken.Later.{top, piece_later, passed_later}

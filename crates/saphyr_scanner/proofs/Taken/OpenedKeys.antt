@@ -1,16 +1,10 @@
 -- Candidates stay so where something comes before a token.
-use Rattle.std.proofs.Common.{◌≡◌, ℕ, zero, suc, ◌+◌, ◌-◌, ◌≤◌, ◌<◌, Bool, true, false, List, [], ◌∷◌, ◌++◌, length, drop, Option, Some, None, refl, sym, ap, ◌∙◌, arith, subst}
-use Rattle.std.specs.Prelude.{nat_lt}
-use Rattle.saphyr_scalar.specs.declared.scalar.position.Marker.{Marker}
-use Rattle.saphyr_scalar.specs.Views.Cursor.{Cursor}
-use Rattle.saphyr_scanner.specs.declared.queue.Opening.{Opening}
-use Rattle.saphyr_scanner.specs.Views.Tokens.{Piece}
+use Rattle.saphyr_scanner.proofs.Common.{◌≡◌, ℕ, zero, suc, ◌+◌, ◌-◌, ◌≤◌, ◌<◌, Bool, true, false, List, [], ◌∷◌, ◌++◌, length, drop, Option, Some, None, refl, sym, ap, ◌∙◌, arith, subst, nat_lt, Marker, Cursor, Opening, Piece, ltb-false}
 use Rattle.saphyr_scanner.specs.Steps.Queue.{Place, Queue, bare_place, places_with_opening, with_opening}
 use Rattle.saphyr_scanner.specs.Steps.Core.{Core}
 use Rattle.saphyr_scanner.specs.Steps.Level.{Candidate, Level, is_block}
 use Rattle.saphyr_scanner.specs.TokensInPlace.{Enclosure, Enclosures, may_stand, AreInPlace, is_indented, AreIndented, Begun, with_begun}
 use Rattle.saphyr_scanner.specs.TokensTaken.{Collections, AreApart, AreTokens, least_column_in, IsAtColumn}
-use Rattle.std.proofs.lemmas.Bool.{ltb-false}
 use Rattle.saphyr_scanner.proofs.Leads.{flat, place_pieces}
 use Rattle.saphyr_scanner.proofs.Taken.InPlace.{all_behind, behind_append, each_append, each_parts, AreInside, inside_append, inside_parts, inside_shift, node_carried, node_taken}
 use Rattle.saphyr_scanner.proofs.Taken.KeysInPlace.{awaited, MayOpen, Outside, free, opened_in_place, calm, IsPast, EndsOn}

@@ -1,21 +1,9 @@
 -- Each token of a text leads from a place of it to a later one, and begins and ends at places of it.
-use Rattle.std.proofs.Common.{◌≡◌, ℕ, Bool, ◌≤◌, ◌⊎◌, true, false, List, [], ◌∷◌, ◌++◌, length, IsFalse, refl, sym, ap, arith, subst, inl, inr}
-use Rattle.std.specs.Prelude.{slice_index}
-use Rattle.saphyr_input.specs.Classes.{is_break, is_blank}
-use Rattle.saphyr_scalar.specs.declared.scalar.position.Marker.{Marker}
-use Rattle.saphyr_scalar.specs.declared.scalar.position.Span.{Span}
+use Rattle.saphyr_scanner.proofs.Common.{◌≡◌, ℕ, Bool, ◌⊎◌, true, false, List, [], ◌∷◌, ◌++◌, IsFalse, refl, sym, ap, arith, subst, inl, inr, slice_index, is_break, Marker, Span, BlockStyle, Quote, Single, Double, Cursor, start_cursor, version, tag_prefix, reserved, end_of_text, IsPlainReading, NoBreaks, directive_no_break, Piece, or_false_right}
 use Rattle.saphyr_scalar.specs.declared.scalar.style.ScalarStyle.TheVariants as style
-use Rattle.saphyr_scalar.specs.declared.values.BlockStyle.{BlockStyle}
 use Rattle.saphyr_scalar.specs.declared.values.BlockStyle.TheVariants as block_style
-use Rattle.saphyr_scalar.specs.declared.values.Quote.{Quote}
-use Rattle.saphyr_scalar.specs.declared.values.Quote.TheVariants.{Single, Double}
-use Rattle.saphyr_scalar.specs.Views.Cursor.{Cursor, start_cursor}
-use Rattle.saphyr_scalar.specs.Spelling.Directive.{version, tag_prefix, reserved}
-use Rattle.saphyr_scalar.specs.Reading.Plain.{end_of_text, IsPlainReading}
-use Rattle.saphyr_scalar.proofs.NoBreaks.{NoBreaks, directive_no_break}
 use Rattle.saphyr_scanner.specs.Grammar.Tokens as tokens
 use Rattle.saphyr_scanner.specs.Grammar.Tokens.{Kind}
-use Rattle.saphyr_scanner.specs.Views.Tokens.{Piece}
 use Rattle.saphyr_scanner.specs.AtPlaces.{AreAtPlaces}
 use Rattle.saphyr_scanner.specs.TokensTaken as taken
 use Rattle.saphyr_scanner.specs.TokensTaken.{Collections, Surroundings, surroundings_in, IsReached, IsPlaceOrEnd, IsPlaceOf, HasNoText, IsSpan, IsMark, TakesCharacter, LiesOnLine, IsFlowIndicator, IsPlainToken, IsQuotedToken, IsBlockScalarToken, IsToken, AreTokens, open_behind, ends_json_behind}
@@ -23,7 +11,6 @@ use Rattle.saphyr_scanner.proofs.Taken.JsonEnds.{LeavesBrackets, LeavesBoth, Goe
 use Rattle.saphyr_scanner.proofs.Taken.Later.{LaterThan, reached_later}
 use Rattle.saphyr_scanner.proofs.LineTexts.{name_no_break, tag_no_break, tail_no_break}
 use Rattle.saphyr_scanner.proofs.Reached.{reached_reached, reached_counted, along_reached, apart_reached, passed_reached, piece_reached, Uncut, uncut_no_break, uncut_behind}
-use Rattle.saphyr_input.proofs.Basics.Booleans.{or_false_right}
 
 abbrev pub Reaches : Cursor → Cursor → Type 0
 Reaches s t = IsReached s.mark s.rest t.mark t.rest

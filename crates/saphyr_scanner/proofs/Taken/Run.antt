@@ -1,11 +1,5 @@
 -- The tokens of a text are taken from it, and a refusal that ends them is at a place of it.
-use Rattle.std.proofs.Common.{◌≡◌, ℕ, zero, suc, ◌+◌, ◌^◌, ◌<◌, Bool, true, false, List, [], ◌∷◌, ◌++◌, length, drop, Option, Some, None, Result, Ok, Err, refl, sym, ap, ◌∙◌, arith, subst, inl}
-use Rattle.std.specs.Prelude.{◌&&◌, ◌==◌, not}
-use Rattle.saphyr_scalar.specs.declared.scalar.fault.Refusal.{Refusal}
-use Rattle.saphyr_scalar.specs.Views.Cursor.{Cursor, start_cursor, ◌>>=◌}
-use Rattle.saphyr_scanner.specs.declared.queue.Opening.{Opening}
-use Rattle.saphyr_scanner.specs.declared.queue.Opening.TheVariants as opening
-use Rattle.saphyr_scanner.specs.Views.Tokens.{Piece, Remaining}
+use Rattle.saphyr_scanner.proofs.Common.{◌≡◌, ℕ, zero, suc, ◌+◌, ◌^◌, ◌<◌, Bool, true, false, List, [], ◌∷◌, ◌++◌, length, drop, Option, Some, None, Result, Ok, Err, refl, sym, ap, ◌∙◌, arith, subst, inl, ◌&&◌, ◌==◌, not, Refusal, Cursor, start_cursor, ◌>>=◌, Opening, Piece, Remaining, by_test, given_of, or_parts, eq-eqb}
 use Rattle.saphyr_scanner.specs.Steps.Queue.{Place, bare_place}
 use Rattle.saphyr_scanner.specs.Steps.Core.{Core}
 use Rattle.saphyr_scanner.specs.Steps.Level.{Candidate, Level, is_block, is_place, holds}
@@ -22,17 +16,14 @@ use Rattle.saphyr_scanner.proofs.Taken.Later.{LaterThan, later_here, later_later
 use Rattle.saphyr_scanner.proofs.Taken.Parts.{open_append, tokens_append, tokens_part}
 use Rattle.saphyr_scanner.proofs.Taken.Held.{Setting, setting_behind}
 use Rattle.saphyr_scanner.proofs.Taken.Keys.{Key, KeyOf, lower, KeysFrom, keys_weaken}
-use Rattle.saphyr_scanner.proofs.Taken.InPlace.{all_behind, behind_append, each_append, each_parts}
+use Rattle.saphyr_scanner.proofs.Taken.InPlace.{all_behind, behind_append, each_parts}
 use Rattle.saphyr_scanner.proofs.Taken.KeysInPlace.{calm, IsPast}
-use Rattle.saphyr_scanner.specs.TokensInPlace.{Enclosures, may_stand, is_indented, not_enclosed, AreInPlace, AreIndented}
+use Rattle.saphyr_scanner.specs.TokensInPlace.{Enclosures, may_stand, not_enclosed, AreInPlace, AreIndented}
 use Rattle.saphyr_scanner.proofs.Taken.Indented.{root_key, indented_handed}
 use Rattle.saphyr_scanner.proofs.Taken.Fetch.{Read, Ready, settled_ready, read_ready}
 use Rattle.saphyr_scanner.proofs.Taken.Places.{Reaches, reaches_reaches, place_of, tokens_reached, tokens_later}
 use Rattle.saphyr_scanner.proofs.Refusing.Documents.{NotedState}
 use Rattle.saphyr_scanner.proofs.Refusing.Reads.{holds_ok, holds_err, settled_holds, read_holds}
-use Rattle.saphyr_input.proofs.Basics.Booleans.{by_test}
-use Rattle.saphyr_scalar.proofs.Given.{given_of}
-use Rattle.std.proofs.lemmas.Bool.{or_parts, eq-eqb}
 use Rattle.saphyr_scanner.proofs.Queues.{holding}
 
 -- ## A place is handed out

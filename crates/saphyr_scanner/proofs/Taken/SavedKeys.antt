@@ -1,16 +1,6 @@
 -- What is held stays so where a key is saved, and where a candidate turns out to be a key.
-use Rattle.std.proofs.Common.{◌≡◌, ℕ, zero, suc, ◌+◌, ◌-◌, ◌≤◌, ◌<◌, ◌⊎◌, Bool, true, false, List, [], ◌∷◌, length, Option, Some, refl, sym, ap, ◌∙◌, arith, subst, inl, inr, IsTrue}
-use Rattle.std.specs.Prelude.{◌==◌, ◌&&◌, slice_index, not, if◌then◌else◌}
-use Rattle.std.proofs.Math.Bool.{or-true}
-use Rattle.std.proofs.lemmas.Bool.{le-leb}
-use Rattle.std.proofs.lemmas.Bool.Decides.{nat_tests}
-use Rattle.saphyr_input.specs.Classes.{is_z}
-use Rattle.saphyr_scalar.specs.declared.scalar.position.Marker.{Marker}
-use Rattle.saphyr_scanner.specs.declared.engine.level.Context.{Context}
-use Rattle.saphyr_scalar.specs.Views.Cursor.{Cursor}
-use Rattle.saphyr_scanner.specs.declared.queue.Opening.{Opening}
+use Rattle.saphyr_scanner.proofs.Common.{◌≡◌, ℕ, zero, suc, ◌+◌, ◌-◌, ◌≤◌, ◌<◌, ◌⊎◌, Bool, true, false, List, [], ◌∷◌, length, Option, Some, refl, sym, ap, ◌∙◌, arith, subst, inl, inr, IsTrue, ◌==◌, ◌&&◌, not, if◌then◌else◌, or-true, le-leb, nat_tests, Marker, Context, Cursor, Opening, Piece}
 use Rattle.saphyr_scanner.specs.declared.queue.Opening.TheVariants as opening
-use Rattle.saphyr_scanner.specs.Views.Tokens.{Piece}
 use Rattle.saphyr_scanner.specs.Steps.Queue.{Place, Queue, is_empty_list, bare_place, with_piece, places_with_opening, with_opening, next}
 use Rattle.saphyr_scanner.specs.Steps.Core.{Core, in_block, forget_key, is_further, is_too_far, enter_block}
 use Rattle.saphyr_scanner.specs.Steps.Level.{Candidate, Level, is_block}

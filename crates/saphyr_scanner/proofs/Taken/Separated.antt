@@ -1,21 +1,9 @@
 -- What is passed between two tokens is separation.
-use Rattle.std.proofs.Common.{◌≡◌, ℕ, ◌+◌, ◌≤◌, ◌<◌, ◌⊎◌, Bool, true, false, List, [], ◌∷◌, ◌++◌, length, drop, Result, Ok, Err, IsTrue, IsFalse, refl, sym, ap, ◌∙◌, arith, subst, inl, inr}
-use Rattle.std.specs.Prelude.{◌&&◌, ◌||◌, ◌==◌, slice_index, not}
-use Rattle.saphyr_input.specs.Classes.{is_bom, is_blank, is_break, is_yaml_non_break, is_z, carriage_return, line_feed}
-use Rattle.saphyr_scalar.specs.declared.scalar.position.Marker.{Marker}
-use Rattle.saphyr_scalar.specs.declared.scalar.fault.Refusal.{Refusal}
-use Rattle.saphyr_scalar.specs.Views.Cursor.{Cursor, along, next_line}
-use Rattle.saphyr_scalar.specs.Steps.Quoted.{break_len}
-use Rattle.saphyr_scalar.specs.Spelling.Tag.{AreIn}
-use Rattle.saphyr_scalar.proofs.Moving.{along_more}
+use Rattle.saphyr_scanner.proofs.Common.{◌≡◌, ℕ, ◌+◌, ◌≤◌, ◌<◌, ◌⊎◌, Bool, true, false, List, [], ◌∷◌, ◌++◌, length, drop, Result, Ok, Err, IsTrue, IsFalse, refl, sym, ap, ◌∙◌, arith, subst, inl, inr, ◌&&◌, ◌||◌, ◌==◌, slice_index, not, is_bom, is_blank, is_break, is_yaml_non_break, is_z, carriage_return, line_feed, Marker, Refusal, Cursor, along, next_line, break_len, AreIn, along_more, eqb-true, and_parts, or_cases, number_sign, by_test, or_false_left, or_false_right, Given}
 use Rattle.saphyr_scanner.specs.Steps.Gap.{Gap, GapEnd, end_of_gap, end_of_gap_in_comment, gap_here, gap_at, is_gap_blank, stop, whole_gap, spaces_at, is_tab_indentation}
 use Rattle.saphyr_scanner.specs.TokensTaken as taken
 use Rattle.saphyr_scanner.specs.TokensTaken.{IsPassedOver, IsReached, AreApart, begins_text}
-use Rattle.std.proofs.lemmas.Bool.{eqb-true, and_parts, or_cases}
-use Rattle.saphyr_input.specs.Indicators.{number_sign}
-use Rattle.saphyr_input.proofs.Basics.Booleans.{by_test, or_false_left, or_false_right}
 use Rattle.saphyr_scanner.proofs.Gaps.{break_is_no_gap_blank, break_is_no_sign, gap_blank_is_blank, passes_no_feed}
-use Rattle.saphyr_scalar.proofs.Given.{Given}
 use Rattle.saphyr_scanner.proofs.Reached.{apart_reached}
 use Rattle.saphyr_scanner.proofs.Taken.Later.{top}
 

@@ -1,14 +1,8 @@
 -- What is known between tokens: after a block scalar a candidate is too far in front to be a key.
-use Rattle.std.proofs.Common.{◌≡◌, ℕ, ◌^◌, ◌≤◌, ◌<◌, ◌⊎◌, Bool, true, false, List, [], ◌∷◌, length, Option, Ok, Some, None, refl, sym, ap, ◌∙◌, arith, subst, inl, inr, IsTrue}
+use Rattle.saphyr_scanner.proofs.Common.{◌≡◌, ℕ, ◌^◌, ◌≤◌, ◌<◌, ◌⊎◌, Bool, true, false, List, [], ◌∷◌, length, Option, Ok, Some, None, refl, sym, ap, ◌∙◌, arith, subst, inl, inr, IsTrue, is_z, BlockStyle, Marker, Span, Cursor, start_cursor, Piece, by_test, lt-ltb}
 use Rattle.std.specs.Prelude.{◌-◌, ◌&&◌, slice_index}
-use Rattle.saphyr_input.specs.Classes.{is_z}
-use Rattle.saphyr_scalar.specs.declared.values.BlockStyle.{BlockStyle}
-use Rattle.saphyr_scalar.specs.declared.scalar.position.Marker.{Marker}
-use Rattle.saphyr_scalar.specs.declared.scalar.position.Span.{Span}
 use Rattle.saphyr_scalar.specs.Steps.Block as blocks
-use Rattle.saphyr_scalar.specs.Views.Cursor.{Cursor, start_cursor}
 use Rattle.saphyr_scanner.specs.Grammar.Tokens as tokens
-use Rattle.saphyr_scanner.specs.Views.Tokens.{Piece}
 use Rattle.saphyr_scanner.specs.Steps.Queue.{Place, Queue, bare_place, with_piece, next, empty_piece}
 use Rattle.saphyr_scanner.specs.Steps.Core.{Core, Step, perform, in_block, is_too_far}
 use Rattle.saphyr_scanner.specs.Steps.Level.{Candidate, Level, is_block}
@@ -25,15 +19,13 @@ use Rattle.saphyr_scanner.proofs.Taken.Later.{top, Later, LaterThan, later_later
 use Rattle.saphyr_scanner.proofs.Taken.Places.{token_later, tokens_later}
 use Rattle.saphyr_scanner.proofs.Taken.Parts.{tokens_part}
 use Rattle.saphyr_scanner.proofs.Taken.Held.{Stack, stands_same, enclosures_of, Setting, Taken, taken_within, taken_further, unbound_parted, taken_put}
-use Rattle.saphyr_scanner.proofs.Taken.Indented.{BeginsNoNode, IsRight, IsPastLine, root_key, KeepsRequired, no_node_fits, indented_put}
+use Rattle.saphyr_scanner.proofs.Taken.Indented.{IsRight, IsPastLine, KeepsRequired, no_node_fits, indented_put}
 use Rattle.saphyr_scanner.proofs.Taken.Keys.{Key, Keys, IsArrival}
 use Rattle.saphyr_scanner.proofs.Taken.Cores.{HoldsTaken, no_keys, outermost}
 use Rattle.saphyr_scanner.proofs.Taken.SavedKeys.{IsSaved, Saved, saved_indented, saved_enclosures}
 use Rattle.saphyr_scanner.proofs.Taken.SavedKeys.{apart_same}
 use Rattle.saphyr_scanner.proofs.Taken.SavedKeys.{key_known}
 use Rattle.saphyr_scanner.proofs.Effects.Readers.{TextLaws}
-use Rattle.saphyr_input.proofs.Basics.Booleans.{by_test}
-use Rattle.std.proofs.lemmas.Bool.{lt-ltb, ltb-true}
 use Rattle.saphyr_scanner.proofs.Queues.{flat_append}
 
 -- ## Lines

@@ -1,6 +1,6 @@
 //! The first token of a queue, or what comes in front of it: it is looked at where it is, and taken off.
 
-#![tactic(auto, using(crate::proofs::QueuedPlaces::first_token), unfolding(crate::specs::Views::Queue::queue_places))]
+#![tactic(auto, using(crate::proofs::FirstQueued::first_token), unfolding(crate::specs::Views::Queue::queue_places))]
 
 ghost use Rattle.std.specs.Prelude.{◌≡◌, ◌<◌, ◌+◌, ◌^◌, List, ℕ, IfOk, OnErr, OnOk, Some, string_bytes};
 ghost use Rattle.saphyr_scanner.specs.Views.Queue.{BeginsWithPlace, behind_first, first_of, kind_shown, queue};

@@ -1,16 +1,5 @@
 -- The line of a block scalar's header, as it is spelled.
-use Rattle.std.proofs.Common.{◌≡◌, ◌≢◌, ℕ, ◌+◌, ◌-◌, ◌≤◌, ◌<◌, Bool, true, false, List, [], ◌∷◌, ◌++◌, length, drop, slice_index, Ok, refl, sym, ap, ◌∙◌, arith, subst, inl, inr, append_assoc}
-use Rattle.std.specs.Prelude.{◌||◌, ◌==◌, not, Option, Some, None, unwrap_or, codes}
-use Rattle.std.proofs.lemmas.Bool.Decides.{nat_tests}
-use Rattle.saphyr_input.specs.Classes.{is_break, is_breakz, is_digit, is_z, tab, line_feed}
-use Rattle.saphyr_input.specs.Places.{next_2_are}
-use Rattle.saphyr_input.specs.Separation.{separation_len}
-use Rattle.saphyr_input.specs.declared.input.SkipTabs.{SkipTabs}
-use Rattle.saphyr_input.specs.declared.input.SkipTabs.TheVariants.{Yes}
-use Rattle.saphyr_scalar.specs.declared.values.Chomping.{Chomping}
-use Rattle.saphyr_scalar.specs.declared.values.Chomping.TheVariants.{Clip}
-use Rattle.saphyr_scalar.specs.declared.scalar.block.header.BlockHeader.{BlockHeader}
-use Rattle.saphyr_scalar.specs.declared.scalar.position.Marker.{Marker}
+use Rattle.saphyr_scalar.proofs.Common.{◌≡◌, ◌≢◌, ℕ, ◌+◌, ◌-◌, ◌≤◌, ◌<◌, Bool, true, false, List, [], ◌∷◌, ◌++◌, length, drop, slice_index, Ok, refl, sym, ap, ◌∙◌, arith, subst, inl, inr, append_assoc, ◌||◌, ◌==◌, not, Option, Some, None, unwrap_or, codes, nat_tests, is_break, is_breakz, is_digit, is_z, tab, line_feed, next_2_are, separation_len, SkipTabs, Yes, Chomping, Clip, BlockHeader, Marker, by_test, not-false, first_and_rest}
 use Rattle.saphyr_scalar.specs.Steps.Block.{chomping, indicator, header_break, header_end, last_chomping, header_behind, header}
 use Rattle.saphyr_scalar.specs.Reading.BlockText.{digit_of, chomping_of, AreIndicators, IsBreakBefore, EndsHeader, IsHeaderLine}
 use Rattle.saphyr_scalar.specs.Views.Cursor.{Cursor, pass, pass_blanks, pass_break, separation, behind_separation}
@@ -18,9 +7,6 @@ use Rattle.saphyr_scalar.specs.Spelling.Directive.{IsLineTail}
 use Rattle.saphyr_scalar.proofs.Block.Reads.{then_gave, gave, refused_gave, same_gift}
 use Rattle.saphyr_scalar.proofs.Directives.TailsSpelled.{tail_line_of}
 use Rattle.saphyr_scalar.proofs.Quoted.Inside.{break_cases}
-use Rattle.saphyr_input.proofs.Basics.Booleans.{by_test}
-use Rattle.std.proofs.lemmas.Bool.{not-false}
-use Rattle.saphyr_input.proofs.Basics.Lists.{first_and_rest}
 
 -- ## The indicators
 

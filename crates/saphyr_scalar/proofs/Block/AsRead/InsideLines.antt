@@ -1,18 +1,9 @@
 -- Inside the lines of a block scalar is no NUL and no byte order mark, and at the start of none a document marker.
-use Rattle.std.proofs.Common.{◌≡◌, ◌⊎◌, ℕ, ◌+◌, Bool, true, false, List, [], ◌∷◌, ◌++◌, slice_index, refl, sym, ap, arith, subst, inl, inr}
+use Rattle.saphyr_scalar.proofs.Common.{◌≡◌, ◌⊎◌, ℕ, ◌+◌, Bool, true, false, List, [], ◌∷◌, ◌++◌, slice_index, refl, sym, ap, arith, subst, inl, inr, is_blank, is_break, is_yaml_non_break, line_feed, space, is_document_indicator, BlockStyle, EmptyLines, Marker, Cursor, along, next_line, and_true_left, and_true_right, by_test, eqb-true, non_break_no_break}
 use Rattle.std.specs.Prelude.{◌||◌, ◌==◌, Option, Some, IsTrue, IsFalse}
-use Rattle.saphyr_input.specs.Classes.{is_blank, is_break, is_yaml_non_break, line_feed, space}
-use Rattle.saphyr_input.specs.Places.{is_document_indicator}
-use Rattle.saphyr_scalar.specs.declared.values.BlockStyle.{BlockStyle}
-use Rattle.saphyr_scalar.specs.declared.scalar.block.lines.EmptyLines.{EmptyLines}
-use Rattle.saphyr_scalar.specs.declared.scalar.position.Marker.{Marker}
 use Rattle.saphyr_scalar.specs.Steps.Block.{is_indentation, is_cr_lf, inside_break, with_empty_line, pass_empty_lines, line_starts, LinesRead, between, line}
 use Rattle.saphyr_scalar.specs.Reading.BlockText.{AreInside}
-use Rattle.saphyr_scalar.specs.Views.Cursor.{Cursor, along, next_line}
 use Rattle.saphyr_scalar.proofs.Quoted.Inside.{break_cases}
-use Rattle.saphyr_input.proofs.Basics.Booleans.{and_true_left, and_true_right, by_test}
-use Rattle.std.proofs.lemmas.Bool.{eqb-true}
-use Rattle.saphyr_input.proofs.Basics.Characters.{non_break_no_break}
 use Rattle.saphyr_scalar.proofs.Block.Indentations.{indentation_is_space}
 
 -- What is taken off xs before `rest`, where a line may start only if A holds, or before an LF.

@@ -1,23 +1,11 @@
 -- What is read as a block scalar is one in the standard's words, and its span begins before its content.
-use Rattle.std.proofs.Common.{◌≡◌, ◌⊎◌, ℕ, zero, suc, ◌≤◌, ◌<◌, Bool, true, false, List, [], ◌∷◌, ◌++◌, length, slice_index, Ok, refl, sym, ap, ◌∙◌, arith, subst, inl, inr, append_assoc}
+use Rattle.saphyr_scalar.proofs.Common.{◌≡◌, ◌⊎◌, ℕ, zero, suc, ◌≤◌, ◌<◌, Bool, true, false, List, [], ◌∷◌, ◌++◌, length, slice_index, Ok, refl, sym, ap, ◌∙◌, arith, subst, inl, inr, append_assoc, nat_tests, append-nil, append_cancel_right, normalized, is_break, is_yaml_non_break, is_z, line_feed, space, is_document_indicator, BlockStyle, Chomping, BlockHeader, EmptyLines, Marker, Span, Cursor, eqb-true, by_test}
 use Rattle.std.specs.Prelude.{◌&&◌, ◌==◌, max, map, Option, unwrap_or, IsTrue, IsFalse, nat_lt, nat_le}
-use Rattle.std.proofs.lemmas.Bool.Decides.{nat_tests}
-use Rattle.std.proofs.lemmas.List.{append-nil, append_cancel_right}
-use Rattle.saphyr_input.specs.Breaks.{normalized}
-use Rattle.saphyr_input.specs.Classes.{is_break, is_yaml_non_break, is_z, line_feed, space}
-use Rattle.saphyr_input.specs.Places.{is_document_indicator}
-use Rattle.saphyr_scalar.specs.declared.values.BlockStyle.{BlockStyle}
-use Rattle.saphyr_scalar.specs.declared.values.Chomping.{Chomping}
-use Rattle.saphyr_scalar.specs.declared.scalar.block.header.BlockHeader.{BlockHeader}
-use Rattle.saphyr_scalar.specs.declared.scalar.block.lines.EmptyLines.{EmptyLines}
-use Rattle.saphyr_scalar.specs.declared.scalar.position.Marker.{Marker}
-use Rattle.saphyr_scalar.specs.declared.scalar.position.Span.{Span}
 use Rattle.saphyr_scalar.specs.Steps.BlockRead as step
 use Rattle.saphyr_scalar.specs.Steps.BlockRead.{indentation_of}
 use Rattle.saphyr_scalar.specs.Values.Block.{Line, Empty, has_content, line_of, lines_of}
 use Rattle.saphyr_scalar.specs.Steps.Block.{line_starts, pass_empty_lines_at, no_lines, given_indentation, chomped_lines, content, behind_leading_lines, behind_header, block_scalar, header}
 use Rattle.saphyr_scalar.specs.Reading.BlockText.{AreInside, HasNoContent, IsIndentationFrom, IsBehindLines, IsBlockText, IsHeaderLine}
-use Rattle.saphyr_scalar.specs.Views.Cursor.{Cursor}
 use Rattle.saphyr_scalar.specs.Values.Lines.{ended_lines, last_line}
 use Rattle.saphyr_scalar.specs.Passing as passing
 use Rattle.saphyr_scalar.specs.Passing.{IsPassed}
@@ -30,8 +18,6 @@ use Rattle.saphyr_scalar.proofs.Block.AsRead.Widths.{Fits, indentation_read, ind
 use Rattle.saphyr_scalar.proofs.Block.Wholes.{empties}
 use Rattle.saphyr_scalar.proofs.Block.Placed.{empty_passes, between_passes}
 use Rattle.saphyr_scalar.proofs.Block.PlacedHeaders.{passed_passed, one_passed, EndsHeaderLine, header_ends}
-use Rattle.std.proofs.lemmas.Bool.{eqb-true}
-use Rattle.saphyr_input.proofs.Basics.Booleans.{by_test}
 use Rattle.saphyr_scalar.proofs.Given.{given_of}
 
 -- ## What ends the lines

@@ -1,20 +1,11 @@
 -- The indentation of a block scalar is that of its widest line of spaces, or what its indicator gives.
-use Rattle.std.proofs.Common.{◌≡◌, ◌⊎◌, ℕ, zero, suc, ◌+◌, Bool, true, false, List, [], ◌∷◌, ◌++◌, length, slice_index, refl, sym, ap, ◌∙◌, arith, subst, inl}
+use Rattle.saphyr_scalar.proofs.Common.{◌≡◌, ◌⊎◌, ℕ, zero, suc, ◌+◌, Bool, true, false, List, [], ◌∷◌, ◌++◌, length, slice_index, refl, sym, ap, ◌∙◌, arith, subst, inl, nat_tests, append-nil, length-replicate, normalized, is_break, is_z, line_feed, space, EmptyLines, Marker, Cursor, along, next_line, and_true_left, or_false_right, by_test, eqb-true, or_right}
 use Rattle.std.specs.Prelude.{◌==◌, max, None, unwrap_or, IsTrue}
-use Rattle.std.proofs.lemmas.Bool.Decides.{nat_tests}
-use Rattle.std.proofs.lemmas.List.{append-nil, length-replicate}
-use Rattle.saphyr_input.specs.Breaks.{normalized}
-use Rattle.saphyr_input.specs.Classes.{is_break, is_z, line_feed, space}
-use Rattle.saphyr_scalar.specs.declared.scalar.block.lines.EmptyLines.{EmptyLines}
-use Rattle.saphyr_scalar.specs.declared.scalar.position.Marker.{Marker}
 use Rattle.saphyr_scalar.specs.Steps.Block.{line_cursor, is_cr_lf, inside_break, with_column, with_empty_line, pass_empty_lines, pass_empty_lines_at, no_lines, given_indentation}
 use Rattle.saphyr_scalar.specs.Values.Lines.{last_line}
 use Rattle.saphyr_scalar.specs.Reading.BlockText.{all_lines, widest, is_space_or_break, AreNotWider, IsIndentationFrom}
-use Rattle.saphyr_scalar.specs.Views.Cursor.{Cursor, along, next_line}
 use Rattle.saphyr_scalar.specs.Spelling.Tag.{AreIn}
 use Rattle.saphyr_scalar.proofs.Block.Texts.{spaces, spaces_more, plain_spaces, first_line, only_line, normal_half, normalized_break}
-use Rattle.saphyr_input.proofs.Basics.Booleans.{and_true_left, or_false_right, by_test}
-use Rattle.std.proofs.lemmas.Bool.{eqb-true, or_right}
 
 lone : (j : ℕ) → widest (all_lines (spaces j ++ [])) ≡ j
 lone j = grind (arith, only_line, spaces, plain_spaces, append-nil, length-replicate)

@@ -1,11 +1,10 @@
-use Rattle.std.proofs.Common.{◌≡◌}
+use Rattle.saphyr_scalar.proofs.Common.{◌≡◌, separation}
 use Rattle.saphyr_scalar.proofs.Directives.Refused.{separation_refused, directive_refused}
 use Rattle.saphyr_scalar.proofs.Given.{refused_of}
 use Rattle.saphyr_scalar.proofs.Properties.Refused.{anchor_refused, tag_refused}
 use Rattle.saphyr_scalar.specs.Steps.Anchor.{anchor}
 use Rattle.saphyr_scalar.proofs.Block.Refused.{block_scalar_refused}
 use Rattle.saphyr_scalar.specs.Steps.Block.{block_scalar}
-use Rattle.saphyr_scalar.specs.Views.Cursor.{separation}
 use Rattle.saphyr_scalar.specs.Steps.Directive.{directive}
 use Rattle.saphyr_scalar.proofs.Plain.Refused.{plain_refused}
 use Rattle.saphyr_scalar.specs.Steps.Plain.{plain}

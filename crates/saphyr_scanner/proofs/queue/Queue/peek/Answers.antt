@@ -1,6 +1,7 @@
 -- The kind of the first token.
 use Rattle.std.proofs.Common.{rules}
-use Rattle.saphyr_scanner.proofs.QueuedPlaces.{first_queued, kind_kept, no_place}
+use Rattle.saphyr_scanner.proofs.QueuedPlaces.{kind_kept}
+use Rattle.saphyr_scanner.proofs.FirstQueued.{first_queued, no_place}
 use Rattle.saphyr_scanner.proofs.queue.Queue.peek.Goals as goal
 
 pub returns-in_err-place : goal.returns-in_err-place

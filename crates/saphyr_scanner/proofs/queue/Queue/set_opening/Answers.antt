@@ -2,7 +2,7 @@
 use Rattle.std.proofs.Common.{drop, subst, sym, ◌+◌}
 use Rattle.std.specs.Prelude.{set}
 use Rattle.saphyr_scanner.specs.Views.Places.{Fit}
-use Rattle.saphyr_scanner.proofs.QueuedPlaces.{opened_behind}
+use Rattle.saphyr_scanner.proofs.FirstQueued.{opened_behind}
 use Rattle.saphyr_scanner.proofs.queue.Queue.set_opening.Goals as goal
 
 pub invariant_of-self-clause-fit : goal.invariant_of-self-clause-fit

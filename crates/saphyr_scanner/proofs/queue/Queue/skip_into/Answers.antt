@@ -3,7 +3,7 @@ use Rattle.std.proofs.Common.{rules, ◌∙◌, ◌∷◌}
 use Rattle.saphyr_scanner.specs.declared.queue.Opening.TheVariants as opening
 use Rattle.saphyr_scanner.specs.Views.Places.{coded_opening, place_at}
 use Rattle.saphyr_scanner.specs.Views.Queue.{queue_places}
-use Rattle.saphyr_scanner.proofs.QueuedPlaces.{begins_at, first_queued, key_behind, opened_first, places_behind}
+use Rattle.saphyr_scanner.proofs.FirstQueued.{begins_at, first_queued, key_behind, opened_first, places_behind}
 use Rattle.saphyr_scanner.proofs.Queues.{queue_at}
 use Rattle.saphyr_scanner.proofs.queue.Queue.skip_into.Goals as goal
 

@@ -1,5 +1,4 @@
-use Rattle.std.proofs.Common.{◌++◌, ap, ◌∙◌, string_bytes, encode_utf8_all, append_assoc}
-use Rattle.std.specs.Prelude.{encode_utf8}
+use Rattle.saphyr_scalar.proofs.Common.{◌++◌, ap, ◌∙◌, string_bytes, encode_utf8_all, append_assoc, encode_utf8}
 use Rattle.saphyr_scalar.specs.Values.Folding.{line_feeds}
 use Rattle.saphyr_scalar.proofs.Block.Lines.{feed_last}
 use Rattle.saphyr_scalar.proofs.scalar.block.breaks.push_line_feeds.Goals as goal

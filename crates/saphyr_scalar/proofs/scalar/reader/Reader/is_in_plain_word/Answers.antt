@@ -1,6 +1,4 @@
-use Rattle.std.proofs.Common.{slice_index, ap, ◌∙◌}
-use Rattle.saphyr_scalar.specs.Views.Cursor.{Cursor}
-use Rattle.saphyr_scalar.specs.Views.Reader.{cursor_of}
+use Rattle.saphyr_scalar.proofs.Common.{slice_index, ap, ◌∙◌, Cursor, cursor_of}
 use Rattle.saphyr_scalar.proofs.Plain.Words.{colon_in_word, plain_in_word}
 use Rattle.saphyr_scalar.proofs.scalar.reader.Reader.is_in_plain_word.Goals as goal
 

@@ -1,6 +1,4 @@
-use Rattle.std.proofs.Common.{arith}
-use Rattle.saphyr_input.proofs.WordRuns.{words_within}
-use Rattle.saphyr_scalar.specs.Views.Reader.{cursor_of}
+use Rattle.saphyr_scalar.proofs.Common.{arith, words_within, cursor_of}
 use Rattle.saphyr_scalar.proofs.scalar.reader.Reader.move_words.Goals as goal
 
 pub along-self-requires-clause-index : goal.along-self-requires-clause-index

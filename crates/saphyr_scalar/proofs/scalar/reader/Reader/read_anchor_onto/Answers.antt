@@ -1,6 +1,5 @@
 -- The run of a name was put behind the text.
-use Rattle.std.proofs.Common.{string_bytes, sym, ◌∙◌}
-use Rattle.saphyr_scalar.specs.Views.Reader.{cursor_of}
+use Rattle.saphyr_scalar.proofs.Common.{string_bytes, sym, ◌∙◌, cursor_of}
 use Rattle.saphyr_scalar.proofs.Properties.AnchorSteps.{anchor_behind, no_anchor_behind}
 use Rattle.saphyr_scalar.proofs.scalar.reader.Reader.read_anchor_onto.Goals as goal
 

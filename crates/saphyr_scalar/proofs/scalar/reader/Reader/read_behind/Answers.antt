@@ -1,6 +1,5 @@
-use Rattle.std.proofs.Common.{string_bytes, ap, ◌∙◌}
+use Rattle.saphyr_scalar.proofs.Common.{string_bytes, ap, ◌∙◌, cursor_of}
 use Rattle.saphyr_scalar.specs.Steps.Quoted as spec
-use Rattle.saphyr_scalar.specs.Views.Reader.{cursor_of}
 use Rattle.saphyr_scalar.proofs.Plain.Pieces.{moves_failed}
 use Rattle.saphyr_scalar.proofs.Quoted.Inside.{quoted_inside}
 use Rattle.saphyr_scalar.proofs.scalar.reader.Reader.read_behind.Goals as goal

@@ -1,14 +1,12 @@
-use Rattle.std.proofs.Common.{false, [], string_bytes, refl, ap, ◌∙◌}
+use Rattle.saphyr_scalar.proofs.Common.{false, [], string_bytes, refl, ap, ◌∙◌, cursor_of, z_is_nul}
 use Rattle.saphyr_input.specs.Classes as class
 use Rattle.saphyr_scalar.specs.Steps.Quoted as spec
-use Rattle.saphyr_scalar.specs.Views.Reader.{cursor_of}
 use Rattle.saphyr_scalar.proofs.Choices.{shows}
 use Rattle.saphyr_scalar.proofs.Lengths.{below_at_most}
 use Rattle.saphyr_scalar.proofs.Quoted.Gaps.{moved_no_longer, ok_shorter, blanks_to_break, blanks_to_end, blanks_to_word, reads_from}
 use Rattle.saphyr_scalar.proofs.Quoted.Inside.{blanks_of}
 use Rattle.saphyr_scalar.proofs.Quoted.Lines.{break_on_shorter}
 use Rattle.saphyr_scalar.proofs.scalar.reader.Reader.read_blank_gap.Goals as goal
-use Rattle.saphyr_input.proofs.Basics.Characters.{z_is_nul}
 
 pub returns-then-is_break-clause-same : goal.returns-then-is_break-clause-same
 returns-then-is_break-clause-same g c =

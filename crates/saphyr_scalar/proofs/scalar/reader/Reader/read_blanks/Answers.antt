@@ -1,10 +1,4 @@
-use Rattle.std.proofs.Common.{◌≡◌, ℕ, true, false, List, ◌++◌, length, take, slice_index, string_bytes, Ok, sym, ap, ◌∙◌, encode_utf8_all, rules}
-use Rattle.std.specs.List.{prefix_len}
-use Rattle.std.specs.String.Boundary.{IsSplitPoint}
-use Rattle.std.proofs.Math.Seq.{take-append_seam}
-use Rattle.saphyr_input.specs.Classes.{is_blank, is_break}
-use Rattle.saphyr_scalar.specs.Views.Cursor.{Cursor}
-use Rattle.saphyr_scalar.specs.Views.Reader.{cursor_of}
+use Rattle.saphyr_scalar.proofs.Common.{◌≡◌, ℕ, true, false, List, ◌++◌, length, take, slice_index, string_bytes, Ok, sym, ap, ◌∙◌, encode_utf8_all, rules, prefix_len, IsSplitPoint, take-append_seam, is_blank, is_break, Cursor, cursor_of}
 use Rattle.saphyr_scalar.proofs.Choices.{shows}
 use Rattle.saphyr_scalar.proofs.Quoted.Inside.{Moved, moved_of, SameBlanks}
 use Rattle.saphyr_scalar.proofs.Runs.{cuts_before_blanks}

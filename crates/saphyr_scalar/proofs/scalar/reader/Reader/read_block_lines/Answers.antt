@@ -1,5 +1,4 @@
-use Rattle.std.proofs.Common.{ap, sym, ◌∙◌, Ok, string_bytes}
-use Rattle.saphyr_scalar.specs.Views.Reader.{cursor_of}
+use Rattle.saphyr_scalar.proofs.Common.{ap, sym, ◌∙◌, Ok, string_bytes, cursor_of}
 use Rattle.saphyr_scalar.proofs.Lengths.{at_most_below, none_before}
 use Rattle.saphyr_scalar.proofs.Block.Turns.{skipped, turn, broken, cut, last}
 use Rattle.saphyr_scalar.proofs.scalar.reader.Reader.read_block_lines.Goals as goal

@@ -1,7 +1,5 @@
-use Rattle.std.proofs.Common.{◌≡◌, ◌≤◌, length, string_bytes}
-use Rattle.std.specs.Prelude.{None}
+use Rattle.saphyr_scalar.proofs.Common.{◌≡◌, ◌≤◌, length, string_bytes, None, cursor_of}
 use Rattle.saphyr_scalar.specs.Steps.Block.{with_lines, between_at}
-use Rattle.saphyr_scalar.specs.Views.Reader.{cursor_of}
 use Rattle.saphyr_scalar.proofs.scalar.reader.Reader.read_block_lines.Given as goal
 
 abbrev pub invariant-loop-style : goal.invariant-loop-style

@@ -1,7 +1,5 @@
-use Rattle.std.proofs.Common.{string_bytes}
-use Rattle.std.specs.Prelude.{None}
+use Rattle.saphyr_scalar.proofs.Common.{string_bytes, None, cursor_of}
 use Rattle.saphyr_scalar.specs.Steps.Block.{between_at}
-use Rattle.saphyr_scalar.specs.Views.Reader.{cursor_of}
 use Rattle.saphyr_scalar.proofs.Block.Turns.{text_done}
 use Rattle.saphyr_scalar.proofs.scalar.reader.Reader.read_block_text.Goals as goal
 

@@ -1,8 +1,6 @@
-use Rattle.std.proofs.Common.{◌≡◌, ◌+◌, true, drop, refl, sym, ap, ◌∙◌, arith}
+use Rattle.saphyr_scalar.proofs.Common.{◌≡◌, ◌+◌, true, drop, refl, sym, ap, ◌∙◌, arith, Cursor, along, cursor_of}
 use Rattle.saphyr_input.specs.Classes as class
 use Rattle.saphyr_scalar.specs.Steps.Quoted.{mid_line}
-use Rattle.saphyr_scalar.specs.Views.Cursor.{Cursor, along}
-use Rattle.saphyr_scalar.specs.Views.Reader.{cursor_of}
 use Rattle.saphyr_scalar.proofs.Quoted.Escapes.{digits_begin, digits_done, digit_passed, digit_counted, digits_on, digits_stop, digits_below, digits_fit, shift_fits, below_eight, digit_is_left}
 use Rattle.saphyr_scalar.proofs.scalar.reader.Reader.read_digits.Goals as goal
 

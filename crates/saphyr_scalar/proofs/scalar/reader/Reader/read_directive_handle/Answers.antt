@@ -1,7 +1,6 @@
 -- A word was put behind `!`.
-use Rattle.std.proofs.Common.{string_bytes, refl, sym, length, [], ◌≡◌, ◌∙◌, arith}
+use Rattle.saphyr_scalar.proofs.Common.{string_bytes, refl, sym, length, [], ◌≡◌, ◌∙◌, arith, cursor_of}
 use Rattle.saphyr_scalar.specs.Steps.Tag.{with_word}
-use Rattle.saphyr_scalar.specs.Views.Reader.{cursor_of}
 use Rattle.saphyr_scalar.proofs.Directives.HandleSteps.{handle_open, named_handle, primary_handle}
 use Rattle.saphyr_scalar.proofs.Lengths.{seen_left}
 use Rattle.saphyr_scalar.proofs.Properties.TagSteps.{behind_word, mark_left}

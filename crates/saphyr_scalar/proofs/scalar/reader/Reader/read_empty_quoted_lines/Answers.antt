@@ -1,8 +1,5 @@
-use Rattle.std.proofs.Common.{length, string_bytes, sym, ap, ◌∙◌, arith}
-use Rattle.saphyr_scalar.specs.Views.Cursor.{Cursor}
+use Rattle.saphyr_scalar.proofs.Common.{length, string_bytes, sym, ap, ◌∙◌, arith, Cursor, cursor_of, Double}
 use Rattle.saphyr_scalar.specs.Steps.Quoted as spec
-use Rattle.saphyr_scalar.specs.Views.Reader.{cursor_of}
-use Rattle.saphyr_scalar.specs.declared.values.Quote.TheVariants.{Double}
 use Rattle.saphyr_scalar.proofs.Quoted.Inside.{reads_refused}
 use Rattle.saphyr_scalar.proofs.Quoted.Lines.{begins_word, begins_refused}
 use Rattle.saphyr_scalar.proofs.scalar.reader.Reader.read_empty_quoted_lines.Goals as goal

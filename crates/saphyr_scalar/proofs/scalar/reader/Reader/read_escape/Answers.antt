@@ -1,6 +1,5 @@
-use Rattle.std.proofs.Common.{sym, ap, ◌∙◌, arith}
+use Rattle.saphyr_scalar.proofs.Common.{sym, ap, ◌∙◌, arith, cursor_of}
 use Rattle.saphyr_scalar.specs.Values.Escapes.{digit_count}
-use Rattle.saphyr_scalar.specs.Views.Reader.{cursor_of}
 use Rattle.saphyr_scalar.proofs.Quoted.Escapes.{digits_left, two_left}
 use Rattle.saphyr_scalar.proofs.scalar.reader.Reader.read_escape.Goals as goal
 

@@ -1,7 +1,5 @@
-use Rattle.std.proofs.Common.{◌≡◌, slice_index, string_bytes, sym, ap, ◌∙◌}
-use Rattle.saphyr_scalar.specs.Views.Cursor.{Cursor, pass_break}
+use Rattle.saphyr_scalar.proofs.Common.{◌≡◌, slice_index, string_bytes, sym, ap, ◌∙◌, Cursor, pass_break, cursor_of}
 use Rattle.saphyr_scalar.specs.Values.Flow as flow
-use Rattle.saphyr_scalar.specs.Views.Reader.{cursor_of}
 use Rattle.saphyr_scalar.proofs.Quoted.Gaps.{behind_escaped, escaped_left, escaped_to_quote, escaped_to_line, reads_from}
 use Rattle.saphyr_scalar.proofs.scalar.reader.Reader.read_escaped_break.Goals as goal
 

@@ -1,6 +1,4 @@
-use Rattle.std.proofs.Common.{sym, ap, ◌∙◌}
-use Rattle.saphyr_input.specs.Classes.{is_hex, hex_value}
-use Rattle.saphyr_scalar.specs.Views.Reader.{cursor_of}
+use Rattle.saphyr_scalar.proofs.Common.{sym, ap, ◌∙◌, is_hex, hex_value, cursor_of}
 use Rattle.saphyr_scalar.proofs.Properties.ByteSteps.{byte_on, three_left, high_fits, byte_fits, byte_small}
 use Rattle.saphyr_scalar.proofs.scalar.reader.Reader.read_escaped_byte.Goals as goal
 

@@ -1,5 +1,4 @@
-use Rattle.std.proofs.Common.{string_bytes, rules}
-use Rattle.saphyr_scalar.specs.Views.Reader.{cursor_of}
+use Rattle.saphyr_scalar.proofs.Common.{string_bytes, rules, cursor_of}
 use Rattle.saphyr_scalar.proofs.Plain.BehindGaps.{next_lines_with_feeds, next_lines_without_feed, lines_refused}
 use Rattle.saphyr_scalar.proofs.Plain.Pieces.{moves_failed}
 use Rattle.saphyr_scalar.proofs.scalar.reader.Reader.read_folded_lines.Goals as goal

@@ -1,6 +1,4 @@
-use Rattle.std.proofs.Common.{slice_index, sym, ap, ◌∙◌}
-use Rattle.saphyr_scalar.specs.Views.Cursor.{Cursor}
-use Rattle.saphyr_scalar.specs.Views.Reader.{cursor_of}
+use Rattle.saphyr_scalar.proofs.Common.{slice_index, sym, ap, ◌∙◌, Cursor, cursor_of}
 use Rattle.saphyr_scalar.proofs.Directives.Numbers.{digit_left}
 use Rattle.saphyr_scalar.proofs.scalar.reader.Reader.read_indentation_indicator.Goals as goal
 

@@ -1,6 +1,5 @@
 -- A word was put behind `!`.
-use Rattle.std.proofs.Common.{string_bytes}
-use Rattle.saphyr_scalar.specs.Views.Reader.{cursor_of}
+use Rattle.saphyr_scalar.proofs.Common.{string_bytes, cursor_of}
 use Rattle.saphyr_scalar.proofs.Properties.TagSteps.{word_put}
 use Rattle.saphyr_scalar.proofs.scalar.reader.Reader.read_marked_word.Goals as goal
 

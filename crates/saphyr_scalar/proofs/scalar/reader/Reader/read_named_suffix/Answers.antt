@@ -1,8 +1,6 @@
 -- A suffix was read behind a handle.
-use Rattle.std.proofs.Common.{string_bytes, sym, ◌∙◌}
+use Rattle.saphyr_scalar.proofs.Common.{string_bytes, sym, ◌∙◌, Suffix, cursor_of}
 use Rattle.saphyr_scalar.specs.Steps.Tag as spec
-use Rattle.saphyr_scalar.specs.declared.scalar.tag.UriSet.TheVariants.{Suffix}
-use Rattle.saphyr_scalar.specs.Views.Reader.{cursor_of}
 use Rattle.saphyr_scalar.proofs.Plain.Pieces.{moves_failed}
 use Rattle.saphyr_scalar.proofs.Properties.TagSteps.{named_alone, named_ended, step_refused}
 use Rattle.saphyr_scalar.proofs.scalar.reader.Reader.read_named_suffix.Goals as goal

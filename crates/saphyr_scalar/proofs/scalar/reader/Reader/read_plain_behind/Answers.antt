@@ -1,6 +1,5 @@
-use Rattle.std.proofs.Common.{◌≡◌, length, string_bytes, refl, sym, ◌∙◌, rules}
+use Rattle.saphyr_scalar.proofs.Common.{◌≡◌, length, string_bytes, refl, sym, ◌∙◌, rules, cursor_of}
 use Rattle.saphyr_scalar.specs.Steps.Plain as spec
-use Rattle.saphyr_scalar.specs.Views.Reader.{cursor_of}
 use Rattle.saphyr_scalar.proofs.Plain.BehindGaps.{gap_cuts, behind_gap_read, behind_refused, behind_ends, behind_words, behind_words_refused, behind_shorter}
 use Rattle.saphyr_scalar.proofs.Plain.Pieces.{started, moves_refused, moves_failed}
 use Rattle.saphyr_scalar.proofs.scalar.reader.Reader.read_plain_behind.Goals as goal

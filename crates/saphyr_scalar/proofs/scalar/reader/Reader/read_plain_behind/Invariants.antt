@@ -1,7 +1,5 @@
-use Rattle.std.proofs.Common.{◌≡◌, length, string_bytes}
-use Rattle.std.specs.String.Boundary.{IsSplitPoint}
+use Rattle.saphyr_scalar.proofs.Common.{◌≡◌, length, string_bytes, IsSplitPoint, cursor_of}
 use Rattle.saphyr_scalar.specs.Steps.Plain as spec
-use Rattle.saphyr_scalar.specs.Views.Reader.{cursor_of}
 use Rattle.saphyr_scalar.proofs.scalar.reader.Reader.read_plain_behind.Given as goal
 
 abbrev pub invariant-loop-text : goal.invariant-loop-text

@@ -1,8 +1,5 @@
-use Rattle.std.proofs.Common.{◌≡◌, length, string_bytes, ap, rules, subst, Result}
+use Rattle.saphyr_scalar.proofs.Common.{◌≡◌, length, string_bytes, ap, rules, subst, Result, Refusal, ◌>>=◌, cursor_of, Moves}
 use Rattle.saphyr_scalar.specs.Steps.Plain as spec
-use Rattle.saphyr_scalar.specs.declared.scalar.fault.Refusal.{Refusal}
-use Rattle.saphyr_scalar.specs.Views.Cursor.{◌>>=◌}
-use Rattle.saphyr_scalar.specs.Views.Reader.{cursor_of, Moves}
 use Rattle.saphyr_scalar.proofs.Plain.BehindGaps.{onto_refused, lines_cut, behind_gap_read}
 use Rattle.saphyr_scalar.proofs.Plain.Pieces.{plain_behind_gap, moves_failed}
 use Rattle.saphyr_scalar.proofs.scalar.reader.Reader.read_plain_lines.Goals as goal

@@ -1,9 +1,6 @@
 -- A plain scalar is put behind a text.
-use Rattle.std.proofs.Common.{string_bytes, refl, sym, ap, ◌∙◌}
-use Rattle.saphyr_input.specs.Classes.{is_break}
-use Rattle.saphyr_scalar.specs.Views.Cursor.{Cursor}
+use Rattle.saphyr_scalar.proofs.Common.{string_bytes, refl, sym, ap, ◌∙◌, is_break, Cursor, cursor_of}
 use Rattle.saphyr_scalar.specs.Steps.Plain as spec
-use Rattle.saphyr_scalar.specs.Views.Reader.{cursor_of}
 use Rattle.saphyr_scalar.proofs.Plain.LineEnds.{stays_there, blank_there, ended_at_once, behind_and_rest}
 use Rattle.saphyr_scalar.proofs.Plain.Pieces.{started, words_and_rest, plain_refused, no_plain, moves_refused, moves_failed}
 use Rattle.saphyr_scalar.proofs.scalar.reader.Reader.read_plain_onto.Goals as goal

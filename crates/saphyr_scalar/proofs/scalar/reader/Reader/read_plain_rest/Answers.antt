@@ -1,6 +1,5 @@
-use Rattle.std.proofs.Common.{◌≡◌, length, string_bytes, sym, ◌∙◌, rules, subst}
+use Rattle.saphyr_scalar.proofs.Common.{◌≡◌, length, string_bytes, sym, ◌∙◌, rules, subst, cursor_of, Moves}
 use Rattle.saphyr_scalar.specs.Steps.Plain as spec
-use Rattle.saphyr_scalar.specs.Views.Reader.{cursor_of, Moves}
 use Rattle.saphyr_scalar.proofs.Plain.BehindGaps.{onto_refused, gap_cuts, behind_gap_read}
 use Rattle.saphyr_scalar.proofs.Plain.Pieces.{gap_refused, moved_behind_word, moves_failed}
 use Rattle.saphyr_scalar.proofs.Plain.WordEnds.{none_moved}

@@ -1,6 +1,5 @@
-use Rattle.std.proofs.Common.{refl, string_bytes}
+use Rattle.saphyr_scalar.proofs.Common.{refl, string_bytes, cursor_of}
 use Rattle.saphyr_input.specs.Classes as class
-use Rattle.saphyr_scalar.specs.Views.Reader.{cursor_of}
 use Rattle.saphyr_scalar.proofs.Choices.{shows}
 use Rattle.saphyr_scalar.proofs.Quoted.Gaps.{ok_shorter, straight_to_break, reads_from}
 use Rattle.saphyr_scalar.proofs.Quoted.Lines.{break_on_shorter}

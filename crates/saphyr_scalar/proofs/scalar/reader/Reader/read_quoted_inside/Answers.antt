@@ -1,7 +1,5 @@
-use Rattle.std.proofs.Common.{IsTrue, Ok, string_bytes, sym, ap, ◌∙◌}
-use Rattle.saphyr_scalar.specs.Views.Cursor.{pass}
+use Rattle.saphyr_scalar.proofs.Common.{IsTrue, Ok, string_bytes, sym, ap, ◌∙◌, pass, cursor_of}
 use Rattle.saphyr_scalar.specs.Steps.Quoted as spec
-use Rattle.saphyr_scalar.specs.Views.Reader.{cursor_of}
 use Rattle.saphyr_scalar.proofs.Quoted.Gaps.{closing_closes}
 use Rattle.saphyr_scalar.proofs.scalar.reader.Reader.read_quoted_inside.Goals as goal
 

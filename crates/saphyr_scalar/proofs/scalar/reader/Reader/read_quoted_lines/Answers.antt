@@ -1,6 +1,5 @@
-use Rattle.std.proofs.Common.{refl, string_bytes, ap, ◌∙◌, arith}
+use Rattle.saphyr_scalar.proofs.Common.{refl, string_bytes, ap, ◌∙◌, arith, cursor_of}
 use Rattle.saphyr_scalar.specs.Steps.Quoted as spec
-use Rattle.saphyr_scalar.specs.Views.Reader.{cursor_of}
 use Rattle.saphyr_scalar.proofs.SpaceRuns.{inside_over_spaces}
 use Rattle.saphyr_scalar.proofs.Quoted.Gaps.{ok_no_longer, reads_from}
 use Rattle.saphyr_scalar.proofs.Quoted.Lines.{begins_later_word}

@@ -1,6 +1,5 @@
-use Rattle.std.proofs.Common.{◌≡◌, ◌≤◌, length, slice_index, string_bytes}
+use Rattle.saphyr_scalar.proofs.Common.{◌≡◌, ◌≤◌, length, slice_index, string_bytes, cursor_of, loaded}
 use Rattle.saphyr_scalar.specs.Steps.Quoted.{with_front, inner_text_at, no_gap}
-use Rattle.saphyr_scalar.specs.Views.Reader.{cursor_of, loaded}
 use Rattle.saphyr_scalar.proofs.scalar.reader.Reader.read_quoted_parts.Given as goal
 
 abbrev pub invariant-loop-text : goal.invariant-loop-text

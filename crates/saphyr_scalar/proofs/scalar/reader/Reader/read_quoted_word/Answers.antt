@@ -1,7 +1,5 @@
-use Rattle.std.proofs.Common.{length, slice_index, string_bytes, sym, ap, ◌∙◌, arith}
-use Rattle.saphyr_scalar.specs.Views.Cursor.{Cursor}
+use Rattle.saphyr_scalar.proofs.Common.{length, slice_index, string_bytes, sym, ap, ◌∙◌, arith, Cursor, cursor_of}
 use Rattle.saphyr_scalar.specs.Steps.Quoted as spec
-use Rattle.saphyr_scalar.specs.Views.Reader.{cursor_of}
 use Rattle.saphyr_scalar.proofs.Quoted.Inside.{reads_refused}
 use Rattle.saphyr_scalar.proofs.Quoted.Parts.{special_moved, special_shorter, special_refused, special_ends}
 use Rattle.saphyr_scalar.proofs.scalar.reader.Reader.read_quoted_word.Goals as goal

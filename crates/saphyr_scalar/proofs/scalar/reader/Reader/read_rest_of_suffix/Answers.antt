@@ -1,6 +1,5 @@
 -- A character that no suffix has ends it.
-use Rattle.std.proofs.Common.{string_bytes, sym, ◌∙◌}
-use Rattle.saphyr_scalar.specs.Views.Reader.{cursor_of}
+use Rattle.saphyr_scalar.proofs.Common.{string_bytes, sym, ◌∙◌, cursor_of}
 use Rattle.saphyr_scalar.proofs.Properties.TagSteps.{no_suffix_left}
 use Rattle.saphyr_scalar.proofs.scalar.reader.Reader.read_rest_of_suffix.Goals as goal
 

@@ -1,7 +1,6 @@
 -- The word of the handle is empty.
-use Rattle.std.proofs.Common.{string_bytes, [], ap, sym, ◌∙◌}
+use Rattle.saphyr_scalar.proofs.Common.{string_bytes, [], ap, sym, ◌∙◌, cursor_of}
 use Rattle.saphyr_scalar.specs.Steps.Tag as spec
-use Rattle.saphyr_scalar.specs.Views.Reader.{cursor_of}
 use Rattle.saphyr_scalar.proofs.Plain.Pieces.{moves_failed}
 use Rattle.saphyr_scalar.proofs.Properties.TagSteps.{without_word}
 use Rattle.saphyr_scalar.proofs.scalar.reader.Reader.read_secondary_tag.Goals as goal

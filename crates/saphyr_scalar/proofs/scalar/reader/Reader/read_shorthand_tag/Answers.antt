@@ -1,8 +1,7 @@
 -- A word was put behind `!`.
-use Rattle.std.proofs.Common.{◌≡◌, string_bytes, length, sym, ap, ◌∙◌, arith}
+use Rattle.saphyr_scalar.proofs.Common.{◌≡◌, string_bytes, length, sym, ap, ◌∙◌, arith, cursor_of}
 use Rattle.std.proofs.lemmas.List.{length-append}
 use Rattle.saphyr_scalar.specs.Steps.Tag as spec
-use Rattle.saphyr_scalar.specs.Views.Reader.{cursor_of}
 use Rattle.saphyr_scalar.proofs.Plain.Pieces.{moves_failed}
 use Rattle.saphyr_scalar.proofs.Properties.TagSteps.{alone_read, behind_word, handle_text, left_inside, mark_left, named_from, primary_read, primary_refused, tag_given}
 use Rattle.saphyr_scalar.proofs.scalar.reader.Reader.read_shorthand_tag.Goals as goal

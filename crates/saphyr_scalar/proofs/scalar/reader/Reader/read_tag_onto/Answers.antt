@@ -1,7 +1,6 @@
 -- A tag was read behind the text, and ends here or not.
-use Rattle.std.proofs.Common.{string_bytes, ap, sym, ◌∙◌}
+use Rattle.saphyr_scalar.proofs.Common.{string_bytes, ap, sym, ◌∙◌, cursor_of}
 use Rattle.saphyr_scalar.specs.Steps.Tag as spec
-use Rattle.saphyr_scalar.specs.Views.Reader.{cursor_of}
 use Rattle.saphyr_scalar.proofs.Properties.TagSteps.{tag_ended, tag_given, tag_open}
 use Rattle.saphyr_scalar.proofs.scalar.reader.Reader.read_tag_onto.Goals as goal
 

@@ -1,9 +1,4 @@
-use Rattle.std.proofs.Common.{length, sym, ap, ◌∙◌, arith}
-use Rattle.std.specs.Prelude.{◌||◌, ◌==◌}
-use Rattle.saphyr_input.specs.Indicators.{exclamation_mark}
-use Rattle.saphyr_input.specs.Classes.{is_tag_char}
-use Rattle.saphyr_scalar.specs.Views.Cursor.{Cursor}
-use Rattle.saphyr_scalar.specs.Views.Reader.{cursor_of}
+use Rattle.saphyr_scalar.proofs.Common.{length, sym, ap, ◌∙◌, arith, ◌||◌, ◌==◌, exclamation_mark, is_tag_char, Cursor, cursor_of}
 use Rattle.saphyr_scalar.proofs.Directives.Numbers.{prefix_left}
 use Rattle.saphyr_scalar.proofs.scalar.reader.Reader.read_tag_prefix.Goals as goal
 

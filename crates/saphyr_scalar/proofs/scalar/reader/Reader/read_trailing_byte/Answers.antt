@@ -1,5 +1,4 @@
-use Rattle.std.proofs.Common.{arith}
-use Rattle.saphyr_scalar.specs.Views.Reader.{cursor_of}
+use Rattle.saphyr_scalar.proofs.Common.{arith, cursor_of}
 use Rattle.saphyr_scalar.proofs.Properties.ByteSteps.{byte_grows, grown_small}
 use Rattle.saphyr_scalar.proofs.scalar.reader.Reader.read_trailing_byte.Goals as goal
 

@@ -1,5 +1,4 @@
-use Rattle.std.proofs.Common.{sym, ◌∙◌, arith}
-use Rattle.saphyr_scalar.specs.Views.Reader.{cursor_of}
+use Rattle.saphyr_scalar.proofs.Common.{sym, ◌∙◌, arith, cursor_of}
 use Rattle.saphyr_scalar.proofs.Properties.PercentEscapes.{trailing_on, trailing_refused, gives_refused, bits_below, bits_fit}
 use Rattle.saphyr_scalar.proofs.scalar.reader.Reader.read_trailing_bytes.Goals as goal
 

@@ -1,6 +1,5 @@
-use Rattle.std.proofs.Common.{◌≡◌, ◌<◌, ◌-◌, ◌*◌, ◌^◌}
+use Rattle.saphyr_scalar.proofs.Common.{◌≡◌, ◌<◌, ◌-◌, ◌*◌, ◌^◌, cursor_of}
 use Rattle.saphyr_scalar.specs.Steps.Tag.{trailing_bytes}
-use Rattle.saphyr_scalar.specs.Views.Reader.{cursor_of}
 use Rattle.saphyr_scalar.proofs.scalar.reader.Reader.read_trailing_bytes.Given as goal
 
 abbrev pub invariant-loop : goal.invariant-loop

@@ -1,5 +1,4 @@
-use Rattle.std.proofs.Common.{sym, ◌∙◌}
-use Rattle.saphyr_scalar.specs.Views.Reader.{cursor_of}
+use Rattle.saphyr_scalar.proofs.Common.{sym, ◌∙◌, cursor_of}
 use Rattle.saphyr_scalar.proofs.Plain.Pieces.{moves_refused}
 use Rattle.saphyr_scalar.proofs.Properties.BareCharacters.{bare_turn}
 use Rattle.saphyr_scalar.proofs.Properties.UriTurns.{escape_refused, escape_on, escape_shorter, bare_ends}

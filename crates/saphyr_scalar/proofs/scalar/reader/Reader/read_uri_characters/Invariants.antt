@@ -1,7 +1,6 @@
-use Rattle.std.proofs.Common.{◌≡◌, length, string_bytes}
+use Rattle.saphyr_scalar.proofs.Common.{◌≡◌, length, string_bytes, cursor_of}
 use Rattle.saphyr_scalar.specs.Steps.Quoted.{with_front}
 use Rattle.saphyr_scalar.specs.Steps.Tag.{decoded_at}
-use Rattle.saphyr_scalar.specs.Views.Reader.{cursor_of}
 use Rattle.saphyr_scalar.proofs.scalar.reader.Reader.read_uri_characters.Given as goal
 
 abbrev pub invariant-loop-self : goal.invariant-loop-self

@@ -1,9 +1,6 @@
 -- A uri was read behind the text.
-use Rattle.std.proofs.Common.{string_bytes, refl, ap, sym, ◌∙◌}
+use Rattle.saphyr_scalar.proofs.Common.{string_bytes, refl, ap, sym, ◌∙◌, Uri, ◌>>=◌, pass, cursor_of}
 use Rattle.saphyr_scalar.specs.Steps.Tag as spec
-use Rattle.saphyr_scalar.specs.declared.scalar.tag.UriSet.TheVariants.{Uri}
-use Rattle.saphyr_scalar.specs.Views.Cursor.{◌>>=◌, pass}
-use Rattle.saphyr_scalar.specs.Views.Reader.{cursor_of}
 use Rattle.saphyr_scalar.proofs.Lengths.{seen_left}
 use Rattle.saphyr_scalar.proofs.Properties.TagSteps.{verbatim_ended, verbatim_open}
 use Rattle.saphyr_scalar.proofs.scalar.reader.Reader.read_verbatim_tag.Goals as goal

@@ -1,5 +1,4 @@
-use Rattle.std.proofs.Common.{refl}
-use Rattle.saphyr_scalar.specs.Views.Reader.{cursor_of}
+use Rattle.saphyr_scalar.proofs.Common.{refl, cursor_of}
 use Rattle.saphyr_scalar.proofs.Lengths.{seen_left}
 use Rattle.saphyr_scalar.proofs.scalar.reader.Reader.read_version_directive.Goals as goal
 

@@ -1,7 +1,5 @@
-use Rattle.std.proofs.Common.{◌≡◌, true, false, slice_index, sym, ap, ◌∙◌}
+use Rattle.saphyr_scalar.proofs.Common.{◌≡◌, true, false, slice_index, sym, ap, ◌∙◌, Cursor, cursor_of}
 use Rattle.saphyr_input.specs.Classes as class
-use Rattle.saphyr_scalar.specs.Views.Cursor.{Cursor}
-use Rattle.saphyr_scalar.specs.Views.Reader.{cursor_of}
 use Rattle.saphyr_scalar.proofs.Directives.Numbers.{digit_on, digits_fit, digits_below, shifted_fits, below_nine, nine_at_most, counts_on, digit_left, digit_shorter, number_ends, number_read, number_long}
 use Rattle.saphyr_scalar.proofs.scalar.reader.Reader.read_version_number.Goals as goal
 

@@ -1,6 +1,5 @@
-use Rattle.std.proofs.Common.{◌≡◌, ◌≤◌, ◌<◌, ◌^◌, length, slice_index}
+use Rattle.saphyr_scalar.proofs.Common.{◌≡◌, ◌≤◌, ◌<◌, ◌^◌, length, slice_index, cursor_of}
 use Rattle.saphyr_scalar.specs.Steps.Directive.{number_from, number}
-use Rattle.saphyr_scalar.specs.Views.Reader.{cursor_of}
 use Rattle.saphyr_scalar.proofs.scalar.reader.Reader.read_version_number.Given as goal
 
 abbrev pub invariant-loop-c : goal.invariant-loop-c

@@ -1,7 +1,4 @@
-use Rattle.std.proofs.Common.{string_bytes, ap, ◌∙◌}
-use Rattle.saphyr_input.specs.Classes.{is_break}
-use Rattle.saphyr_scalar.specs.Views.Cursor.{Cursor}
-use Rattle.saphyr_scalar.specs.Views.Reader.{cursor_of}
+use Rattle.saphyr_scalar.proofs.Common.{string_bytes, ap, ◌∙◌, is_break, Cursor, cursor_of}
 use Rattle.saphyr_scalar.proofs.Choices.{shows}
 use Rattle.saphyr_scalar.proofs.Plain.LineEnds.{break_begins}
 use Rattle.saphyr_scalar.proofs.Plain.BehindGaps.{gap_on_line, gap_over_lines}

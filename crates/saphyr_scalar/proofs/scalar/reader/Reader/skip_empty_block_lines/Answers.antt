@@ -1,8 +1,5 @@
-use Rattle.std.proofs.Common.{◌≡◌, true, false, slice_index, sym, ap, ◌∙◌, subst, ◌≤◌}
-use Rattle.saphyr_input.specs.Classes.{is_break}
-use Rattle.saphyr_scalar.specs.Views.Cursor.{Cursor}
+use Rattle.saphyr_scalar.proofs.Common.{◌≡◌, true, false, slice_index, sym, ap, ◌∙◌, subst, ◌≤◌, is_break, Cursor, cursor_of}
 use Rattle.saphyr_scalar.specs.Steps.Block.{is_indentation}
-use Rattle.saphyr_scalar.specs.Views.Reader.{cursor_of}
 use Rattle.saphyr_scalar.proofs.SpaceRuns.{empty_over, none_left}
 use Rattle.saphyr_scalar.proofs.Block.Lines.{break_turn, end_turn, break_index}
 use Rattle.saphyr_scalar.proofs.Lengths.{countable}

@@ -1,6 +1,5 @@
-use Rattle.std.proofs.Common.{◌≡◌, ◌≤◌, false, length, slice_index}
+use Rattle.saphyr_scalar.proofs.Common.{◌≡◌, ◌≤◌, false, length, slice_index, cursor_of}
 use Rattle.saphyr_scalar.specs.Steps.Block as spec
-use Rattle.saphyr_scalar.specs.Views.Reader.{cursor_of}
 use Rattle.saphyr_scalar.proofs.scalar.reader.Reader.skip_empty_block_lines.Given as goal
 
 abbrev pub invariant-loop-limit : goal.invariant-loop-limit

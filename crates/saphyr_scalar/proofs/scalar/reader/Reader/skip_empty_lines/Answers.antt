@@ -1,5 +1,4 @@
-use Rattle.std.proofs.Common.{string_bytes, refl, sym, ◌∙◌}
-use Rattle.saphyr_scalar.specs.Views.Reader.{cursor_of}
+use Rattle.saphyr_scalar.proofs.Common.{string_bytes, refl, sym, ◌∙◌, cursor_of}
 use Rattle.saphyr_scalar.proofs.SpaceRuns.{line_front}
 use Rattle.saphyr_scalar.proofs.Plain.Pieces.{moves_refused}
 use Rattle.saphyr_scalar.proofs.Plain.Lines.{past_of, white_on, white_blank, white_shorter, line_over, refused_by, taken_by}

@@ -1,6 +1,5 @@
-use Rattle.std.proofs.Common.{◌≡◌, true, false, length, string_bytes}
+use Rattle.saphyr_scalar.proofs.Common.{◌≡◌, true, false, length, string_bytes, cursor_of}
 use Rattle.saphyr_scalar.specs.Steps.Plain.{lines}
-use Rattle.saphyr_scalar.specs.Views.Reader.{cursor_of}
 use Rattle.saphyr_scalar.proofs.scalar.reader.Reader.skip_empty_lines.Given as goal
 
 abbrev pub invariant-loop-c : goal.invariant-loop-c

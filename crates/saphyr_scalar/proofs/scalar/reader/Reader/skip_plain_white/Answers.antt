@@ -1,8 +1,4 @@
-use Rattle.std.proofs.Common.{true}
-use Rattle.std.proofs.lemmas.Bool.{false≢true}
-use Rattle.saphyr_input.specs.Places.{is_blank_or_break}
-use Rattle.saphyr_input.proofs.Basics.Lists.{shows_character}
-use Rattle.saphyr_scalar.specs.Views.Reader.{cursor_of}
+use Rattle.saphyr_scalar.proofs.Common.{true, false≢true, is_blank_or_break, shows_character, cursor_of}
 use Rattle.saphyr_scalar.proofs.scalar.reader.Reader.skip_plain_white.Goals as goal
 
 pub skip_blank-requires : goal.skip_blank-requires

@@ -1,8 +1,6 @@
-use Rattle.std.proofs.Common.{◌≡◌, refl, true, false, slice_index, sym, ap, ◌∙◌}
-use Rattle.std.specs.Prelude.{◌&&◌, ◌==◌}
+use Rattle.saphyr_scalar.proofs.Common.{◌≡◌, refl, true, false, slice_index, sym, ap, ◌∙◌, ◌&&◌, ◌==◌, cursor_of}
 use Rattle.saphyr_input.specs.Classes as class
 use Rattle.saphyr_scalar.specs.Steps.Quoted.{is_left}
-use Rattle.saphyr_scalar.specs.Views.Reader.{cursor_of}
 use Rattle.saphyr_scalar.proofs.SpaceRuns.{inside_over_spaces}
 use Rattle.saphyr_scalar.proofs.Quoted.Lines.{break_on, blank_on, tab_on, fits_right, fits_no_tab}
 use Rattle.saphyr_scalar.proofs.Quoted.LineTurns.{break_turn_shorter, blank_left, blank_turn_shorter, counted_less, counted_on, count_fits, no_longer}

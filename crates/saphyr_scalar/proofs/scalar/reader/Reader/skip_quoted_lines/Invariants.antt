@@ -1,8 +1,5 @@
-use Rattle.std.proofs.Common.{◌≡◌, ◌+◌, ◌≤◌, Bool, length}
+use Rattle.saphyr_scalar.proofs.Common.{◌≡◌, ◌+◌, ◌≤◌, Bool, length, cursor_of, Marker, Quote}
 use Rattle.saphyr_scalar.specs.Steps.Quoted.{inner_text_at, over_lines}
-use Rattle.saphyr_scalar.specs.Views.Reader.{cursor_of}
-use Rattle.saphyr_scalar.specs.declared.scalar.position.Marker.{Marker}
-use Rattle.saphyr_scalar.specs.declared.values.Quote.{Quote}
 use Rattle.saphyr_scalar.proofs.scalar.reader.Reader.skip_quoted_lines.Given as goal
 
 abbrev pub invariant-loop-self : goal.invariant-loop-self

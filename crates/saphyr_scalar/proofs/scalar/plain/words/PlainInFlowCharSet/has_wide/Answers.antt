@@ -1,5 +1,4 @@
-use Rattle.std.proofs.Common.{true}
-use Rattle.saphyr_input.proofs.Ascii.{wide_first, no_mark}
+use Rattle.saphyr_scalar.proofs.Common.{true, wide_first, no_mark}
 use Rattle.saphyr_scalar.proofs.WideSets.{wide_in_plain}
 use Rattle.saphyr_scalar.proofs.scalar.plain.words.PlainInFlowCharSet.has_wide.Goals as goal
 

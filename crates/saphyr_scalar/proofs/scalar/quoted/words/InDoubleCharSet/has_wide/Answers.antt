@@ -1,5 +1,4 @@
-use Rattle.saphyr_scalar.specs.declared.values.Quote.TheVariants.{Double}
-use Rattle.saphyr_input.proofs.Ascii.{wide_first}
+use Rattle.saphyr_scalar.proofs.Common.{Double, wide_first}
 use Rattle.saphyr_scalar.proofs.WideSets.{wide_is_literal}
 use Rattle.saphyr_scalar.proofs.scalar.quoted.words.InDoubleCharSet.has_wide.Goals as goal
 
