@@ -1,12 +1,16 @@
 -- Pieces at the front of a text, one after the other.
-use Rattle.std.proofs.Common.{◌≡◌, ◌≢◌, ℕ, Bool, true, List, [], ◌∷◌, ◌++◌, take, drop, refl, sym, ap, ◌∙◌, append_assoc, Option, None, Some, IsUtf8, subst}
+use Rattle.std.proofs.Common.{◌≡◌, ◌≢◌, ℕ, Bool, true, List, [], ◌∷◌, ◌++◌, take, drop, length, ◌-◌, ◌<◌, refl, sym, ap, ◌∙◌, append_assoc, arith, length-append, Option, None, Some, IsUtf8, subst}
 use Rattle.std.specs.Prelude.{IfSome, IsTrue, is_some}
-use Rattle.std.specs.List.{prefix_len}
+use Rattle.std.specs.List.{prefix_len, slice_range}
 use Rattle.std.specs.Str.{chars}
 use Rattle.std.specs.Str.Iter.{chars_steps}
 use Rattle.std.specs.declared.str.Chars.{Chars}
-use Rattle.std.proofs.lemmas.Str.{chars_past_char}
+use Rattle.std.proofs.lemmas.Bool.{and_parts}
+use Rattle.std.specs.Cmp.Derive.{both_true}
+use Rattle.std.proofs.lemmas.Str.{chars_past_char, chars-encodes, encodes-chars, encodes-append, scalars-chars}
 use Rattle.std.proofs.lemmas.List.{append-nil, take-append-drop}
+use Rattle.std.proofs.Math.Seq.{take-append_seam}
+use Rattle.std.proofs.Math.Utf8.{encodes, scalars}
 use Rattle.saphyr_input.proofs.Basics.Lists.{cons_not_empty}
 use Rattle.saphyr_scalar.specs.Spelling.Tag.{AreIn}
 use Rattle.saphyr_scalar.proofs.Runs.{run_is_in}
@@ -51,6 +55,11 @@ then {c = c} f s t = record {
   cut = s.cut ∙ ap (λ x. s.piece ++ x) t.cut ∙ sym (append_assoc s.piece t.piece c);
 }
 
+-- the same, with the pieces first
+pub joined : {P Q R : List ℕ → Type 0} {a b c : List ℕ} → TakesOff P a b → TakesOff Q b c
+    → ((p q : List ℕ) → P p → Q q → R (p ++ q)) → TakesOff R a c
+joined s t f = then f s t
+
 -- characters that are known, and a piece after them
 pub known_then : {Q R : List ℕ → Type 0} {a b c : List ℕ} (known : List ℕ) → ((q : List ℕ) → Q q → R (known ++ q))
     → a ≡ known ++ b → TakesOff Q b c → TakesOff R a c
@@ -84,7 +93,7 @@ joined_more : (ps : List (List ℕ)) (b : List ℕ) → joined_pieces (ps ++ b �
 joined_more [] b = append-nil b
 joined_more (p ∷ ps) b = ap (λ t. p ++ t) (joined_more ps b) ∙ sym (append_assoc p (joined_pieces ps) b)
 
-many_more : (P : List ℕ → Type 0) (a b : List ℕ) → AreMany P a → P b → AreMany P (a ++ b)
+pub many_more : (P : List ℕ → Type 0) (a b : List ℕ) → AreMany P a → P b → AreMany P (a ++ b)
 many_more P a b m k =
     (m.0 ++ b ∷ [], each_more P m.0 b m.1 k, ap (λ t. t ++ b) m.2 ∙ sym (joined_more m.0 b))
 
@@ -94,3 +103,27 @@ none_of_many P a = nothing_taken (AreMany P) a ([], tt, refl)
 pub one_of_many : (P : List ℕ → Type 0) (a b c : List ℕ) → TakesOff (AreMany P) a b → TakesOff P b c
     → TakesOff (AreMany P) a c
 one_of_many P a b c s t = then (λ p q m k. many_more P p q m k) s t
+
+-- ## The text between two places
+
+scalars_before : (n m : List ℕ) → scalars (n ++ m) ≡ true → scalars n ≡ true
+scalars_before [] m e = refl
+scalars_before (c ∷ cs) m e = let w = and_parts _ _ e in both_true w.0 (scalars_before cs m w.1)
+
+pub front_is : (s r x n : List ℕ) (count : ℕ) → IsUtf8 s → IsUtf8 r → count ≡ length s - length r
+    → x ≡ slice_range s 0 count → chars s ≡ n ++ chars r → chars x ≡ n
+front_is s r x n count us ur many e f =
+    let whole : s ≡ encodes n ++ r = sym (encodes-chars s us) ∙ ap encodes f ∙ encodes-append n (chars r)
+    ∙ ap (λ y. encodes n ++ y) (encodes-chars r ur) in
+    let long = length-append (encodes n) r in
+    let k : count - 0 ≡ length (encodes n) =
+    omega arith ∙ many ∙ ap (λ y. length y - length r) whole ∙ omega (arith, long) in
+    let same : x ≡ encodes n = e ∙ ap (λ y. take y s) k ∙ ap (λ y. take (length (encodes n)) y) whole
+    ∙ take-append_seam (encodes n) r in
+    ap chars same ∙ chars-encodes n (scalars_before n (chars r) (ap scalars (sym f) ∙ scalars-chars s us))
+
+pub something_before : (s r n : List ℕ) → IsUtf8 s → IsUtf8 r → length r < length s → chars s ≡ n ++ chars r → n ≢ []
+something_before s r n us ur shorter e none =
+    let same : s ≡ r = sym (encodes-chars s us) ∙ ap encodes (e ∙ ap (λ x. x ++ chars r) none) ∙ encodes-chars r ur in
+    let long : length s ≡ length r = ap length same in
+    omega (arith, shorter, long)

@@ -21,7 +21,7 @@ pub part_taken : (in_flow : Bool) (x : ℕ) (a b c : List ℕ) → TakesOff (Are
     → IsTrue (is_plain_safe in_flow x) → x ≢ 58 → TakesOff (IsSafePart in_flow) a c
 part_taken in_flow x a b c s e safe other = then_known (x ∷ []) (λ p k. (p, x, k, safe, other, refl)) s e
 
-colon_safe : (in_flow : Bool) → IsTrue (is_plain_safe in_flow 58)
+pub colon_safe : (in_flow : Bool) → IsTrue (is_plain_safe in_flow 58)
 colon_safe true = refl
 colon_safe false = refl
 
@@ -29,11 +29,11 @@ dash_safe : (in_flow : Bool) → IsTrue (is_plain_safe in_flow 45)
 dash_safe true = refl
 dash_safe false = refl
 
-more_left : (t q : List ℕ) → t ≢ [] → t ++ q ≢ []
+pub more_left : (t q : List ℕ) → t ≢ [] → t ++ q ≢ []
 more_left [] q h e = h refl
 more_left (c ∷ cs) q h e = cons_not_empty c (cs ++ q) e
 
-more_end : (t : List ℕ) (c : ℕ) → t ++ c ∷ [] ≢ []
+pub more_end : (t : List ℕ) (c : ℕ) → t ++ c ∷ [] ≢ []
 more_end [] c e = cons_not_empty c [] e
 more_end (x ∷ xs) c e = cons_not_empty x (xs ++ c ∷ []) e
 
@@ -73,7 +73,7 @@ pub some_safe : (in_flow : Bool) (a b c : List ℕ) → TakesOff (IsSafePart in_
 some_safe in_flow a b c s t =
     then (λ p q h k. let some = some_part in_flow p h in (more_left p q some.0, both_safe in_flow p q some.1 k)) s t
 
-first_is : (p r b : List ℕ) (c : ℕ) → p ≢ [] → c ∷ b ≡ p ++ r → slice_index p 0 ≡ c
+pub first_is : (p r b : List ℕ) (c : ℕ) → p ≢ [] → c ∷ b ≡ p ++ r → slice_index p 0 ≡ c
 first_is [] r b c some e = absurd (some refl)
 first_is (x ∷ p) r b c some e = heads c x b (p ++ r) e
 

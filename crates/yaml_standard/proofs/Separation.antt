@@ -103,7 +103,7 @@ separation indent a b c s t = then (λ p q k h. (p, q, k, h, refl)) s t
 
 -- ## Each line is shorter
 
-shorter_by : (a b p : List ℕ) → a ≡ p ++ b → 1 ≤ length p → length b < length a
+pub shorter_by : (a b p : List ℕ) → a ≡ p ++ b → 1 ≤ length p → length b < length a
 shorter_by a b p e some = rw e (let l = length-append p b in omega (arith, l, some))
 
 pub one_shorter : (c : ℕ) (a b : List ℕ) → a ≡ c ∷ b → length b < length a

@@ -1,5 +1,17 @@
+pub mod BlockLines
+pub mod BlockScalars
+pub mod Declarations
 pub mod Directives
+pub mod Documents
+pub mod FlowParts
+pub mod Goals
+pub mod Leads
+pub mod Leaves
+pub mod NodeProperties
 pub mod Percent
+pub mod PlainParts
 pub mod Quotes
+pub mod Strict
 pub mod Takes
+pub mod Verdicts
 pub mod Words

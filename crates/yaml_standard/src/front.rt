@@ -1,5 +1,5 @@
 //! Takes characters off the front of a text.
-ghost use Rattle.std.specs.Prelude.{◌≡◌, ◌≢◌, [], ◌∷◌, IfNone, IfSome, IsTrue};
+ghost use Rattle.std.specs.Prelude.{◌≡◌, ◌≢◌, ℕ, List, [], ◌∷◌, ◌++◌, encode_utf8_all, IfNone, IfSome, IsTrue};
 ghost use Rattle.std.specs.Str.{chars};
 ghost use Rattle.saphyr_input.specs.Places.{is_document_indicator};
 ghost use Rattle.saphyr_scalar.specs.Spelling.Tag.{AreIn};
@@ -42,6 +42,31 @@ pub(crate) fn is_document_marker(text: &str) -> bool
     let mut input = StrInput::new(text);
     input.lookahead(4);
     input.next_is_document_indicator()
+}
+
+/// Whether something comes before `rest`, which is what follows some place of the text.
+pub(crate) fn is_past(text: &str, rest: &str) -> bool
+    ensures { IsTrue result → (n : List ℕ) → chars text.now ≡ n ++ chars rest.now → n ≢ [] }
+{
+    rest.len() < text.len()
+}
+
+/// The text from `start` up to `rest`, which is what follows some place of it.
+pub(crate) fn front_before<'a>(start: &'a str, rest: &str) -> Option<&'a str>
+    ensures { IfSome result (λ front. (n : List ℕ) → chars start.now ≡ n ++ chars rest.now
+        → chars front.now ≡ n) }
+{
+    let front = start.get(..start.len().saturating_sub(rest.len()))?;
+    Some(front)
+}
+
+/// What comes before `rest`, which is the text's end.
+pub(crate) fn text_before<'a>(text: &'a str, rest: &str) -> &'a str
+    requires { (piece : List ℕ) × (chars text.now ≡ piece ++ chars rest.now) }
+    ensures { (piece : List ℕ) → chars text.now ≡ piece ++ chars rest.now
+        → result.now ≡ encode_utf8_all piece }
+{
+    &text[..text.len() - rest.len()]
 }
 
 /// What follows the characters of a set that come first.

@@ -5,7 +5,7 @@ ghost use Rattle.saphyr_input.specs.Classes as class;
 ghost use Rattle.saphyr_scalar.specs.Spelling.Tag as spec;
 ghost use Rattle.yaml_standard.specs.Takes.{TakesOff};
 
-use crate::front::{behind_run, behind_some, strip};
+use crate::front::{behind_run, behind_some, split, strip};
 use saphyr_input::CharSet;
 use saphyr_input::char_set::Alpha;
 use saphyr_input::char_traits::is_anchor_char;
@@ -34,10 +34,29 @@ pub(crate) fn behind_anchor_name(text: &str) -> Option<&str>
     behind_some::<AnchorSet>(text)
 }
 
+/// The text from the first `_` of a handle on. The grammar allows one, and the standard doesn't ([92]).
+pub(crate) fn underscore_in_handle(text: &str) -> Option<&str> {
+    let word = strip(text, '!')?;
+    let end = behind_run::<Alpha>(word);
+    strip(end, '!')?;
+    let mut rest = word;
+    for _ in end.len()..word.len() {
+        let (c, behind) = split(rest)?;
+        if c == '_' {
+            return Some(rest);
+        }
+        rest = behind;
+    }
+    None
+}
+
 /// What follows a handle: `!`, or the longer one where it is there.
 pub(crate) fn behind_handle(text: &str) -> Option<&str>
     ensures { IfSome result (λ rest. TakesOff spec.IsHandleText (chars text.now) (chars rest.now)) }
 {
+    if underscore_in_handle(text).is_some() {
+        return None;
+    }
     let word = strip(text, '!')?;
     match strip(behind_run::<Alpha>(word), '!') {
         None => Some(word),

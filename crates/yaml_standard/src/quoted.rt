@@ -10,7 +10,7 @@ ghost use Rattle.yaml_standard.specs.Quotes as spec;
 ghost use Rattle.yaml_standard.specs.Takes.{TakesOff};
 
 use crate::front::{is_document_marker, split, strip};
-use crate::spaces::{behind_all_spaces, behind_spaces};
+use crate::spaces::{behind_all_spaces, behind_blanks, behind_spaces};
 use saphyr_input::char_traits::{as_hex, is_breakz, is_hex};
 use saphyr_scalar::values::{Quote, digit_count, short_escape};
 
@@ -116,11 +116,27 @@ fn stands_for_itself(c: char, quote: Quote) -> bool
     }
 }
 
+// Whether a break comes first, escaped or not, and the next line has white space alone before an escaped break. The
+// grammar allows it, and the standard doesn't ([115], [116]).
+fn is_escaped_again(text: &str) -> bool {
+    let rest = match strip(text, '\\') {
+        None => text,
+        Some(rest) => rest,
+    };
+    match strip(rest, '\n') {
+        None => false,
+        Some(line) => behind_blanks(line).starts_with("\\\n"),
+    }
+}
+
 // What follows a part of a scalar that is not its closing quote.
 fn behind_part(text: &str, quote: Quote, indent: usize) -> Option<&str>
     ensures { IfSome result (λ rest. spec.PassesPart quote indent (chars text.now)
         (chars rest.now)) }
 {
+    if matches!(quote, Quote::Double) && is_escaped_again(text) {
+        return None;
+    }
     if let Some(line) = behind_break(text, indent) {
         return Some(line);
     }

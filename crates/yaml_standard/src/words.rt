@@ -11,7 +11,7 @@ use crate::front::{split, strip};
 use saphyr_input::char_traits::{is_blank_or_breakz, is_bom, is_flow};
 
 // Whether a word may have the character.
-fn is_plain_safe(c: char, in_flow: bool) -> bool
+pub(crate) fn is_plain_safe(c: char, in_flow: bool) -> bool
     ensures { result ≡ plain.is_plain_safe in_flow c }
 {
     !is_blank_or_breakz(c) && !is_bom(c) && !(in_flow && is_flow(c))
@@ -57,7 +57,7 @@ fn behind_safe(text: &str, in_flow: bool) -> &str
 }
 
 // What follows one such character or more.
-fn behind_some_safe(text: &str, in_flow: bool) -> Option<&str>
+pub(crate) fn behind_some_safe(text: &str, in_flow: bool) -> Option<&str>
     ensures { IfSome result (λ rest. TakesOff (spec.AreSomeSafe in_flow) (chars text.now)
         (chars rest.now)) }
 {

@@ -1,0 +1,157 @@
+//! Which rule a text breaks where it can't be read on. Nothing is promised of this: it names what a reader would see.
+
+use crate::broken_parts::{broken_directive, broken_properties, broken_quoted, tab_behind_scalar};
+use crate::directive::behind_directive;
+use crate::front::split;
+use crate::goal::{Goal, Place};
+use crate::lines::{blank_lines_before, first_tab, has_break, last_line, tab_first};
+use crate::rule::Rule;
+use crate::spaces::behind_separation;
+use crate::walk::Stuck;
+
+/// Where a goal is.
+#[derive(Clone, Copy)]
+enum Style {
+    /// Inside brackets or braces, with the first column to the right of the enclosing block collection.
+    Flow(usize),
+    /// Before a node in block style.
+    Block(Place),
+    /// Before a pair of a block mapping.
+    Pair,
+    /// Between nodes.
+    Between,
+}
+
+/// Where a goal is.
+fn style_of(goal: Option<Goal<'_>>) -> Style {
+    match goal {
+        Some(
+            Goal::Node(at)
+            | Goal::Collection(at)
+            | Goal::Items(at)
+            | Goal::OtherItems(at)
+            | Goal::Item(at)
+            | Goal::SinglePair(at)
+            | Goal::FlowPairs(at)
+            | Goal::OtherFlowPairs(at)
+            | Goal::FlowPair(at)
+            | Goal::KeyOrValue(at)
+            | Goal::AfterKey(at)
+            | Goal::AfterKeyOnLine(at, _)
+            | Goal::Value(at, _),
+        ) => Style::Flow(at.indent),
+        Some(Goal::Separation(indent)) => Style::Flow(indent),
+        Some(Goal::Known(_) | Goal::PairEnd) => Style::Flow(0),
+        Some(Goal::BlockNode(place)) => Style::Block(place),
+        Some(Goal::BlockPair(_)) => Style::Pair,
+        _ => Style::Between,
+    }
+}
+
+/// The first column to the right of the block collection that a place is in.
+fn indent_at(place: Place) -> usize {
+    match place {
+        Place::BehindDash(column) | Place::BehindMark(column) | Place::BehindKey(column) =>
+            column.saturating_add(1),
+        Place::BehindMarker | Place::AtStart => 0,
+    }
+}
+
+/// The rule that a text breaks which can't be read on, and the text from the character on that breaks it.
+pub(crate) fn broken_rule<'a>(lines: &'a str, stuck: Stuck<'a>) -> (Rule, &'a str) {
+    let text = stuck.text;
+    let token = behind_separation(text, 0);
+    let found = match style_of(stuck.goal) {
+        _ if token.starts_with("%") => broken_directives(token),
+        Style::Flow(indent) => broken_in_flow(text, token, indent),
+        Style::Block(place) => broken_in_block(text, token, place),
+        Style::Pair => broken_pair(text),
+        Style::Between => broken_between(lines, text, token),
+    };
+    match found {
+        None => (Rule::Unnamed, token),
+        Some(found) => found,
+    }
+}
+
+/// The rule that is broken in flow style.
+fn broken_in_flow<'a>(text: &'a str, token: &'a str, indent: usize) -> Option<(Rule, &'a str)> {
+    if has_break(text, token) {
+        return Some((Rule::FlowIndentation, token));
+    }
+    let (first, _) = split(token)?;
+    match first {
+        '#' => Some((Rule::CommentWithoutBlank, token)),
+        '|' | '>' => Some((Rule::BlockIndicatorInFlow, token)),
+        '?' => Some((Rule::QuestionInFlow, token)),
+        '&' | '!' => broken_properties(token, indent).0,
+        '"' | '\'' => match broken_quoted(token, indent) {
+            Some((Rule::QuotedIndentation, line)) => Some((Rule::FlowIndentation, line)),
+            found => found,
+        },
+        _ if is_long(token) => Some((Rule::LongKeyInFlow, token)),
+        _ => None,
+    }
+}
+
+/// Whether a line goes on for more characters than a key may have.
+fn is_long(text: &str) -> bool {
+    text.chars().take_while(|c| *c != '\n').nth(1024).is_some()
+}
+
+/// The rule that is broken by a node in block style.
+fn broken_in_block<'a>(text: &'a str, token: &'a str, place: Place) -> Option<(Rule, &'a str)> {
+    let indent = indent_at(place);
+    let (found, content) = broken_properties(token, indent);
+    if found.is_some() {
+        return found;
+    }
+    let (first, _) = split(content)?;
+    let found = match first {
+        '|' | '>' => tab_behind_scalar(content),
+        '"' | '\'' => broken_quoted(content, indent),
+        _ => None,
+    };
+    if found.is_some() {
+        return found;
+    }
+    broken_lead(text, token, place)
+}
+
+/// The rule that is broken by the first directive that breaks one.
+fn broken_directives(text: &str) -> Option<(Rule, &str)> {
+    let mut rest = text;
+    for _ in 0..text.len() {
+        match behind_directive(rest) {
+            None => return broken_directive(rest),
+            Some((_, line)) => rest = behind_separation(line, 0),
+        }
+    }
+    None
+}
+
+/// The rule that is broken by what comes before a block collection.
+fn broken_lead<'a>(text: &'a str, token: &'a str, place: Place) -> Option<(Rule, &'a str)> {
+    if let Some(tab) = tab_first(last_line(text, token)) {
+        return Some((Rule::TabIndentation, tab));
+    }
+    if matches!(place, Place::BehindKey(_)) && !has_break(text, token) {
+        return Some((Rule::CollectionAtColon, token));
+    }
+    None
+}
+
+/// The rule that is broken by what comes before a pair of a block mapping.
+fn broken_pair(text: &str) -> Option<(Rule, &str)> {
+    Some((Rule::TabIndentation, tab_first(text)?))
+}
+
+/// The rule that is broken between nodes, by the lines before a text or up to its first token.
+fn broken_between<'a>(lines: &'a str, text: &'a str, token: &'a str) -> Option<(Rule, &'a str)> {
+    let tab = first_tab(blank_lines_before(lines, text), token)?;
+    if has_break(tab, token) {
+        Some((Rule::TabInEmptyLine, tab))
+    } else {
+        Some((Rule::TabBehindProperty, tab))
+    }
+}

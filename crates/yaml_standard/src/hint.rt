@@ -1,0 +1,152 @@
+//! What the parser says of the next node. Its events decide where the grammar has a choice. Nothing is claimed of
+//! them: a wrong hint leads to a refusal, and never to a wrong derivation.
+
+use saphyr_parser::{Event, Fault, Parser, Progress, ScalarStyle, Span, StrInput, no_event};
+use std::alloc::Global;
+
+/// What the next event is of.
+#[derive(Clone, Copy)]
+pub(crate) enum HintKind {
+    /// The stream or a document, which begins or ends.
+    Document,
+    /// The end of a collection.
+    End,
+    Alias,
+    /// A plain scalar without a text.
+    Empty,
+    Plain,
+    Quoted,
+    /// A literal or folded scalar.
+    Block,
+    Sequence,
+    Mapping,
+    /// No event: the stream is over, the parser refuses the text, or memory ran out.
+    Fault,
+}
+
+/// The next event, without its texts.
+#[derive(Clone, Copy)]
+pub(crate) struct Hint {
+    pub kind: HintKind,
+    /// Whether the node has an anchor or a tag.
+    pub has_properties: bool,
+    /// How many characters its span covers.
+    pub covered: usize,
+}
+
+impl Hint {
+    /// No event.
+    const NONE: Hint = Hint {
+        kind: HintKind::Fault,
+        has_properties: false,
+        covered: 0,
+    };
+
+    /// Whether it is a node that is left out.
+    pub(crate) fn is_left_out(&self) -> bool {
+        matches!(self.kind, HintKind::Empty) && !self.has_properties
+    }
+
+    /// Whether it is the end of a collection.
+    pub(crate) fn is_end(&self) -> bool {
+        matches!(self.kind, HintKind::End)
+    }
+
+    /// Whether it is the start of a collection.
+    pub(crate) fn is_collection(&self) -> bool {
+        matches!(self.kind, HintKind::Sequence | HintKind::Mapping)
+    }
+}
+
+/// A parser of the text, one event ahead.
+#[derive(Drop)]
+pub(crate) struct Guide<'a> {
+    parser: Parser<'a, StrInput<'a>>,
+    next: (Event<'a>, Span),
+    fault: Fault,
+    is_refused: bool,
+    hint: Hint,
+}
+
+impl<'a> Guide<'a> {
+    /// The first event of the text is the next.
+    pub(crate) fn new(alloc: Global, text: &'a str) -> Guide<'a> {
+        let mut guide = Guide {
+            parser: Parser::new_from_str(alloc, text),
+            next: no_event(),
+            fault: Fault::OutOfMemory,
+            is_refused: false,
+            hint: Hint::NONE,
+        };
+        guide.pass();
+        guide
+    }
+
+    /// What the next event is.
+    pub(crate) fn hint(&self) -> Hint {
+        self.hint
+    }
+
+    /// Goes on to the event after it.
+    pub(crate) fn pass(&mut self) {
+        self.hint = match self.parser.next_event_into(&mut self.next, &mut self.fault) {
+            Progress::Event => hint_of(&self.next.0, self.next.1),
+            Progress::Fault => {
+                self.is_refused = true;
+                Hint::NONE
+            }
+            Progress::Over => Hint::NONE,
+        };
+    }
+
+    /// Goes on to the end: the fault that ends the events, if one does.
+    pub(crate) fn into_fault(mut self) -> Option<Fault> {
+        for _ in 0..usize::MAX {
+            if matches!(self.hint.kind, HintKind::Fault) {
+                break;
+            }
+            self.pass();
+        }
+        let Guide {
+            parser,
+            next,
+            fault,
+            is_refused,
+            hint: _hint,
+        } = self;
+        drop((parser, next));
+        if is_refused {
+            Some(fault)
+        } else {
+            drop(fault);
+            None
+        }
+    }
+}
+
+/// What an event says.
+fn hint_of(event: &Event<'_>, span: Span) -> Hint {
+    let kind = match event {
+        Event::Alias(_) => HintKind::Alias,
+        Event::Scalar(text, style, _, _) => kind_of(text.is_empty(), *style),
+        Event::SequenceStart(..) => HintKind::Sequence,
+        Event::MappingStart(..) => HintKind::Mapping,
+        Event::SequenceEnd | Event::MappingEnd => HintKind::End,
+        _ => HintKind::Document,
+    };
+    Hint {
+        kind,
+        has_properties: event.anchor_id().is_some() || event.tag().is_some(),
+        covered: span.end.index.saturating_sub(span.start.index),
+    }
+}
+
+/// What a scalar is.
+fn kind_of(is_empty: bool, style: ScalarStyle) -> HintKind {
+    match style {
+        ScalarStyle::Plain if is_empty => HintKind::Empty,
+        ScalarStyle::Plain => HintKind::Plain,
+        ScalarStyle::SingleQuoted | ScalarStyle::DoubleQuoted => HintKind::Quoted,
+        ScalarStyle::Literal | ScalarStyle::Folded => HintKind::Block,
+    }
+}

@@ -1,0 +1,99 @@
+//! Whether a text is YAML 1.2.2.
+ghost use Rattle.std.specs.Prelude.{◌≡◌, ◌≢◌, IfOk};
+ghost use Rattle.std.specs.Str.{chars};
+ghost use Rattle.yaml_standard.specs.Documents.{IsSomeStream};
+ghost use Rattle.yaml_standard.specs.Strict.{IsStrict};
+ghost use Rattle.yaml_standard.specs.Verdicts.{IsStandard};
+ghost use Rattle.yaml_standard.specs.declared.verdict.Verdict.TheVariants.{Standard};
+
+use crate::breaks::{has_return, with_line_feeds};
+use crate::broken::broken_rule;
+use crate::hint::Guide;
+use crate::place::place_behind;
+use crate::rule::Rule;
+use crate::stream::read_stream;
+use crate::strict::first_unprintable;
+use saphyr_parser::{Fault, Marker, ScanError};
+use std::alloc::{AllocError, Global};
+
+/// What a text is.
+#[derive(Debug, PartialEq, Eq, Drop)]
+pub enum Verdict {
+    /// It is YAML 1.2.2.
+    Standard,
+    /// The parser reads it, but it is not YAML 1.2.2.
+    Deviates(Deviation),
+    /// The parser refuses it.
+    Refused(ScanError),
+}
+
+/// Where a text departs from the standard.
+#[derive(Clone, Copy, Debug, PartialEq, Eq)]
+pub struct Deviation {
+    pub place: Marker,
+    pub rule: Rule,
+}
+
+/// A rule that is broken where `rest` begins. Each break of `lines` is a line feed, and else it is the text.
+fn deviates(text: &str, lines: &str, rule: Rule, rest: &str) -> Verdict
+    ensures { result ≢ Standard }
+{
+    let count = lines.chars().count().saturating_sub(rest.chars().count());
+    Verdict::Deviates(Deviation {
+        place: place_behind(text, count),
+        rule,
+    })
+}
+
+/// The verdict on a text that the parser refuses, unless memory ran out.
+fn refusal(alloc: Global, text: &str) -> Result<Verdict, AllocError>
+    ensures { IfOk result (λ v. v ≢ Standard) }
+{
+    match Guide::new(alloc, text).into_fault() {
+        Some(Fault::Scan(error)) => Ok(Verdict::Refused(error)),
+        Some(Fault::OutOfMemory | Fault::Receiver | Fault::InsideDocument) | None => {
+            Err(AllocError)
+        }
+    }
+}
+
+/// The verdict on a text with all breaks of `lines` made line feeds.
+fn judge(alloc: Global, text: &str, lines: &str) -> Result<Verdict, AllocError>
+    ensures standard { IfOk result (λ v. v ≡ Standard → IsSomeStream (chars lines.now)) }
+    ensures strict { IfOk result (λ v. v ≡ Standard → IsStrict (chars text.now)) }
+{
+    let mut guide = Guide::new(alloc, lines);
+    let stuck = read_stream(alloc, lines, &mut guide)?;
+    if let Some(fault) = guide.into_fault() {
+        drop(fault);
+        return refusal(alloc, text);
+    }
+    if let Some(stuck) = stuck {
+        let (rule, rest) = broken_rule(lines, stuck);
+        return Ok(deviates(text, lines, rule, rest));
+    }
+    match first_unprintable(text) {
+        None => Ok(Verdict::Standard),
+        Some(_) => {
+            let rest = first_unprintable(lines).unwrap_or(lines);
+            Ok(deviates(text, lines, Rule::UnprintableCharacter, rest))
+        }
+    }
+}
+
+/// Says whether a text is YAML 1.2.2. Of one that isn't, the verdict tells the first place that shows it, and the rule
+/// that is broken there.
+///
+/// Each text of the grammar is `Standard` if it keeps the rules that the grammar leaves out: this is tested, and not
+/// proved. The only error is that memory ran out.
+pub fn validate(alloc: Global, text: &str) -> Result<Verdict, AllocError>
+    ensures { IfOk result (λ v. v ≡ Standard → IsStandard (chars text.now)) }
+{
+    if !has_return(text) {
+        return judge(alloc, text, text);
+    }
+    let lines = with_line_feeds(alloc, text)?;
+    let verdict = judge(alloc, text, lines.as_str());
+    drop(lines);
+    verdict
+}
