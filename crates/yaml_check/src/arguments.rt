@@ -18,6 +18,7 @@ Checks files of YAML. With no FILE, or for -, reads standard input.
       --max-findings N  print at most N warnings of a file, and how many more (100)
       --max-nodes N     warn of more than N nodes
   -q, --quiet           print nothing; only the status tells
+      --standard        also say where a text departs from YAML 1.2.2
       --strict          let a warning count as an error
   -h, --help            print this
   -V, --version         print the version
@@ -44,6 +45,8 @@ pub struct Options {
     pub events: bool,
     /// What is found is not printed.
     pub quiet: bool,
+    /// It is an error if the text is not YAML 1.2.2.
+    pub standard: bool,
     /// A warning counts as an error.
     pub strict: bool,
     pub format: Format,
@@ -58,6 +61,7 @@ impl Options {
     pub const DEFAULT: Options = Options {
         events: false,
         quiet: false,
+        standard: false,
         strict: false,
         format: Format::Text,
         max_findings: 100,
@@ -133,6 +137,7 @@ enum Word {
 enum Flag {
     Events,
     Quiet,
+    Standard,
     Strict,
 }
 
@@ -153,6 +158,7 @@ fn kind_of(name: &str) -> Word {
         "-V" | "--version" => Word::Instead(Asked::Version),
         "--events" => Word::Flag(Flag::Events),
         "-q" | "--quiet" => Word::Flag(Flag::Quiet),
+        "--standard" => Word::Flag(Flag::Standard),
         "--strict" => Word::Flag(Flag::Strict),
         "--disable" => Word::Setting(Setting::Disable),
         "--format" => Word::Setting(Setting::Format),
@@ -227,6 +233,7 @@ fn raise(options: &mut Options, flag: Flag) {
     match flag {
         Flag::Events => options.events = true,
         Flag::Quiet => options.quiet = true,
+        Flag::Standard => options.standard = true,
         Flag::Strict => options.strict = true,
     }
 }

@@ -8,7 +8,7 @@ ghost use Rattle.yaml_check.specs.Checks.{Checks, IsWrong, Judges, JudgesBytes, 
 use crate::arguments::Options;
 use crate::checking::check_text;
 use crate::finding::Verdict;
-use crate::telling::{report, report_not_utf8};
+use crate::telling::{Error, report, report_error};
 use saphyr_parser::{DumpFault, Fault, Parser, dump};
 use std::alloc::{AllocError, Global};
 use std::io;
@@ -81,7 +81,7 @@ pub fn check_source<R: Read, W: Write>(
 }
 
 /// All bytes of a source.
-fn read_source<R: Read>(alloc: Global, source: &mut R) -> io::Result<Vec<u8>>
+pub(crate) fn read_source<R: Read>(alloc: Global, source: &mut R) -> io::Result<Vec<u8>>
     ensures { IfOk result (λ bytes.
         ReadsAll (R.remaining source.old) (R.remaining source.new) bytes.items) }
 {
@@ -96,7 +96,7 @@ fn read_source<R: Read>(alloc: Global, source: &mut R) -> io::Result<Vec<u8>>
 }
 
 /// Checks bytes, and writes what is found.
-fn judge_bytes<W: Write>(
+pub(crate) fn judge_bytes<W: Write>(
     alloc: Global,
     name: &str,
     bytes: &[u8],
@@ -132,7 +132,12 @@ fn tell_not_utf8<W: Write>(
     } else {
         "the text is not UTF-8 from here on"
     };
-    let told = report_not_utf8(alloc, name, front, message, options.format)?;
+    let error = Error {
+        place: None,
+        rule: "encoding",
+        message,
+    };
+    let told = report_error(alloc, name, front, error, options.format)?;
     let written = write_unless_quiet(out, told.as_str(), options);
     drop(told);
     written?;
@@ -179,7 +184,11 @@ fn judge<W: Write>(
 }
 
 /// Writes what is found, unless the options forbid it.
-fn write_unless_quiet<W: Write>(out: &mut W, told: &str, options: Options) -> Result<(), CheckFault>
+pub(crate) fn write_unless_quiet<W: Write>(
+    out: &mut W,
+    told: &str,
+    options: Options,
+) -> Result<(), CheckFault>
     ensures { WritesTold result (told_unless_quiet options told.now) (W.contents out.old)
         (W.contents out.new) }
 {

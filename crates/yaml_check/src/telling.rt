@@ -288,40 +288,49 @@ fn push_place(out: &mut String, name: &str, place: Marker) -> Result<(), AllocEr
     write!(out, "{name}:{place}: ")
 }
 
-/// What is printed for bytes of this name that are not UTF-8, after a text that is.
-pub(crate) fn report_not_utf8(
+/// An error beside the parser's. Without a place it is at the text's end.
+#[derive(Clone, Copy)]
+pub(crate) struct Error<'a> {
+    pub(crate) place: Option<Marker>,
+    pub(crate) rule: &'a str,
+    pub(crate) message: &'a str,
+}
+
+/// What is printed for an error in a text of this name.
+pub(crate) fn report_error(
     alloc: Global,
     name: &str,
-    front: &str,
-    message: &str,
+    text: &str,
+    error: Error<'_>,
     format: Format,
 ) -> Result<String, AllocError> {
     let name = printed_name(alloc, name, format)?;
-    let told = report_not_utf8_as(alloc, name.as_str(), front, message, format);
+    let told = report_error_as(alloc, name.as_str(), text, error, format);
     drop(name);
     told
 }
 
-/// The report of a file that is not UTF-8, whose name is as it is printed.
-fn report_not_utf8_as(
+/// The report of an error in a file whose name is as it is printed.
+fn report_error_as(
     alloc: Global,
     name: &str,
-    front: &str,
-    message: &str,
+    text: &str,
+    error: Error<'_>,
     format: Format,
 ) -> Result<String, AllocError> {
-    let text = characters(alloc, front)?;
+    let text = characters(alloc, text)?;
     let mut out = String::new(alloc);
     let source = Source {
         format,
         name,
         text: &text,
     };
+    let place = error.place.unwrap_or(place_of_index(&text, text.len()));
     let told = Told {
-        span: Span::empty(place_of_index(&text, text.len())),
+        span: Span::empty(place),
         severity: Severity::Error,
-        rule: "encoding",
-        message,
+        rule: error.rule,
+        message: error.message,
     };
     let done = tell(alloc, &mut out, &source, &told, true);
     drop(text);
