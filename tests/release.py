@@ -27,8 +27,9 @@ from release_pages import block, files_below, read, wrong_links, wrong_manuals, 
 TEXT = b"name: &it !!str 'parser'\nports: [80, \"443\", *it]\n"
 SCALARS = b"1:1 name\n1:7 parser\n2:1 ports\n2:9 80\n2:13 443\n"
 FIRST = b"1:1 ports\n1:9 80\n1:13 443\n"  # what the programs of the README print
-CALLS = ["add", "anchored", "clone", "count", "describe", "expanded", "free", "get", "item", "keep_tags", "key", "load",
-         "load_next", "new", "new_pieces", "new_utf8", "next", "peek", "root", "valid_up_to", "value", "version"]
+CALLS = ["add", "anchored", "check_standard", "clone", "count", "describe", "expanded", "free", "get", "item",
+         "keep_tags", "key", "load", "load_next", "new", "new_pieces", "new_utf8", "next", "peek", "root", "valid_up_to",
+         "value", "version"]
 PATHS = b".name = parser (1:7)\n.ports[0] = 80 (2:9)\n.ports[1] = 443 (2:13)\n"  # what the example `config` prints
 STRICT = ["-Wall", "-Wextra", "-pedantic", "-Werror"]
 # Each call that takes NULL, at -O0 too, and `{}` in C++.
@@ -41,6 +42,7 @@ NULLS = """#include <saphyr_parser.h>
 int main(void) {
     saphyr_parser parser = NOTHING;
     saphyr_event event = NOTHING;
+    saphyr_deviation deviation = NOTHING;
     int32_t (*make)(const uint8_t *, size_t, bool, saphyr_parser *) = saphyr_new;
     int32_t status = saphyr_new(NULL, 0, false, &parser);
     int kinds = 0;
@@ -50,7 +52,7 @@ int main(void) {
     saphyr_free(NULL);
     status |= saphyr_new_utf8(NULL, 0, false, &parser) | saphyr_new_pieces(false, 0, 0, &parser);
     status |= saphyr_add(&parser, (const uint8_t *)"a", 1) | saphyr_add(&parser, NULL, 0);
-    status |= make((const uint8_t *)"a", 1, false, &parser);
+    status |= make((const uint8_t *)"a", 1, false, &parser) | saphyr_check_standard(NULL, 0, &deviation);
     saphyr_free(&parser);
     return status || kinds != 12 || saphyr_valid_up_to(NULL, 0) || !*saphyr_status_text(SAPHYR_MORE);
 }

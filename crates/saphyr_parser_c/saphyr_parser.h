@@ -36,14 +36,21 @@
  *     while ((status = saphyr_load_next(&parser, 100000, 100, &event)) == SAPHYR_LOADED)
  *         ... saphyr_root(&parser, 0) is the root ...
  *
+ * Whether a text is YAML 1.2.2, which needs no parser:
+ *
+ *     saphyr_deviation deviation = {0};
+ *     if (saphyr_check_standard(text, len, &deviation) == SAPHYR_DEVIATES)
+ *         ... deviation.rule is broken at deviation.place, and deviation.sentence is what it asks ...
+ *
  * What the caller must do. Nothing checks these rules, and all that the library promises depends on them:
  *
- *  - Zero a saphyr_parser and a saphyr_event, as by {0}, and in C++ by {}, before you first pass them to a call.
+ *  - Zero a saphyr_parser, a saphyr_event and a saphyr_deviation, as by {0}, and in C++ by {}, before you first pass
+ *    them to a call.
  *  - Pass no NULL, but for bytes of which there are 0, and to saphyr_free. The pointer of a text may be read for the
  *    text's length. No two pointers of one call point to the same memory.
  *  - Change a saphyr_parser only by these calls. Don't copy it as a struct: saphyr_clone makes a copy.
- *  - Use a saphyr_parser in one call at a time, and a saphyr_event too. Between calls a parser may go from one
- *    thread to another, if a lock or the thread's start or end orders the calls.
+ *  - Use a saphyr_parser in one call at a time, and a saphyr_event and a saphyr_deviation too. Between calls a parser
+ *    may go from one thread to another, if a lock or the thread's start or end orders the calls.
  *  - Keep the text where it is, unchanged, until every parser over it is freed: that of saphyr_new or saphyr_new_utf8,
  *    and its clones. The bytes that saphyr_add was given are copied.
  *  - Give saphyr_new_utf8 only a text in UTF-8.
@@ -76,7 +83,8 @@ extern "C" {
 
 /* What a call returns. Below 0, the call failed. */
 enum saphyr_status {
-    /* saphyr_new, saphyr_new_utf8, saphyr_new_pieces, saphyr_add, saphyr_clone, saphyr_keep_tags, saphyr_load: done. */
+    /* saphyr_new, saphyr_new_utf8, saphyr_new_pieces, saphyr_add, saphyr_clone, saphyr_keep_tags, saphyr_load: done.
+       saphyr_check_standard: the text is YAML 1.2.2. */
     SAPHYR_OK = 0,
     /* saphyr_next, saphyr_peek: no event is left. The end of the stream or a fault was handed out before.
        saphyr_load_next: no document is left. saphyr_describe: there is no node with this number. */
@@ -88,22 +96,24 @@ enum saphyr_status {
     SAPHYR_MORE = 2,
     /* saphyr_load_next: the next document is loaded. */
     SAPHYR_LOADED = 3,
+    /* saphyr_check_standard: the parser reads the text, but it is not YAML 1.2.2. */
+    SAPHYR_DEVIATES = 4,
     /* saphyr_next, saphyr_peek, saphyr_load, saphyr_load_next: the text is refused. `value` says why, and `start`
-       where. No event follows. */
+       where. No event follows. saphyr_check_standard: the parser refuses the text. `place` says where. */
     SAPHYR_REFUSED = -1,
     /* Out of memory. From saphyr_next and saphyr_peek: no event follows, whatever is added. From saphyr_add: the text
        is lost, and saphyr_next says so too. From saphyr_new, saphyr_new_pieces and saphyr_clone: no parser is made.
-       From saphyr_load and saphyr_load_next: there are no trees. */
+       From saphyr_load and saphyr_load_next: there are no trees. From saphyr_check_standard: there is no answer. */
     SAPHYR_NO_MEMORY = -2,
-    /* saphyr_new: the text is not UTF-8. saphyr_valid_up_to returns the index of the first wrong byte. saphyr_add: the
-       bytes, behind those that came before, are not, whatever follows; or the text ends inside a character. Nothing is
-       added. */
+    /* saphyr_new, saphyr_check_standard: the text is not UTF-8. saphyr_valid_up_to returns the index of the first wrong
+       byte. saphyr_add: the bytes, behind those that came before, are not, whatever follows; or the text ends inside a
+       character. Nothing is added. */
     SAPHYR_NOT_UTF8 = -3,
     /* The handle is empty: no parser was made in it, or it was freed. */
     SAPHYR_NO_PARSER = -4,
-    /* saphyr_new: the text is not UTF-8, and begins with the byte order mark of UTF-16: FE FF, or FF FE without
-       two bytes of 0 after it. With these it is that of UTF-32. saphyr_add: the text's first bytes, all in this call,
-       begin so. Nothing is added. */
+    /* saphyr_new, saphyr_check_standard: the text is not UTF-8, and begins with the byte order mark of UTF-16: FE FF,
+       or FF FE without two bytes of 0 after it. With these it is that of UTF-32. saphyr_add: the text's first bytes,
+       all in this call, begin so. Nothing is added. */
     SAPHYR_UTF16 = -5,
     /* saphyr_add: all of the text is there already, since saphyr_new or saphyr_new_utf8 was given it or its end was
        told; or saphyr_add ran out of memory before. Nothing is added. */
@@ -207,6 +217,18 @@ typedef struct saphyr_event {
     /* The rest of the tag. */
     saphyr_text tag_suffix;
 } saphyr_event;
+
+/* Where a text departs from YAML 1.2.2. The call that takes one writes all of its fields, whatever it returns: 0 and
+   NULL if a field does not belong to the answer. Its texts are the library's own: they may be read as long as the
+   program runs, and nothing is to be freed. */
+typedef struct saphyr_deviation {
+    /* The first place that shows it. Of a text that is refused, where the fault is. */
+    saphyr_marker place;
+    /* The name of the rule that is broken there, as `flow-indentation`. The page YAML.md has them. */
+    saphyr_text rule;
+    /* The production of the standard, and what it asks. */
+    saphyr_text sentence;
+} saphyr_deviation;
 
 /*
  * Makes a parser of the `len` bytes at `text`, and puts it into `parser`. Frees what `parser` held, whatever it
@@ -371,6 +393,17 @@ saphyr_node saphyr_get(saphyr_parser *parser, saphyr_node node, const char *key,
 saphyr_node saphyr_anchored(saphyr_parser *parser, size_t id);
 
 /*
+ * Says whether the `len` bytes at `text` are YAML 1.2.2. It needs no parser, and keeps nothing. Proved: SAPHYR_OK is
+ * returned only if YAML's grammar derives the text, and each character is printable. That grammar leaves out three
+ * rules. Tested: these are kept too, each text of YAML 1.2.2 gives SAPHYR_OK, and which rule is told where.
+ *
+ * Returns SAPHYR_OK; or SAPHYR_DEVIATES, and then `deviation` says where, which rule is broken, and what that asks; or
+ * SAPHYR_REFUSED, and then `deviation` says where, and a parser of the text why; or SAPHYR_NOT_UTF8, SAPHYR_UTF16 or
+ * SAPHYR_NO_MEMORY.
+ */
+int32_t saphyr_check_standard(const uint8_t *text, size_t len, saphyr_deviation *deviation);
+
+/*
  * Frees the parser and the texts of its last event, and leaves the handle empty. Does nothing to an empty handle, and
  * nothing if `parser` is NULL.
  */
@@ -387,10 +420,11 @@ uint32_t saphyr_version(void);
  */
 static inline const char *saphyr_status_text(int32_t status) {
     switch (status) {
-    case SAPHYR_OK: return "done, or no event is left";
+    case SAPHYR_OK: return "done, no event is left, or the text is YAML 1.2.2";
     case SAPHYR_EVENT: return "an event";
     case SAPHYR_MORE: return "the next event waits for bytes that did not come";
     case SAPHYR_LOADED: return "the next document is loaded";
+    case SAPHYR_DEVIATES: return "the text is read, and is not YAML 1.2.2";
     case SAPHYR_REFUSED: return "the text is refused";
     case SAPHYR_NO_MEMORY: return "out of memory";
     case SAPHYR_NOT_UTF8: return "the text is not UTF-8";
@@ -418,6 +452,7 @@ extern int32_t saphyr_add_at(saphyr_parser *, const uint8_t *, size_t) __asm__("
 extern size_t saphyr_valid_up_to_at(const uint8_t *, size_t) __asm__("saphyr_valid_up_to");
 extern void saphyr_free_at(saphyr_parser *) __asm__("saphyr_free");
 extern saphyr_node saphyr_get_at(saphyr_parser *, saphyr_node, const char *, size_t) __asm__("saphyr_get");
+extern int32_t saphyr_check_standard_at(const uint8_t *, size_t, saphyr_deviation *) __asm__("saphyr_check_standard");
 
 SAPHYR_INLINE int32_t saphyr_new(const uint8_t *text, size_t len, bool keep_tags, saphyr_parser *parser) {
     return saphyr_new_at(text ? text : (const uint8_t *)"", len, keep_tags, parser);
@@ -437,6 +472,10 @@ SAPHYR_INLINE size_t saphyr_valid_up_to(const uint8_t *text, size_t len) {
 
 SAPHYR_INLINE saphyr_node saphyr_get(saphyr_parser *parser, saphyr_node node, const char *key, size_t len) {
     return saphyr_get_at(parser, node, key ? key : "", len);
+}
+
+SAPHYR_INLINE int32_t saphyr_check_standard(const uint8_t *text, size_t len, saphyr_deviation *deviation) {
+    return saphyr_check_standard_at(text ? text : (const uint8_t *)"", len, deviation);
 }
 
 SAPHYR_INLINE void saphyr_free(saphyr_parser *parser) {

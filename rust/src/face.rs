@@ -1,12 +1,12 @@
 //! Safe functions over the calls of the static library.
 //!
 //! This file and `face/trees.rs` are the crate's only ones with `unsafe` in them. `saphyr_parser.h`, next to the
-//! library's sources, says what a caller must do: zero a parser and an event first, pass no null pointer, use a parser
+//! library's sources, says what a caller must do: zero each structure first, pass no null pointer, use a parser
 //! in one call at a time, keep the text unchanged where it is until the parser over it is freed, and give
 //! `saphyr_new_utf8` only UTF-8. Of a text that comes in pieces the library has a copy. In return, the texts of an
 //! event are UTF-8, and may be read until the next call with the same parser. They are copied here right after the call
 //! that wrote them, so none is left when the next call comes. If the caller's text contains such a text as it is, it is
-//! borrowed from there instead.
+//! borrowed from there instead. The texts of a rule stay where they are.
 
 pub mod trees;
 
@@ -14,6 +14,7 @@ use crate::encoding::NotUtf8;
 use crate::event::{Event, Tag};
 use crate::progress::{Progress, Stand};
 use crate::scanner::{Marker, ScalarStyle, ScanError, Span};
+use crate::standard::Deviation;
 use std::alloc::{handle_alloc_error, Layout};
 use std::borrow::Cow;
 use std::cell::Cell;
@@ -28,6 +29,7 @@ const OK: i32 = 0;
 const END: i32 = 0;
 const EVENT: i32 = 1;
 const MORE: i32 = 2;
+const DEVIATES: i32 = 4;
 const REFUSED: i32 = -1;
 const NO_MEMORY: i32 = -2;
 const UTF16: i32 = -5;
@@ -74,6 +76,14 @@ struct Record {
     tag_suffix: Bytes,
 }
 
+/// `saphyr_deviation`.
+#[repr(C)]
+struct Departure {
+    place: Place,
+    rule: Bytes,
+    sentence: Bytes,
+}
+
 extern "C" {
     fn saphyr_new(text: *const u8, len: usize, keep_tags: bool, parser: *mut Handle) -> i32;
     fn saphyr_new_utf8(text: *const u8, len: usize, keep_tags: bool, parser: *mut Handle) -> i32;
@@ -85,6 +95,7 @@ extern "C" {
     ) -> i32;
     fn saphyr_add(parser: *mut Handle, bytes: *const u8, len: usize) -> i32;
     fn saphyr_valid_up_to(text: *const u8, len: usize) -> usize;
+    fn saphyr_check_standard(text: *const u8, len: usize, deviation: *mut Departure) -> i32;
     fn saphyr_next(parser: *mut Handle, event: *mut Record) -> i32;
     fn saphyr_keep_tags(parser: *mut Handle, keep_tags: bool) -> i32;
     fn saphyr_clone(parser: *mut Handle, copy: *mut Handle) -> i32;
@@ -104,6 +115,34 @@ pub fn checked(bytes: &[u8]) -> Result<&str, NotUtf8> {
     // SAFETY: the bytes may be read for their length, and the handle is zeroed. No parser of these bytes is made.
     let status = unsafe { saphyr_new(bytes.as_ptr(), bytes.len(), false, &mut handle) };
     Err(NotUtf8::new(index, status == UTF16))
+}
+
+/// What the library says of a text: nothing if it is YAML 1.2.2, and else where it departs from that. If the parser
+/// refuses it there is no such place.
+pub fn check_standard(text: &str) -> Result<(), Option<Deviation>> {
+    check_version();
+    let mut departure = Departure {
+        place: Place::default(),
+        rule: NO_BYTES,
+        sentence: NO_BYTES,
+    };
+    // SAFETY: the bytes may be read for their length, and the structure is zeroed.
+    let status = unsafe { saphyr_check_standard(text.as_ptr(), text.len(), &mut departure) };
+    if status == REFUSED {
+        return Err(None);
+    }
+    if status != DEVIATES {
+        expect(status, OK);
+        return Ok(());
+    }
+    // SAFETY: the call wrote these texts, which the library has in UTF-8 as long as the program runs.
+    let (rule, sentence) = unsafe { (departure.rule.text(), departure.sentence.text()) };
+    let place = marker(&departure.place);
+    Err(Some(Deviation {
+        place,
+        rule,
+        sentence,
+    }))
 }
 
 /// The limits of a text that comes in pieces.

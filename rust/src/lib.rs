@@ -37,6 +37,7 @@ mod parser;
 mod parts;
 mod progress;
 mod scanner;
+mod standard;
 
 pub use crate::encoding::NotUtf8;
 pub use crate::event::{Event, EventReceiver, SpannedEventReceiver, Tag};
@@ -44,3 +45,4 @@ pub use crate::face::trees::{Documents, Limits, LoadError, Node, NodeKind, Trees
 pub use crate::input::{str::StrInput, BufferedInput, Input};
 pub use crate::parser::Parser;
 pub use crate::scanner::{Marker, ScalarStyle, ScanError, Span};
+pub use crate::standard::{check_standard, Deviation, NotStandard};

@@ -4,8 +4,8 @@ use saphyr_parser::input::{
     is_alpha, is_blank_or_breakz, is_breakz, is_digit, is_flow, is_z, SkipTabs,
 };
 use saphyr_parser::{
-    BufferedInput, Event, EventReceiver, Input, Marker, Parser, ScanError, Span,
-    SpannedEventReceiver, StrInput, Tag,
+    check_standard, BufferedInput, Event, EventReceiver, Input, Marker, NotStandard, Parser,
+    ScanError, Span, SpannedEventReceiver, StrInput, Tag,
 };
 use std::borrow::Cow;
 use std::error::Error;
@@ -180,6 +180,24 @@ fn refuses_bytes() {
         marked,
         Parser::new_from_str("\u{FEFF}a").collect::<Vec<_>>()
     );
+}
+
+#[test]
+fn knows_the_standard() {
+    for text in ["", "a: [b, 'c']\r\n", "--- |\n é\n...\n"] {
+        assert_eq!(check_standard(text), Ok(()), "{text:?}");
+    }
+    let deviates = check_standard("- a\n- é\u{7}\n").unwrap_err();
+    let said = deviates.to_string();
+    assert!(
+        said.starts_with("unprintable-character at 2:4: [1]"),
+        "{said}"
+    );
+    let text = "[a, @]";
+    let fault = Parser::new_from_str(text).find_map(Result::err).unwrap();
+    let refused = check_standard(text).unwrap_err();
+    assert_eq!(refused.to_string(), fault.to_string());
+    assert_eq!(refused, NotStandard::Refused(fault));
 }
 
 /// A parser that outlives the place where it was made, and one on another thread.

@@ -1,6 +1,7 @@
 /*
- * Calls of the C face with empty handles, texts that are not UTF-8, handles in use, and events with old fields. Prints
- * what isn't answered as the header says. Run under valgrind, it also shows what isn't freed.
+ * Calls of the C face with empty handles, texts that are not UTF-8, handles in use, and events with old fields; and
+ * whether texts are YAML 1.2.2. Prints what isn't answered as the header says. Run under valgrind, it also shows what
+ * isn't freed.
  */
 #include "saphyr_parser.h"
 
@@ -307,12 +308,47 @@ static void takes_null(void) {
 /* Each status has words of its own. */
 static void says_what_a_status_means(void) {
     const int32_t statuses[] = {SAPHYR_OK, SAPHYR_EVENT, SAPHYR_MORE, SAPHYR_REFUSED, SAPHYR_NO_MEMORY,
-                                SAPHYR_NOT_UTF8, SAPHYR_NO_PARSER, SAPHYR_UTF16, SAPHYR_WHOLE, SAPHYR_TOO_MUCH, 99};
+                                SAPHYR_NOT_UTF8, SAPHYR_NO_PARSER, SAPHYR_UTF16, SAPHYR_WHOLE, SAPHYR_TOO_MUCH,
+                                SAPHYR_DEVIATES, 99};
     for (size_t one = 0; one < sizeof statuses / sizeof *statuses; one++) {
         for (size_t other = 0; other < one; other++) {
             bool is_same = !strcmp(saphyr_status_text(statuses[one]), saphyr_status_text(statuses[other]));
             expect(is_same, false, saphyr_status_text(statuses[one]));
         }
+    }
+}
+
+static bool is_text(saphyr_text text, const char *wanted) {
+    return wanted ? text.len == strlen(wanted) && !memcmp(text.at, wanted, text.len) : !text.at && !text.len;
+}
+
+/* Whether a text is YAML 1.2.2: the status, the place, and the rule if one is broken. Each field is written. */
+static void knows_the_standard(void) {
+    static const struct {
+        const char *text;
+        size_t len;
+        int32_t status;
+        size_t index, line, col;
+        const char *rule;
+    } texts[] = {{"", 0, SAPHYR_OK, 0, 0, 0, NULL},
+                 {"a: [b, 'c']\r\n", 13, SAPHYR_OK, 0, 0, 0, NULL},
+                 {"- a\n- b\x07\n", 9, SAPHYR_DEVIATES, 7, 2, 3, "unprintable-character"},
+                 {"a\r\n\x07", 4, SAPHYR_DEVIATES, 3, 2, 0, "unprintable-character"},
+                 {"&x [a", 5, SAPHYR_REFUSED, 5, 2, 0, NULL},
+                 {"a: \xff", 4, SAPHYR_NOT_UTF8, 0, 0, 0, NULL},
+                 {"\xff\xfe" "a\0", 4, SAPHYR_UTF16, 0, 0, 0, NULL},
+                 {"\xff\xfe\0\0", 4, SAPHYR_NOT_UTF8, 0, 0, 0, NULL},
+                 {NULL, 0, SAPHYR_OK, 0, 0, 0, NULL}};
+    saphyr_deviation deviation = {0};
+    for (size_t at = 0; at < sizeof texts / sizeof *texts; at++) {
+        const char *text = texts[at].text, *rule = texts[at].rule;
+        int32_t status = saphyr_check_standard((const uint8_t *)text, texts[at].len, &deviation);
+        saphyr_marker place = deviation.place;
+        expect(status, texts[at].status, text);
+        expect(place.index == texts[at].index && place.line == texts[at].line, true, text);
+        expect((int32_t)place.col, (int32_t)texts[at].col, text);
+        expect(is_text(deviation.rule, rule), true, text);
+        expect(deviation.sentence.at != NULL && deviation.sentence.len > 9, rule != NULL, text);
     }
 }
 
@@ -470,5 +506,6 @@ int main(void) {
     tells_an_unclosed_bracket();
     reads_long_texts();
     adds_where_it_may();
+    knows_the_standard();
     return failed;
 }

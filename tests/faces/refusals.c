@@ -2,7 +2,8 @@
  * Reads texts from standard input, and parses each with every request for memory refused in turn: as a whole if COUNT
  * is 0, otherwise in pieces of COUNT bytes. Now and then the next event is peeked, the parser cloned, and a piece added
  * before it is needed. Events are those of the first run, in which nothing is refused, up to where a call says that
- * there is no memory; nothing follows that, and nothing is left out without it. All memory is to be freed.
+ * there is no memory; nothing follows that, and nothing is left out without it. A whole text is also tested for YAML
+ * 1.2.2 so. All memory is to be freed.
  *
  *     refusals COUNT
  *
@@ -186,6 +187,13 @@ static bool runs(long number, bool keep_tags, char **events, size_t *len) {
     return is_whole;
 }
 
+/* Prints what is wrong, and at which request. */
+static void tell(long number) {
+    if (now.wrong) {
+        printf("text %ld, request %ld: %s\n", now.number, number + 1, now.wrong);
+    }
+}
+
 /* Refuses each request in turn. How many there are. */
 static long sweeps(bool keep_tags) {
     char *all, *some;
@@ -202,10 +210,29 @@ static long sweeps(bool keep_tags) {
         }
         number++;
     }
-    if (now.wrong) {
-        printf("text %ld, request %ld: %s\n", now.number, number + 1, now.wrong);
-    }
+    tell(number);
     __real_free(all);
+    return number;
+}
+
+/* Refuses each request in turn where the text is tested for YAML 1.2.2. How many there are. */
+static long checks(void) {
+    saphyr_deviation deviation = {0};
+    int32_t wanted = saphyr_check_standard(now.text, now.len, &deviation);
+    long number = 0;
+    while (!now.wrong) {
+        granted = number;
+        was_refused = false;
+        int32_t status = saphyr_check_standard(now.text, now.len, &deviation);
+        granted = -1;
+        expect(status == wanted || (status == SAPHYR_NO_MEMORY && was_refused), "whether it is YAML 1.2.2");
+        expect(blocks == 0, "memory is lost by that test");
+        if (!was_refused) {
+            break;
+        }
+        number++;
+    }
+    tell(number);
     return number;
 }
 
@@ -224,6 +251,7 @@ int main(int argc, char **argv) {
         now.number++;
         now.wrong = NULL;
         refused += sweeps(keep_tags == 1);
+        refused += count || now.wrong ? 0 : checks();
         __real_free(text);
     }
     printf("%ld\n", refused);

@@ -19,6 +19,7 @@ fits status.Whole = refl
 fits status.TooMuch = refl
 fits status.TooLarge = refl
 fits status.Late = refl
+fits status.Deviates = refl
 
 pub code_kept : (s : Status) (z : ℤ) → z ≡ code_of s → to_z w32 (of_z w32 z) ≡ code_of s
 code_kept s z e = ap (λ (y : ℤ). to_z w32 (of_z w32 y)) e ∙ fits s

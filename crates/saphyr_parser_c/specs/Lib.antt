@@ -5,5 +5,6 @@ pub mod Held
 pub mod Inner
 pub mod Same
 pub mod Shown
+pub mod Standard
 pub mod Status
 pub mod Trees

@@ -15,7 +15,7 @@ use std::mem;
 use yaml_tree::NodeTable;
 
 // Why a text that isn't UTF-8 is refused.
-fn unreadable(text: &[u8]) -> Status
+pub(crate) fn unreadable(text: &[u8]) -> Status
     requires { IsUtf8 text.now → ⊥ }
     ensures { RefusesText text.now result }
 {

@@ -16,6 +16,7 @@ mod nodes;
 mod parts;
 mod shown;
 mod source;
+mod standard;
 mod status;
 mod texts;
 mod trees;

@@ -42,7 +42,7 @@ pub struct CEvent {
 }
 
 // A place of the text.
-fn marker_of(mark: Marker) -> CMarker
+pub(crate) fn marker_of(mark: Marker) -> CMarker
     ensures { spec.IsMarkerOfC mark result }
 {
     CMarker {
@@ -80,7 +80,7 @@ fn nowhere() -> *const u8
 }
 
 // No text.
-fn no_text() -> CText
+pub(crate) fn no_text() -> CText
     ensures { spec.HasText None result }
 {
     CText {

@@ -34,6 +34,8 @@ pub enum Status {
     TooLarge,
     /// No trees are loaded from where the parser is, or its text comes in pieces.
     Late,
+    /// The text is read, and is not YAML 1.2.2.
+    Deviates,
 }
 
 impl Status {
@@ -56,6 +58,7 @@ impl Status {
             Status::TooMuch => -7,
             Status::TooLarge => -8,
             Status::Late => -9,
+            Status::Deviates => 4,
         }
     }
 }
