@@ -9,6 +9,7 @@ trap 'rm -rf "$folder"' EXIT
 cd "$folder"
 printf 'a: b' >text
 printf '[a:[]]' >refused
+printf '{"":#\n}' >adjacent
 printf '\377' >bytes
 failed=0
 
@@ -66,6 +67,8 @@ answers() {
 warned='empty:1:1: warning: this document has no content\n---\n^\n'
 refused="refused:1:3: error: ':' may not precede any of \`[{\` in flow mapping\n[a:[]]\n  ^\n"
 refused+='refused:1:1: note: the sequence that begins here is not closed yet\n[a:[]]\n^\n'
+adjacent='adjacent:1:5: error: [149] c-ns-flow-map-adjacent-value: a blank parts a comment from the colon before it\n'
+adjacent+='{"":#\n    ^\n'
 events='+STR\n+DOC\n+MAP\n=VAL :a\n=VAL :b\n-MAP\n-DOC\n-STR\n'
 answers 0 ''
 answers 0 '' -
@@ -73,6 +76,9 @@ answers 0 '' text - text
 answers 0 "$warned" empty
 answers 1 "$warned" --strict empty
 answers 0 '' --disable empty-document --strict empty
+answers 0 '' --standard text
+answers 1 "$adjacent" --standard text adjacent
+answers 0 '' adjacent
 answers 1 "$refused" text refused
 answers 1 "$warned$refused" empty refused
 answers 1 '' --quiet empty refused

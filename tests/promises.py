@@ -4,11 +4,11 @@
     tests/promises.py [--quiet] [--mark] [NAME..]
 
 A promise is a clause of one of `FUNCTIONS`: of `Parser::new` (or of `with_limit` and `new_from_iter`, where they say
-more), of the calls of a parser, of those of a `PieceParser`, of `load_documents`, of `load_document`, of `dump` or of
-`run_dump`. Each of its names is followed through the `use` lines of its file to the definition in a crate's `specs`,
-and so is each name in there. What is reached is printed, by clause: the file, the section of the standard that its
-head names, and the definitions. A `NAME` of a clause or a function, as `taken`, prints this alone, and `--quiet`
-counts only.
+more), of the calls of a parser, of those of a `PieceParser`, of `load_documents`, of `load_document`, of `dump`, of
+`run_dump` or of `validate`. Each of its names is followed through the `use` lines of its file to the definition in a
+crate's `specs`, and so is each name in there. What is reached is printed, by clause: the file, the section of the
+standard that its head names, and the definitions. A `NAME` of a clause or a function, as `taken`, prints this alone,
+and `--quiet` counts only.
 
 An entry of the page begins with its names, their file and section, and which promises rest on them: those of its names,
 or where it has none, of its files. The script fails where an entry says something else, and `--mark` writes it into the
@@ -37,6 +37,7 @@ PAGE = os.path.join(TOP, "docs", "DEFINITIONS.md")
 PARSER, LOADER = "crates/saphyr_parser/src/cursor.rt", "crates/yaml_tree/src/loading.rt"
 ONE_LOADER = "crates/yaml_tree/src/document_loading.rt"
 PIECES = "crates/saphyr_pieces/src/parser.rt"
+VALIDATOR = "crates/yaml_standard/src/verdict.rt"
 PRINTING, RUNNING = "crates/saphyr_parser/src/printing.rt", "crates/saphyr_parser/src/printing/run.rt"
 # each with its mark in the page, where that isn't the clause's own name
 FUNCTIONS = {
@@ -46,10 +47,11 @@ FUNCTIONS = {
     (PARSER, "keep_tags"): "calls", (LOADER, "load_documents"): "trees", (ONE_LOADER, "load_document"): "trees",
     (PIECES, "new"): "pieces", (PIECES, "add"): "pieces", (PIECES, "end"): "pieces", (PIECES, "keep_tags"): "pieces",
     (PIECES, "next_event_into"): "pieces", (PRINTING, "dump"): "lines", (RUNNING, "run_dump"): "lines",
+    (VALIDATOR, "validate"): "standard",
 }
 SAME_AS_NEW = {"with_limit", "new_from_iter"}
 # `decided` has no mark: it says that the events are computed, and stops there
-MARKS = ["json", "yaml", "closed", "taken", "spans", "calls", "pieces", "trees", "lines"]
+MARKS = ["json", "yaml", "closed", "taken", "spans", "calls", "pieces", "trees", "lines", "standard"]
 # files of definitions are named by their crate and their path below its `specs`
 COMPUTED = {
     (("saphyr_scanner", "Steps.Remaining"), "scan"),
@@ -266,14 +268,15 @@ def look(path, function, asked, reached, is_quiet):
 
 
 def marks_of(entry, files, reached):
-    """The promises that rest on an entry's definitions. What rests on `yaml` has no mark for `closed`."""
+    """The promises that rest on an entry's definitions. What rests on `yaml` has no mark for `closed`, nor for
+    `standard`."""
     names = re.findall(r"`([^`]+)`", entry)
     marks = {mark for definition, marks in reached.items() for mark in marks
              if spec_of(definition.module).path.endswith(files) and (not names or definition.name in names)}
     if "yaml" in marks:
-        marks.discard("closed")
+        marks -= {"closed", "standard"}
     found = [mark for mark in MARKS if mark in marks]
-    return "all" if len(found) == len(MARKS) - 1 and "yaml" in found else ", ".join(found)
+    return "all" if len(found) == len(MARKS) - 2 and "yaml" in found else ", ".join(found)
 
 
 def marked_page(reached):

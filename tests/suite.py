@@ -74,4 +74,5 @@ def main(words):
         sys.exit(f"{folder} has no cases")
 
 
-main(sys.argv[1:])
+if __name__ == "__main__":
+    main(sys.argv[1:])
