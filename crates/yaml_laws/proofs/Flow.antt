@@ -13,6 +13,7 @@ pub mod Spaces
 pub mod Questions
 pub mod ContentStarts
 pub mod Pieces
+pub mod KeyPieces
 pub mod Pairs
 pub mod MarkedPairs
 pub mod Entries

@@ -4,9 +4,5 @@ pub mod Tabs
 pub mod Quotes
 pub mod OnLine
 pub mod KeyLines
-pub mod KeyTokens
-pub mod KeyScalars
-pub mod KeyCollections
 pub mod KeyFirsts
-pub mod KeyNodes
 pub mod Keys

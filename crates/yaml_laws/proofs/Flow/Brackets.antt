@@ -1,18 +1,20 @@
 -- The brackets, braces and commas of a text in flow style are read.
-use Rattle.std.proofs.Common.{◌≡◌, ◌⊎◌, ℕ, ◌<◌, ◌≤◌, Bool, true, false, List, [], ◌∷◌, ◌++◌, length, slice_index, Result, Ok, Err, refl, sym, ap, ◌∙◌, arith, subst, append_assoc, cond, IsTrue, inl}
-use Rattle.yaml_laws.proofs.Common.{◌&&◌, ◌==◌, Option, None, list_all, percent_sign, comma, is_blank, is_z, line_feed, SkipTabs, Yes, Marker, Refusal, Cursor, along, separation, AreIn, cursor_at, IsSeparation, Context, Kind, Piece, Place, bare_place, empty_piece, Candidate, Level, is_block, behind_entry, ends_pair, step, most_open, le_next, token_place, place_kinds, queue_of, saved, level_of, comma_begins, IsComma, no_feed}
+use Rattle.std.proofs.Common.{◌≡◌, ◌⊎◌, ℕ, ◌<◌, ◌≤◌, Bool, true, false, List, [], ◌∷◌, ◌++◌, length, slice_index, Ok, refl, sym, ap, ◌∙◌, arith, subst, append_assoc, cond, IsTrue, inl}
+use Rattle.yaml_laws.proofs.Common.{◌&&◌, ◌==◌, Option, None, list_all, percent_sign, comma, is_blank, is_z, line_feed, SkipTabs, Yes, Marker, Cursor, along, separation, AreIn, cursor_at, IsSeparation, Some, Context, Kind, Piece, Place, bare_place, empty_piece, Candidate, Level, State, is_block, behind_entry, ends_pair, step, most_open, le_next, token_place, place_kinds, queue_of, saved, level_of, comma_begins, IsComma, no_feed}
 use Rattle.saphyr_scanner.specs.Grammar.Tokens as tokens
 use Rattle.saphyr_scanner.specs.Steps.Core.{Core, from_to, perform, completed_step, remove_key}
 use Rattle.saphyr_scanner.specs.Steps.Flow as flow
 use Rattle.saphyr_scanner.specs.Steps.Flow.{close_collection, behind_pair, next_flow_entry}
-use Rattle.yaml_laws.proofs.InFlow.States.{Around, core_at, state_at, Calm, placed_right, opening_steps_open, open_collection_gives, close_collection_gives, deepened, FlowMoment, moment, moment_with, moment_in}
-use Rattle.yaml_laws.proofs.Flow.States.{IsFresh, Since, moved, past, IsClear, IsContentStart, IsParted, Known, fresh_key, PassesPiece, FitsAround, StandsBefore, key_behind}
+use Rattle.yaml_laws.proofs.InFlow.States.{Around, core_at, state_at, Calm, opening_steps_open, open_collection_gives, close_collection_gives, deepened, kept_inside, FlowMoment, moment, moment_with, moment_in, Ready}
+use Rattle.yaml_laws.proofs.Flow.States.{IsFresh, Since, moved, past, IsClear, IsContentStart, IsParted, Known, fresh_key, PassesPiece, Fits, FitsAround, StandsBefore, key_behind}
+use Rattle.yaml_laws.proofs.Flow.KeyPieces.{fits_clear, fits_below, held_behind}
 use Rattle.yaml_laws.proofs.Flow.Places.{moved_index, right_one, clear_here}
 use Rattle.yaml_laws.proofs.Flow.GapSteps.{past_content, past_low, less_on}
+use Rattle.yaml_laws.proofs.Flow.Fillers.{blanks_past}
 use Rattle.yaml_laws.proofs.Flow.Tokens.{BeginsToken, arrives, step_comes, within_index, saved_since}
-use Rattle.yaml_laws.proofs.Flow.Separates.{separates}
+use Rattle.yaml_laws.proofs.Flow.Separates.{blanks_separated, separates}
 use Rattle.yaml_laws.proofs.Flow.Joins.{step_passes, separation_joins, knowing}
-use Rattle.yaml_laws.proofs.InBlock.Crossings.{fresh_in_flow}
+use Rattle.yaml_laws.proofs.InBlock.Crossings.{fresh_in_flow, holds_in_flow}
 use Rattle.yaml_laws.proofs.Flow.ContentStarts.{StartsContent, is_start, start_content, start_nul, start_directive, colon_content}
 use Rattle.yaml_laws.proofs.Flow.Pieces.{fits_front, fits_so, end_is_content, parted_by}
 
@@ -48,41 +50,44 @@ saved_so x a b n m k j h e = let s = h e in cc
 
 pub open_passes : (around : Around) (y : Context) → is_block y ≡ false → (kind : Kind) (ch : ℕ) → IsTokenMark ch
     → ((second i : ℕ) (c : Core) → step ch second i c ≡ flow.opening_steps y kind i c)
-    → (m : Marker) (o : List ℕ) → FitsAround around m (ch ∷ []) o → IsParted around.indent o
-    → (now : FlowMoment) → length now.outer < most_open → Calm around now.context → now.adjacent ≤ m.index
-    → StandsBefore around now m (ch ∷ o) → (j : Option Candidate) × (is_block now.context ≡ false → j ≡ key_behind now
+    → (m : Marker) (o : List ℕ) (now : FlowMoment) → Fits around now.context m (ch ∷ []) o
+    → around.indent ≤ (moved m (ch ∷ [])).col → IsParted around.indent o → length now.outer < most_open
+    → Calm around now.context → now.adjacent ≤ m.index → (start : Bool → State)
+    → Ready around start now m (ch ∷ o) → (j : Option Candidate) × (is_block now.context ≡ false → j ≡ key_behind now
     m)
-    × PassesPiece around (state_at around now) (opened_collection (moved m (ch ∷ []))) y (level_of now.context j
+    × PassesPiece around start (opened_collection (moved m (ch ∷ []))) y (level_of now.context j
     ∷ now.outer)
     now.places (moved m (ch ∷ [])) o (kind ∷ [])
     × ((t : List ℕ) → (key : Option Candidate) → (key ≡ None) ⊎ (key ≡ j) → Since now.key m t key)
-open_passes around y in_flow kind ch mark begins m o fits parted now low calm before text =
-    let v = arrives around now m (ch ∷ o) (text ∙ past_content around.indent m ch o mark.content) mark.content.blank
-    fits.right fits.calm in
+    × ((k : Candidate) → around.held ≡ Some k → is_block now.context ≡ true → j ≡ Some k)
+open_passes around y in_flow kind ch mark begins m o now fits right parted low calm before start v =
     let key = saved v.allowed (length now.places) m v.key in
     let p = separates around.indent (cursor_at o (along m 1) false) parted.separation parted.first parted.others
-    parted.is parted.parts (le_next around.indent m.col fits.right) parted.ends in
+    parted.is parted.parts
+    (subst (λ (n : Marker). around.indent ≤ n.col) (sym (mark_moved m ch mark)) right) parted.ends in
     let stepped = λ (d : Bool). begins (slice_index o 0) (length now.places)
     (core_at around d (cursor_at (ch ∷ o) m v.blank) now.context v.key now.outer v.allowed now.adjacent)
     ∙ opening_steps_open y kind (length now.places) around d (cursor_at (ch ∷ o) m v.blank) now.context v.key now.outer
-    v.allowed now.adjacent (placed_right now.context v.allowed fits.calm fits.right)
+    v.allowed now.adjacent v.placed
     ∙ open_collection_gives y kind ch o m v.blank around (deepened around now.context d) now.context key now.outer
     v.allowed now.adjacent p.found p.there p.is low in_flow calm in
-    let below = fits.below in
+    let below = fits_below fits in
     let new = token_place m p.there.mark kind ∷ [] in
     let next = moment p.there y None (level_of now.context key ∷ now.outer) true now.adjacent now.places in
-    let came = step_comes around now m (ch ∷ o) v (mark_begins m ch o mark fits.clear) None (moment_with new next)
+    let came = step_comes around start now m (ch ∷ o) v None (moment_with new next)
     (from_to m p.there.mark kind ∷ []) (deepened around now.context)
-    stepped refl (within_index around.indent around.limit p.there (along m 1) o p.lands (omega (arith, below))) in (
+    stepped refl (within_index around.indent around.limit p.there (along m 1) o p.lands (omega (arith, below)))
+    (kept_inside in_flow) in (
       key,
       saved_so now.context now.allowed v.allowed (length now.places) m now.key v.key v.same,
       step_passes next new (moved m (ch ∷ [])) o (kind ∷ []) (opened_collection
-          (moved m (ch ∷ []))) came (right_one around.indent m ch mark.feed fits.right) (cc (mark_moved m ch mark))
-          (fresh_in_flow y o true p.there in_flow) refl (
+          (moved m (ch ∷ []))) came right (cc (mark_moved m ch mark))
+          (fresh_in_flow y o true p.there in_flow) (holds_in_flow in_flow) refl (
             (came.same in_flow, refl, one_on m ch now.adjacent before),
             (record { span = record { start = m; end = p.there.mark }; kind = kind }, refl),
           ),
       λ t j h. saved_since v.allowed (length now.places) m now.key v.key t j v.kept h,
+      λ k held block. let h = v.holds k held block in ap (λ (a : Bool). saved a (length now.places) m v.key) h.1 ∙ h.0,
     )
 
 -- ## A closing bracket
@@ -127,17 +132,12 @@ all_blank (c ∷ cs) h = by_first (is_blank c) (list_all is_blank cs) refl h (λ
         → AreIn is_blank (c ∷ cs)
     by_first p q e h f = grind arith
 
-abbrev reached : Marker → Result (SkipTabs × Cursor) Refusal → Marker
-reached m (Ok x) = x.1.mark
-reached m (Err e) = m
-
--- what blanks and a comment after a token give is one place
+-- what blanks after a token give is one place
 one_place : (indent : ℕ) (s : Cursor) (found : SkipTabs) (there : Cursor) → separation Yes s ≡ Ok (found, there)
-    → (w more : List ℕ) → s.rest ≡ w ++ (58 ∷ more) → IsSeparation indent w → indent ≤ s.mark.col
-    → IsTrue (list_all is_blank w) → there.mark ≡ moved s.mark w
-one_place indent s found there is w more text parts right blank =
-    let p = separates indent s w 58 more text parts right colon_content in
-    ap (reached s.mark) (sym is ∙ p.is) ∙ (p.near (all_blank w blank)).1
+    → (w more : List ℕ) → s.rest ≡ w ++ (58 ∷ more) → indent ≤ s.mark.col → IsTrue (list_all is_blank w)
+    → there.mark ≡ moved s.mark w
+one_place indent s found there is w more text right blank =
+    (blanks_separated indent s found there is w 58 more text (all_blank w blank) right colon_content).1
 
 either : (b : Bool) (n k bound : ℕ) → n ≤ bound → k ≤ bound → cond b n k ≤ bound
 either b n k bound h g = grind arith
@@ -151,36 +151,54 @@ pub close_passes : (around : Around) (y : Context) → is_block y ≡ false → 
     → ((second i : ℕ) (d : Bool) (s : Cursor) (k : Option Candidate) (ls : List Level) (a : Bool) (ad : ℕ)
     → step ch second i (core_at around d s y k ls a ad)
     ≡ close_collection ends kind (core_at around d s y k ls a ad))
-    → (m : Marker) (o : List ℕ) → FitsAround around m (ch ∷ []) o → (found : SkipTabs) (there : Cursor)
+    → (m : Marker) (o : List ℕ) (x : Context) → Fits around x m (ch ∷ []) o → around.indent ≤ m.col
+    → (found : SkipTabs) (there : Cursor)
     → separation Yes (cursor_at o (along m 1) false) ≡ Ok (found, there)
     → past around.indent there.mark there.rest ≡ past around.indent (along m 1) o
-    → (j : Option Candidate) (x : Context) (ls : List Level) (now : FlowMoment) → IsFresh x o false there
-    → Calm around x → now.adjacent ≤ m.index → StandsBefore around now m (ch ∷ o)
+    → (j : Option Candidate) (ls : List Level) (now : FlowMoment) → IsFresh x o false there
+    → ((k : Candidate) → around.held ≡ Some k → is_block x ≡ true → j ≡ Some k) → Calm around x
+    → now.adjacent ≤ m.index → StandsBefore around now m (ch ∷ o)
     → PassesPiece around (state_at around (record now { context = y; outer = level_of x j ∷ ls }))
     (closed_collection around.indent x j (moved m (ch ∷ [])) o) x ls now.places (moved m (ch ∷ [])) o
     (pending ends ++ kind ∷ [])
-close_passes around y flows ends kind ch mark begins m o fits found there is lands j x ls now fresh calm before text =
+close_passes around y flows ends kind ch mark begins m o x fits right found there is lands j ls now fresh held_key calm
+    before text =
     let inside : FlowMoment = record now { context = y; outer = level_of x j ∷ ls } in
     let v = arrives around inside m (ch ∷ o) (text ∙ past_content around.indent m ch o
-    mark.content) mark.content.blank fits.right fits.calm in
+    mark.content) mark.content.blank (mark_begins m ch o mark (fits_clear fits)) flows right in
     let stepped = λ (d : Bool). begins (slice_index o 0) (length now.places) d (cursor_at (ch ∷ o) m v.blank) v.key
     (level_of x j ∷ ls) v.allowed now.adjacent
     ∙ close_collection_gives ends kind ch o m v.blank around d y v.key j x ls v.allowed now.adjacent found there
     is flows calm in
-    let below = fits.below in
+    let below = fits_below fits in
     let new = mark_places ends m there.mark kind in
     let next = moment there x j ls false (cond (is_block x) now.adjacent there.mark.index) now.places in
-    let came = step_comes around inside m (ch ∷ o) v (mark_begins m ch o mark fits.clear) None (moment_with new next)
+    let end = right_one around.indent m ch mark.feed right in
+    let on = le_next around.indent m.col right in
+    let keeps = held_behind m (ch ∷ []) o fits end j there false held_key (λ _ w c cs o_is are content _.
+    let near = blanks_separated around.indent (cursor_at o (along m 1) false) found there is w c cs o_is are on content
+    in (
+      refl,
+      record {
+        white = [];
+        are = tt;
+        rest = near.0;
+        mark = near.1 ∙ ap (λ (n : Marker). moved n w) (mark_moved m ch mark);
+        right = rw near.1 (blanks_past around.indent w are (along m 1) on).right;
+      },
+    )) in
+    let came = step_comes around (state_at around inside) inside m (ch ∷ o) v None (moment_with new next)
     (behind_pair ends m (from_to m there.mark kind)) (λ d. d) stepped (mark_puts ends now.places m there.mark kind)
-    (within_index around.indent around.limit there (along m 1) o lands (omega (arith, below))) in
+    (within_index around.indent around.limit there (along m 1) o lands (omega (arith, below))) keeps.0 in
     step_passes next new (moved m (ch ∷ [])) o (pending ends ++ kind ∷ [])
     (closed_collection around.indent x j (moved m (ch ∷ [])) o) came
-    (right_one around.indent m ch mark.feed fits.right) (cc) fresh (mark_kinds ends m there.mark kind) (record {
+    end (cc) fresh (keeps.1 came.key came.stays)
+    (mark_kinds ends m there.mark kind) (record {
       keeps = came.same;
       kept = came.kept;
       near = λ e w more text parts blank.
-          rw e (cc (one_place around.indent (cursor_at o (along m 1) false) found there is w more text parts
-          (le_next around.indent m.col fits.right) blank));
+          rw e (cc (one_place around.indent (cursor_at o (along m 1) false) found there is w more text
+          on blank));
       low = grind (arith, either, past, moved, one_behind, mark_moved, past_low);
     })
 
@@ -217,7 +235,7 @@ pub comma_passes : (around : Around) (y : Context) → is_block y ≡ false → 
 comma_passes around y flows m o fits parted now before text =
     let v = arrives around (moment_in y now) m (44 ∷ o)
     (text ∙ past_content around.indent m 44 o comma_is_mark.content) refl
-    fits.right fits.calm in
+    (mark_begins m 44 o comma_is_mark fits.clear) flows fits.right in
     let p = separates around.indent (cursor_at o (along m 1) false) parted.separation parted.first parted.others
     parted.is parted.parts (le_next around.indent m.col fits.right) parted.ends in
     let stepped = λ (d : Bool). comma_begins (slice_index o 0) (length now.places)
@@ -227,13 +245,15 @@ comma_passes around y flows m o fits parted now before text =
     let below = fits.below in
     let new = mark_places (ends_pair y) m p.there.mark tokens.FlowEntry in
     let next = moment p.there (behind_entry y) None now.outer true now.adjacent now.places in
-    let came = step_comes around (moment_in y now) m (44 ∷ o) v (mark_begins m 44 o comma_is_mark fits.clear) None
+    let came = step_comes around (state_at around (moment_in y now)) (moment_in y now) m (44 ∷ o) v None
     (moment_with new next) (behind_pair (ends_pair y) m (from_to m p.there.mark tokens.FlowEntry)) (λ d. d) stepped
     (mark_puts (ends_pair y) now.places m p.there.mark tokens.FlowEntry)
-    (within_index around.indent around.limit p.there (along m 1) o p.lands (omega (arith, below))) in
+    (within_index around.indent around.limit p.there (along m 1) o p.lands (omega (arith, below)))
+    (kept_inside (in_flow y flows)) in
     step_passes next new (moved m (44 ∷ [])) o (pending (ends_pair y)
     ++ tokens.FlowEntry ∷ []) (fresh_key (moved m (44 ∷ []))) came (right_one around.indent m 44 refl fits.right)
     (cc (mark_moved m 44 comma_is_mark)) (fresh_in_flow (behind_entry y) o true p.there (in_flow y flows))
+    (holds_in_flow (in_flow y flows))
     (mark_kinds (ends_pair y) m p.there.mark tokens.FlowEntry)
     (came.same (in_flow y flows), refl, one_on m 44 now.adjacent before)
 

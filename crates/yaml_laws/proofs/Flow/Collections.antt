@@ -1,21 +1,24 @@
 -- Collections in brackets and braces, given the run over what is inside them.
 pub mod Runs
-use Rattle.yaml_laws.proofs.Common.{◌≡◌, ℕ, ◌<◌, ◌≤◌, Bool, true, false, List, [], ◌∷◌, ◌++◌, length, Ok, refl, sym, ap, ◌∙◌, subst, append_assoc, arith, Option, None, list_all, is_blank, SkipTabs, Yes, Marker, Cursor, along, separation, cursor_at, IsSeparation, Context, Kind, Piece, Place, bare_place, Core, Candidate, Level, is_block, behind_entry, ends_pair, close_collection, State, most_open, le_next, true≢false, begins_sequence, begins_mapping, level_of}
+use Rattle.yaml_laws.proofs.Common.{AreIn, clash, colon, ◌≡◌, ℕ, ◌<◌, ◌≤◌, Bool, true, false, List, [], ◌∷◌, ◌++◌, length, Ok, refl, sym, ap, ◌∙◌, subst, append_assoc, arith, Option, None, list_all, is_blank, SkipTabs, Yes, Marker, Cursor, along, separation, cursor_at, IsSeparation, Context, Kind, Piece, Place, bare_place, Core, Candidate, Level, is_block, behind_entry, ends_pair, close_collection, State, most_open, le_next, true≢false, begins_sequence, begins_mapping, level_of}
 use Rattle.saphyr_scanner.specs.declared.engine.level.Context.TheVariants as context
 use Rattle.saphyr_scanner.specs.Grammar.Tokens as tokens
 use Rattle.saphyr_scanner.specs.Steps.Flow as flow
 use Rattle.saphyr_scanner.specs.Steps.Fetch.{step}
-use Rattle.yaml_laws.proofs.InFlow.States.{Around, core_at, state_at, Calm, FlowMoment}
-use Rattle.yaml_laws.proofs.Flow.States.{crosses, IsFresh, keeping, moved, past, IsParted, IsBehindRoot, Known, PassesPiece, FitsAround, ended, StandsBefore, after, IsAfterNode, after_node, TextPasses}
-use Rattle.yaml_laws.proofs.Flow.Places.{moved_append}
+use Rattle.yaml_laws.proofs.InFlow.States.{Around, core_at, state_at, Calm, FlowMoment, Ready}
+use Rattle.yaml_laws.proofs.Flow.States.{crosses, Fits, IsFresh, keeping, moved, past, IsParted, IsBehindRoot, Known, PassesPiece, ended, StandsBefore, after, IsAfterNode, after_node, TextPasses}
+use Rattle.yaml_laws.proofs.Flow.Places.{moved_append, right_one}
 use Rattle.yaml_laws.proofs.Flow.GapSteps.{past_content, less_on}
 use Rattle.yaml_laws.proofs.Flow.Fillers.{rest_past}
 use Rattle.yaml_laws.proofs.Flow.Separates.{separates, separates_rest}
 use Rattle.yaml_laws.proofs.Flow.Joins.{join, separation_joins}
 use Rattle.yaml_laws.proofs.Flow.Brackets.{IsTokenMark, open_passes, pending, close_passes, token_mark}
 use Rattle.yaml_laws.proofs.InBlock.Crossings.{fresh_in_flow, line_rest_crosses}
-use Rattle.yaml_laws.proofs.Flow.Pieces.{EndsEntry, fits_front, fits_back, fits_before}
-use Rattle.yaml_laws.proofs.Flow.ContentStarts.{is_start}
+use Rattle.yaml_laws.proofs.Flow.Pieces.{EndsEntry}
+use Rattle.yaml_laws.proofs.Flow.KeyPieces.{cut_front, cut_back, fits_reach}
+use Rattle.yaml_laws.proofs.InFlow.OnLine.{separation_of_blanks}
+use Rattle.yaml_laws.proofs.InBlock.Skips.{blanks_cross}
+use Rattle.yaml_laws.proofs.Flow.ContentStarts.{StartsContent, colon_content, is_start, starts}
 
 -- ## After the closing bracket
 
@@ -50,6 +53,20 @@ ends_root around m e o h right =
       is = p.1;
       lands = grind (arith, rest_past, le_next);
       fresh = λ _ e. line_rest_crosses h.rest h.more h.line h.break (ap crosses (sym h.is) ∙ e);
+    }
+
+-- before the colon of a key
+pub ends_key : (indent : ℕ) (m : Marker) (o w r : List ℕ) → o ≡ w ++ (colon ∷ r) → AreIn is_blank w → indent ≤ m.col
+    → EndsAt indent context.Block m o
+ends_key indent m o w r is are right =
+    let p = separates indent (cursor_at o (along m 1) false) w 58 r is (separation_of_blanks indent w are)
+    (le_next indent m.col right) colon_content in
+    record {
+      found = p.found;
+      there = p.there;
+      is = p.is;
+      lands = p.lands;
+      fresh = λ _ e. absurd (clash (crosses o) e (ap crosses is ∙ blanks_cross w (58 ∷ r) are));
     }
 
 -- ## The brackets and what is inside
@@ -161,32 +178,33 @@ all_kinds : (opens closes : Kind) (ts ends : List Kind)
 all_kinds opens closes ts ends = cc (append_assoc ts ends (closes ∷ []))
 
 pub brackets_pass : (around : Around) (Is : List Kind → Type 0) (b : Brackets) → AreBrackets b
-    → (m : Marker) (w inside o : List ℕ) → FitsAround around m (bracket_text b w inside) o
-    → IsSeparation around.indent w → IsParted around.indent (w ++ (inside ++ (b.closing ∷ o)))
-    → (now : FlowMoment) → length now.outer < most_open → Calm around now.context → now.adjacent ≤ m.index
-    → StandsBefore around now m (bracket_text b w inside ++ o)
+    → (m : Marker) (w inside o : List ℕ) (now : FlowMoment) → Fits around now.context m (bracket_text b w inside) o
+    → StartsContent (inside ++ (b.closing ∷ [])) → IsSeparation around.indent w
+    → IsParted around.indent (w ++ (inside ++ (b.closing ∷ o))) → length now.outer < most_open
+    → Calm around now.context → now.adjacent ≤ m.index → (start : Bool → State)
+    → Ready around start now m (bracket_text b w inside ++ o)
     → (around.indent ≤ (moved (moved m (b.opening ∷ w)) inside).col
     → EndsAt around.indent now.context (moved (moved m (b.opening ∷ w)) inside) o)
     → RunsInside around Is b now.context now.outer (moved m (b.opening ∷ w)) inside o
-    → TextPasses around now (AreBracketed b Is) (list_all is_blank) m (bracket_text b w inside) o
-brackets_pass around Is b are m w inside o fits parts parted now low calm before text ends run =
+    → TextPasses around start now (AreBracketed b Is) (list_all is_blank) m (bracket_text b w inside) o
+brackets_pass around Is b are m w inside o now fits starting parts parted low calm before start ready ends run =
     let close = b.closing ∷ [] in
     let follow : (inside ++ close) ++ o ≡ inside ++ (b.closing ∷ o) = append_assoc inside close o in
-    let whole = fits_front m (b.opening ∷ w) (inside ++ close) o fits in
-    let first = fits_front m (b.opening ∷ []) w ((inside ++ close) ++ o) whole in
-    let opening_fits = fits_before m (b.opening ∷ []) (w ++ ((inside ++ close) ++ o)) (w ++ (inside ++ (b.closing ∷ o)))
-    (ap (λ (t : List ℕ). w ++ t) follow) first in
+    let first : Fits around now.context m (b.opening ∷ []) (w ++ (inside ++ (b.closing ∷ o))) =
+    rw follow at (cut_front m (b.opening ∷ []) w (inside ++ close) o starting parts fits) in
+    let mark = token_mark b.opening are.start in
+    let right = fits_reach m (b.opening ∷ []) (w ++ (inside ++ (b.closing ∷ o)))
+    (starts b.opening [] (b.opening ∷ []) refl are.start) (right_one around.indent m b.opening mark.feed) first in
     let here = moved m (b.opening ∷ w) in
     let texts = append_assoc (b.opening ∷ w) (inside ++ close) o ∙ ap (λ (t : List ℕ). b.opening ∷ (w ++ t)) follow in
-    let opened = open_passes around b.context are.flows b.opens b.opening (token_mark b.opening are.start) are.begins m
-    (w ++ (inside ++ (b.closing ∷ o))) opening_fits parted
-    now low calm before (text ∙ ap (past around.indent m) texts) in
+    let opened = open_passes around b.context are.flows b.opens b.opening mark are.begins m
+    (w ++ (inside ++ (b.closing ∷ o))) now first right parted low calm before start (rw texts at ready) in
     let j = opened.0 in
     let p = separation_joins (moved m (b.opening ∷ [])) w (inside ++ (b.closing ∷ o)) parts opened.2 in
     let r = run j (after p) p.knows.0.0 p.knows.0.1
     (less_on p.adjacent (moved m (b.opening ∷ [])) w p.knows.0.2) p.right p.fits in
-    let closing_fits = fits_back here inside close o r.passes.right
-    (fits_back m (b.opening ∷ w) (inside ++ close) o p.right fits) in
+    let closing_fits = cut_back here inside close o r.passes.right
+    (cut_back m (b.opening ∷ w) (inside ++ close) o p.right fits) in
     let at_close = ends r.passes.right in
     let piece = p.knows.1.0 in
     let at_end = moved here inside in
@@ -195,8 +213,8 @@ brackets_pass around Is b are m w inside o fits parts parted now low calm before
     ((r.passes.new, ap (λ (z : List Place). z ++ r.passes.new) p.knows.1.1), first_ended) in
     let c = close_passes around r.inside r.flows (ends_pair r.inside) b.closes b.closing are.closing_mark
     (are.shuts around r.inside r.flows r.back)
-    at_end o closing_fits at_close.found at_close.there at_close.is at_close.lands
-    j now.context now.outer (after q) at_close.fresh calm q.knows.1 q.fits in
+    at_end o now.context closing_fits r.passes.right at_close.found at_close.there at_close.is at_close.lands
+    j now.outer (after q) at_close.fresh opened.4 calm q.knows.1 q.fits in
     let end = moved at_end close in
     let kept = keeping now m (bracket_text b w inside) in
     let known : IsAfterNode around.indent now.context kept (list_all is_blank) end o c.key c.adjacent (q.new ++ c.new) =
@@ -210,7 +228,6 @@ brackets_pass around Is b are m w inside o fits parts parted now low calm before
       low = c.knows.low;
     } in
     let all = join q c (after_node around.indent now.context kept (list_all is_blank) end o) known in
-    let start = state_at around now in
     let place = sym (moved_append m (b.opening ∷ w) (inside ++ close) ∙ moved_append here inside close) in
     let inner = r.tokens ++ pending (ends_pair r.inside) in
     record {

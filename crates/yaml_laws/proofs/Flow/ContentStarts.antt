@@ -79,7 +79,7 @@ anchor_begins name t h = starts 38 name t h.1 refl
 pub tag_begins : (tag : Tag) (t : List ℕ) → IsTag tag t → Begins t
 tag_begins tag t h = grind (arith, starts, codes, begins_front)
 
-properties_begin : (p : Properties) (indent : ℕ) (t : List ℕ) → IsProperties p indent t → Begins t
+pub properties_begin : (p : Properties) (indent : ℕ) (t : List ℕ) → IsProperties p indent t → Begins t
 properties_begin p indent t h = grind (arith, anchor_begins, tag_begins, begins_front)
 
 pub properties_content : (p : Properties) (indent : ℕ) (t : List ℕ) → IsProperties p indent t → StartsContent t
@@ -110,7 +110,7 @@ scalar_begins indent DoubleQuoted value in_flow t h = starts 34 h.0 t h.5 refl
 scalar_begins indent Literal value in_flow t h = absurd h
 scalar_begins indent Folded value in_flow t h = absurd h
 
-plain_key_begins : (in_flow : Bool) (indent : ℕ) (t : List ℕ) → IsPlainKey in_flow indent t → Begins t
+pub plain_key_begins : (in_flow : Bool) (indent : ℕ) (t : List ℕ) → IsPlainKey in_flow indent t → Begins t
 plain_key_begins in_flow indent [] (inl ((some, safe, no_comment), begins)) = absurd (some refl)
 plain_key_begins in_flow indent (c ∷ cs) (inl ((some, safe, no_comment), begins)) =
     word_starts in_flow c cs safe.0 no_comment begins
@@ -138,7 +138,7 @@ node_content indent room node in_flow t h = begins_content t (node_begins indent
 
 -- ## Keys
 
-plain_key_node_begins : (in_flow : Bool) (indent : ℕ) (node : Node) (t : List ℕ)
+pub plain_key_node_begins : (in_flow : Bool) (indent : ℕ) (node : Node) (t : List ℕ)
     → IsPlainKeyNode node in_flow indent t → Begins t
 plain_key_node_begins in_flow indent (Alias name) t h = absurd h
 plain_key_node_begins in_flow indent (Seq p nodes) t h = absurd h

@@ -1,8 +1,8 @@
 -- What comes first after a piece of a text in flow style.
-use Rattle.std.proofs.Common.{◌≡◌, ◌≢◌, ℕ, Bool, true, false, List, [], ◌∷◌, ◌++◌, slice_index, sym, arith, subst, append_assoc, IsTrue, ◌⊎◌, inl, inr}
-use Rattle.yaml_laws.proofs.Common.{◌||◌, ◌&&◌, not, nat_tests, is_blank, is_blank_or_breakz, is_flow, is_anchor_char, line_feed, Marker, AreIn, EndsTag, joined_pieces, AreEach, IsCommentBehind, IsSeparationLine, IsSeparation, Node, needs_separation, IsBeforeColon, Context, is_block, or_left}
+use Rattle.std.proofs.Common.{◌≡◌, ◌≢◌, ℕ, Bool, true, false, List, [], ◌∷◌, ◌++◌, slice_index, refl, sym, arith, subst, append_assoc, IsTrue, ◌⊎◌, inl, inr}
+use Rattle.yaml_laws.proofs.Common.{clash, colon, ◌||◌, ◌&&◌, not, nat_tests, is_blank, is_blank_or_breakz, is_flow, is_anchor_char, line_feed, Marker, AreIn, EndsTag, joined_pieces, AreEach, IsCommentBehind, IsSeparationLine, IsSeparation, Node, needs_separation, IsBeforeColon, Context, is_block, or_left}
 use Rattle.yaml_laws.proofs.InFlow.States.{Around}
-use Rattle.yaml_laws.proofs.Flow.States.{EndsNode, IsBehindNode, IsBehindRoot, Follows, follows_inside, follows_outside}
+use Rattle.yaml_laws.proofs.Flow.States.{EndsNode, IsBehindNode, IsBehindRoot, Follows, follows_inside, follows_outside, follows_key}
 
 -- ## White space first
 
@@ -97,6 +97,15 @@ node_ends_tag indent node o needs h = by_first (slice_index o 0) (behind_node_fi
 
 -- ## After a node, wherever it is
 
+key_blank : (node : Node) (w r : List ℕ) → needs_separation node ≡ true → AreIn is_blank w → IsBeforeColon node w
+    → IsTrue (is_blank_or_breakz (slice_index (w ++ (colon ∷ r)) 0))
+key_blank node w r apart are (inr k) = absurd (clash (needs_separation node) apart (not_true (needs_separation node) k))
+  where
+    not_true : (b : Bool) → IsTrue (not b) → b ≡ false
+    not_true b h = grind arith
+key_blank node [] r apart are (inl some) = absurd (some refl)
+key_blank node (c ∷ cs) r apart are (inl some) = white_breakz c (inl are.0)
+
 -- where a colon needs separation before it, a tag ends
 pub follows_tag : (around : Around) (x : Context) (node : Node) (m : Marker) (o : List ℕ) → needs_separation node ≡ true
     → Follows around x node m o → EndsTag (not (is_block x)) o
@@ -104,3 +113,5 @@ follows_tag around x node m o apart (follows_inside flow behind) =
     rw flow (node_ends_tag around.indent node o apart behind)
 follows_tag around x node m o apart (follows_outside is behind) =
     white_ends_tag (not (is_block x)) o (root_first around m o behind)
+follows_tag around x node m o apart (follows_key k held block w r is are before white) =
+    rw is (white_ends_tag (not (is_block x)) (w ++ (colon ∷ r)) (key_blank node w r apart are before))

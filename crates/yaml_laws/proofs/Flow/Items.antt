@@ -7,7 +7,7 @@ use Rattle.yaml_laws.proofs.InFlow.States.{Around, state_at, FlowMoment, moment_
 use Rattle.yaml_laws.proofs.Flow.States.{FitsAround, moved, past, PassesPiece, ended, PassesNode, after, StandsBefore}
 use Rattle.yaml_laws.proofs.Flow.Places.{moved_append}
 use Rattle.yaml_laws.proofs.Flow.GapSteps.{less_behind}
-use Rattle.yaml_laws.proofs.InBlock.Crossings.{fresh_in_flow}
+use Rattle.yaml_laws.proofs.InBlock.Crossings.{fresh_in_flow, holds_in_flow}
 use Rattle.yaml_laws.proofs.Flow.Joins.{join, knowing, passes_nothing}
 use Rattle.yaml_laws.proofs.Flow.Brackets.{pending, comma_behind}
 use Rattle.yaml_laws.proofs.Flow.ContentStarts.{StartsContent, begins_with, content_front, Begins, starts, begins_front, begins_content, node_begins, key_text_begins}
@@ -182,7 +182,7 @@ no_others {around} {b} {room} are = record {
           is = sym (append-nil (pending (ends_pair x)));
           are = inl refl;
           passes = passes_nothing around (moment_in x now) m behind (ended around.indent m behind) fits.right there
-              (fresh_in_flow x behind now.allowed now.cursor flows) near;
+              (fresh_in_flow x behind now.allowed now.cursor flows) (holds_in_flow flows) near;
         }) before text
     pass m p o (inr comma) fits x flows back now low before text =
         let behind = b.closing ∷ o in
@@ -289,7 +289,7 @@ no_entries {around} {b} are =
             tokens = [];
             are = ap pending are.none;
             passes = passes_nothing around (moment_in b.context now) m behind (ended around.indent m behind) fits.right
-                there (fresh_in_flow b.context behind now.allowed now.cursor are.flows)
+                there (fresh_in_flow b.context behind now.allowed now.cursor are.flows) (holds_in_flow are.flows)
                 (less_behind around.indent now.adjacent m [] behind before);
           }) text;
     }

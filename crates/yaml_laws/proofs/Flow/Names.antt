@@ -1,12 +1,13 @@
 -- The anchors, aliases and tags of a text in flow style are passed.
-use Rattle.std.proofs.Common.{◌≡◌, ℕ, ◌+◌, ◌≤◌, Bool, true, false, List, [], ◌∷◌, ◌++◌, length, slice_index, refl, sym, ap, arith, subst, encode_utf8_all, inl, inr}
-use Rattle.yaml_laws.proofs.Common.{◌==◌, not, Option, None, exclamation_mark, is_break, is_anchor_char, line_feed, Marker, along, mid_line, AreIn, IsAnchorName, IsTagText, EndsTag, IsHandleText, NoBreaks, Context, Kind, alias_token, anchor_token, tag_token, Tag, Handle, handle_text, NonSpecific, Verbatim, Shorthand, Core, from_to, completed_step, Candidate, Level, is_block, name_no_break, tag_no_break, IsTag, IsAnchor, IsAlias, cursor_at, no_break_no_feed, saved}
+use Rattle.std.proofs.Common.{◌≡◌, ℕ, ◌≤◌, Bool, true, false, List, [], ◌∷◌, ◌++◌, length, slice_index, refl, sym, ap, ◌∙◌, arith, subst, encode_utf8_all, inl, inr}
+use Rattle.yaml_laws.proofs.Common.{◌==◌, not, Option, None, exclamation_mark, is_break, is_anchor_char, line_feed, Marker, along, mid_line, AreIn, IsAnchorName, IsTagText, EndsTag, IsHandleText, NoBreaks, Context, Kind, alias_token, anchor_token, tag_token, Tag, Handle, handle_text, NonSpecific, Verbatim, Shorthand, Core, from_to, completed_step, Candidate, Level, State, is_block, name_no_break, tag_no_break, IsTag, IsAnchor, IsAlias, cursor_at, no_break_no_feed, saved}
 use Rattle.saphyr_scanner.specs.Grammar.Tokens as tokens
 use Rattle.saphyr_scanner.specs.Steps.Property as property
 use Rattle.saphyr_scanner.specs.Steps.Property.{read_name, read_tag}
 use Rattle.saphyr_scanner.specs.Steps.Fetch.{step}
-use Rattle.yaml_laws.proofs.InFlow.States.{Around, core_at, Placed, placed_right, saves_key, FlowMoment}
-use Rattle.yaml_laws.proofs.Flow.States.{moved, ReaderPromises, FitsAround, StandsBefore}
+use Rattle.yaml_laws.proofs.InFlow.States.{Around, core_at, Placed, saves_key, FlowMoment, Ready}
+use Rattle.yaml_laws.proofs.Flow.States.{moved, ReaderPromises, Fits}
+use Rattle.yaml_laws.proofs.Flow.KeyPieces.{fits_reach}
 use Rattle.yaml_laws.proofs.Flow.Places.{moved_along, right_along}
 use Rattle.yaml_laws.proofs.Flow.Tokens.{token_passes, PassesToken}
 use lib.Utf8.{encode}
@@ -59,6 +60,12 @@ unbroken_right column m t h low = right_along column m t (unbroken_on_line t h) 
 abbrev pub closes_key : ℕ → Bool → ℕ → Type 0
 closes_key ad allowed adjacent = (allowed ≡ false) × (adjacent ≡ ad)
 
+-- how a text is passed that is a token of this kind
+abbrev pub PassesName : Around → Kind → FlowMoment → Marker → List ℕ → List ℕ → Type 0
+PassesName around kind now m t o =
+    Fits around now.context m t o → (from : Bool → State) → Ready around from now m (t ++ o)
+    → PassesToken around (closes_key now.adjacent) from now m t o kind
+
 -- ## Names
 
 pub name_step : ReaderPromises → (around : Around) (d : Bool) (token_of : List ℕ
@@ -74,28 +81,30 @@ name_step reads around d token_of n m b indicator name o e h ends x k ls a ad pl
 name_passes : ReaderPromises → (around : Around) (token_of : List ℕ → Kind) (indicator : ℕ) (name t o : List ℕ)
     (m : Marker) → ((second n : ℕ) (c : Core) → step indicator second n c ≡ property.name_steps token_of n c)
     → is_start indicator ≡ true → is_break indicator ≡ false → IsAnchorName name → t ≡ indicator ∷ name
-    → is_anchor_char (slice_index o 0) ≡ false → FitsAround around m t o → (now : FlowMoment)
-    → StandsBefore around now m (t ++ o)
-    → PassesToken around (closes_key now.adjacent) now m t o (token_of (encode_utf8_all name))
-name_passes reads around token_of indicator name t o m begins start break h is ends whole now stands =
+    → is_anchor_char (slice_index o 0) ≡ false → (now : FlowMoment)
+    → PassesName around (token_of (encode_utf8_all name)) now m t o
+name_passes reads around token_of indicator name t o m begins start break h is ends now =
     let kind = token_of (encode_utf8_all name) in
     let end = moved m (indicator ∷ name) in
-    subst (λ (p : List ℕ). FitsAround around m p o → StandsBefore around now m (p ++ o)
-    → PassesToken around (closes_key now.adjacent) now m p o kind) (sym is) (λ fits text.
-    token_passes around None (closes_key now.adjacent) kind (indicator ∷ name) o m
-    (starts indicator name (indicator ∷ name) refl start) fits
-    (unbroken_right around.indent m (indicator ∷ name) (break, name_no_break name h) fits.right) now text
-    (λ b j e. record {
+    subst (λ (p : List ℕ). PassesName around kind now m p o) (sym is) (λ fits from ready.
+    token_passes around None (closes_key now.adjacent) kind (indicator ∷ name) o m now fits
+    (fits_reach m (indicator ∷ name) o (starts indicator name (indicator ∷ name) refl start)
+    (unbroken_right around.indent m (indicator ∷ name) (break, name_no_break name h)) fits) from ready
+    (λ b j e placed. record {
       there = mid_line end o;
       end = end;
       allowed = false;
       adjacent = now.adjacent;
       to = λ d. d;
-      is = grind (arith, core_at, cursor_at, name_step, placed_right);
+      is = grind (arith, core_at, cursor_at, name_step);
       fits = refl;
       fresh = λ _ e. e;
+      line = λ _ white c cs is are _ low. (
+        refl,
+        record { white = white; are = are; rest = is; mark = refl; right = low },
+      );
       holds = (refl, refl);
-    })) whole stands
+    }))
 
 pub begins_anchor : (second n : ℕ) (c : Core) → step 38 second n c ≡ property.anchor_steps n c
 unfolding step
@@ -106,14 +115,12 @@ unfolding step
 begins_alias second n c = refl
 
 pub anchor_passes : ReaderPromises → (around : Around) (name t o : List ℕ) (m : Marker) → IsAnchor name t
-    → is_anchor_char (slice_index o 0) ≡ false → FitsAround around m t o → (now : FlowMoment)
-    → StandsBefore around now m (t ++ o) → PassesToken around (closes_key now.adjacent) now m t o (anchor_token name)
+    → is_anchor_char (slice_index o 0) ≡ false → (now : FlowMoment) → PassesName around (anchor_token name) now m t o
 anchor_passes reads around name t o m h =
     name_passes reads around tokens.Anchor 38 name t o m begins_anchor refl refl h.0 h.1
 
 pub alias_token_passes : ReaderPromises → (around : Around) (name t o : List ℕ) (m : Marker) → IsAlias name t
-    → is_anchor_char (slice_index o 0) ≡ false → FitsAround around m t o → (now : FlowMoment)
-    → StandsBefore around now m (t ++ o) → PassesToken around (closes_key now.adjacent) now m t o (alias_token name)
+    → is_anchor_char (slice_index o 0) ≡ false → (now : FlowMoment) → PassesName around (alias_token name) now m t o
 alias_token_passes reads around name t o m h =
     name_passes reads around tokens.Alias 42 name t o m begins_alias refl refl h.0 h.1
 
@@ -140,9 +147,8 @@ unfolding step
 begins_tag second n c = refl
 
 pub tag_passes : ReaderPromises → (around : Around) (tag : Tag) (t o : List ℕ) (m : Marker) → IsTag tag t
-    → FitsAround around m t o → (now : FlowMoment) → EndsTag (not (is_block now.context)) o
-    → StandsBefore around now m (t ++ o) → PassesToken around (closes_key now.adjacent) now m t o (tag_token tag)
-tag_passes reads around tag t o m h fits now ends text =
+    → (now : FlowMoment) → EndsTag (not (is_block now.context)) o → PassesName around (tag_token tag) now m t o
+tag_passes reads around tag t o m h now ends fits from ready =
     let r = tag_read tag t h in
     let f = tag_first t r.handle r.suffix r.is in
     let at_first : slice_index (t ++ o) 0 ≡ 33 = ap (λ (p : List ℕ). slice_index (p ++ o) 0) f.1 in
@@ -150,16 +156,24 @@ tag_passes reads around tag t o m h fits now ends text =
     let end = moved m t in
     let n = length now.places in
     let kind = tokens.Tag (encode_utf8_all r.handle) (encode_utf8_all r.suffix) in
-    subst (λ (q : Kind). PassesToken around (closes_key now.adjacent) now m t o q) r.token (token_passes around None
-    (closes_key now.adjacent) kind t o m (tag_begins tag t h) fits
-    (unbroken_right around.indent m t (tag_no_break t r.handle r.suffix r.is) fits.right) now text (λ b j e. record {
+    subst (λ (q : Kind). PassesToken around (closes_key now.adjacent) from now m t o q) r.token
+    (token_passes around None
+    (closes_key now.adjacent) kind t o m now fits (fits_reach m t o (tag_begins tag t h)
+    (unbroken_right around.indent m t (tag_no_break t r.handle r.suffix r.is)) fits) from ready
+    (λ b j e placed. record {
       there = mid_line end o;
       end = end;
       allowed = false;
       adjacent = now.adjacent;
       to = λ d. d;
-      is = grind (arith, core_at, cursor_at, begins_tag, tag_step, placed_right);
+      is = λ d. let c = core_at around d (cursor_at (t ++ o) m b) now.context j now.outer e now.adjacent in
+          ap (λ (z : ℕ). step z second n c) at_first ∙ begins_tag second n c
+          ∙ tag_step reads around d n m b t r.handle r.suffix o r.is now.context j now.outer e now.adjacent ends placed;
       fits = refl;
       fresh = λ _ e. e;
+      line = λ _ white c cs is are _ low. (
+        refl,
+        record { white = white; are = are; rest = is; mark = refl; right = low },
+      );
       holds = (refl, refl);
     }))

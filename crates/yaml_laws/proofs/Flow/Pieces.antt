@@ -16,7 +16,6 @@ fits_front {around} m a b o h =
       clear = clear_front m a b o h.clear;
       below = rw (append_assoc a b o) at h.below;
       right = h.right;
-      calm = h.calm;
     }
 
 pub fits_back : {around : Around} (m : Marker) (a b o : List ℕ) → around.indent ≤ (moved m a).col
@@ -24,7 +23,7 @@ pub fits_back : {around : Around} (m : Marker) (a b o : List ℕ) → around.ind
 fits_back {around} m a b o right h =
     let whole : m.index + length (a ++ (b ++ o)) ≤ around.limit = rw (append_assoc a b o) at h.below in
     let count = moved_count m a (b ++ o) in
-    record { clear = clear_back m a b o h.clear; below = omega (arith, whole, count); right = right; calm = h.calm }
+    record { clear = clear_back m a b o h.clear; below = omega (arith, whole, count); right = right }
 
 pub fits_so : {around : Around} (m : Marker) (p q o : List ℕ) → p ≡ q → FitsAround around m p o
     → FitsAround around m q o

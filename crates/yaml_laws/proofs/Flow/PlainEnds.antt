@@ -1,6 +1,6 @@
 -- What comes after a node in flow style ends a plain scalar.
-use Rattle.std.proofs.Common.{◌≡◌, ◌≢◌, ℕ, ◌<◌, ◌≤◌, Bool, true, false, List, [], ◌∷◌, slice_index, refl, sym, ap, ◌∙◌, arith, subst, IsTrue, ◌⊎◌, inl, inr}
-use Rattle.yaml_laws.proofs.Common.{◌||◌, ◌&&◌, ◌==◌, if◌then◌else◌, false≢true, nat_tests, colon, number_sign, is_blank, is_break, is_blank_or_breakz, is_flow, carriage_return, is_bom, is_blank_or_break, Marker, along, next_line, past_white, StopsPlain, EndsPlain, Node, allows_adjacent}
+use Rattle.std.proofs.Common.{◌≡◌, ◌≢◌, ℕ, ◌<◌, ◌≤◌, Bool, true, false, List, [], ◌∷◌, ◌++◌, slice_index, refl, sym, ap, ◌∙◌, arith, subst, IsTrue, ◌⊎◌, inl, inr}
+use Rattle.yaml_laws.proofs.Common.{AreIn, Cursor, ◌||◌, ◌&&◌, ◌==◌, if◌then◌else◌, false≢true, nat_tests, colon, number_sign, is_blank, is_break, is_blank_or_breakz, is_flow, carriage_return, is_bom, is_blank_or_break, Marker, along, next_line, past_white, StopsPlain, EndsPlain, Node, allows_adjacent}
 use Rattle.saphyr_scalar.specs.Steps.Plain.{is_in_word, ends_line}
 use Rattle.yaml_laws.proofs.Flow.States.{past, moved, IsContentStart, EndsDocument, IsLeft, ends_colon, EndsNode, IsBehindNode, IsBehindRoot}
 use Rattle.yaml_laws.proofs.Flow.GapSteps.{past_content, no_left}
@@ -9,7 +9,9 @@ use Rattle.yaml_laws.proofs.InFlow.Tabs.{lands_on_content, tabs_behind_low, brok
 use Rattle.yaml_laws.proofs.Flow.Fillers.{white_past, separation_past}
 use Rattle.yaml_laws.proofs.Flow.Ends.{EndsHere, behind_node_first, root_first}
 use Rattle.yaml_laws.proofs.Flow.Quotes.{ends_node_content}
-use Rattle.yaml_laws.proofs.Flow.ContentStarts.{bom_is}
+use Rattle.yaml_laws.proofs.Flow.KeyPieces.{blanks_lands}
+use Rattle.yaml_laws.proofs.Flow.Plains.{white_blanks}
+use Rattle.yaml_laws.proofs.Flow.ContentStarts.{bom_is, colon_content}
 
 -- ## After the blanks and breaks
 
@@ -114,6 +116,27 @@ ends_in_flow around node m o apart h right =
     stops (inl e) = inl (no_word true (past_white m false o).rest e)
     stops (inr (inl e)) = inr (inl e)
     stops (inr (inr e)) = inl (rw (e.1, lands) (word_stops node h.separation h.first h.others apart h.ends))
+
+key_colon_stops : (r : List ℕ) → is_blank_or_breakz (slice_index r 0) ≡ true → is_in_word false (colon ∷ r) ≡ false
+unfolding is_in_word
+key_colon_stops r h = rw h refl
+
+blanks_apart : (w r : List ℕ) → AreIn is_blank w → slice_index (w ++ (colon ∷ r)) 0 ≢ number_sign
+blanks_apart [] r are e = absurd (omega (arith, e))
+blanks_apart (c ∷ cs) r are e = grind arith
+
+-- before the colon of a key
+pub ends_at_colon : (around : Around) (m : Marker) (o w r : List ℕ) → o ≡ w ++ (colon ∷ r) → AreIn is_blank w
+    → is_blank_or_breakz (slice_index r 0) ≡ true → around.indent ≤ m.col → EndsPlain false around.column m o
+ends_at_colon around m o w r is are white right =
+    record {
+      stops = inl (ap (λ (u : Cursor). is_in_word false u.rest) (ap (past_white m false) is
+          ∙ white_blanks m w 58 r are colon_content) ∙ key_colon_stops r white);
+      apart = rw is (blanks_apart w r are);
+      tabs = tabs_behind_low around.column around.indent around.low m m false o
+          (ap (λ (z : Marker × List ℕ). is_blank (slice_index z.1 0)) (blanks_lands around.indent m o w 58 r is are
+          colon_content right));
+    }
 
 -- outside flow
 pub ends_at_root : (around : Around) (m : Marker) (o : List ℕ) → IsBehindRoot around m o → around.indent ≤ m.col

@@ -1,15 +1,16 @@
 -- The plain scalars of a text in flow style are passed.
 use Rattle.std.proofs.Common.{◌≡◌, ◌≢◌, ℕ, ◌<◌, ◌≤◌, Bool, true, false, List, [], ◌∷◌, ◌++◌, slice_index, Ok, refl, ap, ◌∙◌, arith, append_assoc, IsTrue, ◌⊎◌, inl, inr, encode_utf8_all}
-use Rattle.yaml_laws.proofs.Common.{◌||◌, ◌&&◌, ◌==◌, not, nat_lt, Option, None, nat_tests, normalized, is_blank, is_blank_or_breakz, is_flow, Marker, Cursor, ◌>>=◌, plain_value, AreIn, is_tabbed, past_white, EndsPlain, is_plain_safe, ArePlainSafe, IsPlainText, Context, Kind, scalar_token, Plain, Core, from_to, completed_step, Candidate, Level, is_block, begins_plain, IsPlain, IsPlainKey, other_than, and_false, cursor_at, ne_eqb, hyphen, question_mark, number_sign, saved}
+use Rattle.yaml_laws.proofs.Common.{◌||◌, ◌&&◌, ◌==◌, not, nat_lt, Option, None, nat_tests, normalized, is_blank, is_blank_or_breakz, is_flow, Marker, Cursor, ◌>>=◌, plain_value, AreIn, is_tabbed, past_white, EndsPlain, is_plain_safe, ArePlainSafe, IsPlainText, Context, Kind, scalar_token, Plain, Core, from_to, completed_step, Candidate, Level, State, is_block, along, begins_plain, IsPlain, IsPlainKey, other_than, and_false, cursor_at, ne_eqb, hyphen, question_mark, number_sign, saved}
 use Rattle.saphyr_scalar.specs.Steps.Plain.{PlainScalarRead, comment_of}
 use Rattle.saphyr_scanner.specs.Grammar.Tokens as tokens
 use Rattle.saphyr_scanner.specs.Steps.Scalar as scalar
 use Rattle.saphyr_scanner.specs.Steps.Scalar.{read_plain, disallow_key, behind_plain}
 use Rattle.saphyr_scanner.specs.Steps.Fetch.{step, is_value_adjacent}
-use Rattle.yaml_laws.proofs.InFlow.States.{Around, core_at, state_at, Placed, placed_right, plain_placed, saves_key, FlowMoment}
+use Rattle.yaml_laws.proofs.InFlow.States.{Around, core_at, Placed, plain_placed, saves_key, FlowMoment, Ready}
 use Rattle.yaml_laws.proofs.InFlow.OnLine.{plain_lowers, plain_key_lowers}
-use Rattle.yaml_laws.proofs.Flow.States.{moved, past, IsClear, ReaderPromises, FitsAround, StandsBefore, PassesNoting, keeping}
-use Rattle.yaml_laws.proofs.Flow.Fillers.{white_past}
+use Rattle.yaml_laws.proofs.Flow.States.{moved, past, IsClear, IsContentStart, ReaderPromises, Fits, PassesNoting, keeping}
+use Rattle.yaml_laws.proofs.Flow.KeyPieces.{fits_clear, fits_reach}
+use Rattle.yaml_laws.proofs.Flow.Fillers.{blanks_past, white_past}
 use Rattle.yaml_laws.proofs.Flow.Tokens.{adjacent_at, token_passes, after_token}
 use Rattle.yaml_laws.proofs.Flow.ContentStarts.{Begins}
 use Rattle.yaml_laws.proofs.Flow.WordGaps.{passed_moved, normalized_same}
@@ -224,6 +225,11 @@ pub no_comment : (f t : Bool) (u : Cursor) → f ≡ true → comment_of f t u �
 unfolding comment_of
 no_comment f t u e = rw e refl
 
+pub content_comment : (f t : Bool) (u : Cursor) (c : ℕ) (cs : List ℕ) → u.rest ≡ c ∷ cs → IsContentStart c
+    → comment_of f t u ≡ None
+unfolding comment_of
+content_comment f t u c cs is content = grind arith
+
 -- the comment that ends a plain scalar which is at m, outside flow
 abbrev pub plain_comment : Around → FlowMoment → Marker → List ℕ → List ℕ → Option Marker
 plain_comment around now m t o =
@@ -232,32 +238,52 @@ plain_comment around now m t o =
 -- a text that is read as a plain scalar is passed, where that is a word's beginning
 abbrev pub PassesPlain : Around → FlowMoment → Marker → List ℕ → List ℕ → Type 0
 PassesPlain around now m t o =
-    FitsAround around m t o → EndsPlain (not (is_block now.context)) around.column (moved m t) o
+    Fits around now.context m t o → EndsPlain (not (is_block now.context)) around.column (moved m t) o
     → is_blank (slice_index (past around.indent (moved m t) o).1 0) ≡ false
-    → (is_block now.context ≡ true) ⊎ (now.adjacent < m.index) → StandsBefore around now m (t ++ o)
-    → PassesNoting (plain_comment around now m t o) around (state_at around now)
+    → (is_block now.context ≡ true) ⊎ (now.adjacent < m.index) → (from : Bool → State)
+    → Ready around from now m (t ++ o)
+    → PassesNoting (plain_comment around now m t o) around from
     (after_token (adjacent_at now.adjacent) now.context (keeping now m t)) now.context now.outer now.places (moved m t)
     o (plain_token t ∷ [])
 
+-- blanks before a token are passed with the scalar
+pub white_blanks : (m : Marker) (w : List ℕ) (c : ℕ) (cs : List ℕ) → AreIn is_blank w → IsContentStart c
+    → past_white m false (w ++ (c ∷ cs)) ≡ cursor_at (c ∷ cs) (moved m w) false
+white_blanks m [] c cs are content = rw (content.blank, content.break) refl
+white_blanks m (x ∷ xs) c cs are content = grind (arith, white_blanks (along m 1) xs c cs are.1 content)
+
 text_passes : ReaderPromises → (around : Around) (t o : List ℕ) (m : Marker) (now : FlowMoment)
     → BeginsWord (not (is_block now.context)) t o
-    → (FitsAround around m t o → EndsPlain (not (is_block now.context)) around.column (moved m t) o
-    → IsPlainText (not (is_block now.context)) around.column m t o × (around.indent ≤ (moved m t).col))
+    → (IsClear m t o → EndsPlain (not (is_block now.context)) around.column (moved m t) o
+    → IsPlainText (not (is_block now.context)) around.column m t o
+    × (around.indent ≤ m.col → around.indent ≤ (moved m t).col))
     → PassesPlain around now m t o
-text_passes reads around t o m now begins plain fits ends past_blanks low text =
+text_passes reads around t o m now begins plain fits ends past_blanks low from ready =
     let f = not (is_block now.context) in
     let u = past_white (moved m t) false o in
-    let is = plain fits ends in
-    token_passes around (plain_comment around now m t o) (adjacent_at now.adjacent) (plain_token t) t o m
-    (token_begins f t o begins) fits is.1 now text (λ b j e. record {
+    let is = plain (fits_clear fits) ends in
+    let clear = fits_clear fits in
+    token_passes around (plain_comment around now m t o) (adjacent_at now.adjacent) (plain_token t) t o m now fits
+    (fits_reach m t o (token_begins f t o begins) is.1 fits) from ready (λ b j e placed. record {
       there = u;
       end = moved m t;
       allowed = u.blank_so_far;
       adjacent = now.adjacent;
       to = λ d. false;
-      is = grind (arith, plain_step, placed_right);
+      is = grind (arith, plain_step);
       fits = white_past around.indent (moved m t) false o past_blanks;
       fresh = λ _ e. white_crosses (moved m t) false o e;
+      line = λ _ white c cs is are content right. let there = ap (past_white (moved m t) false) is
+          ∙ white_blanks (moved m t) white c cs are content in (
+            ap (λ (z : Cursor). z.blank_so_far) there,
+            record {
+              white = [];
+              are = tt;
+              rest = ap (λ (z : Cursor). z.rest) there;
+              mark = ap (λ (z : Cursor). z.mark) there;
+              right = rw there (blanks_past around.indent white are (moved m t) right).right;
+            },
+          );
       holds = refl;
     })
 
@@ -265,9 +291,9 @@ pub plain_passes : ReaderPromises → (around : Around) (t o : List ℕ) (m : Ma
     → IsPlain (not (is_block now.context)) around.indent t → PassesPlain around now m t o
 plain_passes reads around t o m now h =
     let f = not (is_block now.context) in
-    text_passes reads around t o m now (word_begins f around.indent t o h) (λ fits ends. (
-      plain_text f around.column m t o (plain_lowers around.indent around.column around.low f t h) fits.clear ends,
-      plain_right f around.indent m t o h fits.clear fits.right,
+    text_passes reads around t o m now (word_begins f around.indent t o h) (λ clear ends. (
+      plain_text f around.column m t o (plain_lowers around.indent around.column around.low f t h) clear ends,
+      plain_right f around.indent m t o h clear,
     ))
 
 -- a key is passed, up to its colon
@@ -275,7 +301,7 @@ pub plain_key_passes : ReaderPromises → (around : Around) (t r : List ℕ) (m 
     → IsPlainKey (not (is_block now.context)) around.indent t → PassesPlain around now m t (58 ∷ r)
 plain_key_passes reads around t r m now h =
     let f = not (is_block now.context) in
-    text_passes reads around t (58 ∷ r) m now (key_begins f around.indent t r h) (λ fits ends. (
-      key_text f around.column m t r (plain_key_lowers around.indent around.column around.low f t h) fits.clear ends,
-      key_right f around.indent m t r h fits.clear fits.right,
+    text_passes reads around t (58 ∷ r) m now (key_begins f around.indent t r h) (λ clear ends. (
+      key_text f around.column m t r (plain_key_lowers around.indent around.column around.low f t h) clear ends,
+      key_right f around.indent m t r h clear,
     ))

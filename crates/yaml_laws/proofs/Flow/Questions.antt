@@ -7,14 +7,14 @@ use Rattle.saphyr_scanner.specs.Steps.Core.{Core, from_to, up_to_here, completed
 use Rattle.saphyr_scanner.specs.Steps.Block as block
 use Rattle.saphyr_scanner.specs.Steps.Block.{behind_mark, pass_question, begin_key}
 use Rattle.saphyr_scanner.specs.Steps.Fetch.{step}
-use Rattle.yaml_laws.proofs.InFlow.States.{Around, core_at, state_at, moment, FlowMoment, moment_in, moment_with}
+use Rattle.yaml_laws.proofs.InFlow.States.{Around, core_at, state_at, moment, FlowMoment, moment_in, moment_with, kept_inside}
 use Rattle.yaml_laws.proofs.Flow.Places.{right_one}
 use Rattle.yaml_laws.proofs.Flow.States.{moved, IsContentStart, IsParted, no_key, PassesPiece, FitsAround, StandsBefore}
 use Rattle.yaml_laws.proofs.Flow.GapSteps.{past_content}
 use Rattle.yaml_laws.proofs.Flow.Fillers.{separation_past}
 use Rattle.yaml_laws.proofs.Flow.Tokens.{arrives, step_comes, within_index}
 use Rattle.yaml_laws.proofs.Flow.Joins.{step_passes}
-use Rattle.yaml_laws.proofs.InBlock.Crossings.{fresh_in_flow}
+use Rattle.yaml_laws.proofs.InBlock.Crossings.{fresh_in_flow, holds_in_flow}
 use Rattle.yaml_laws.proofs.Flow.Brackets.{IsTokenMark, mark_begins, mark_moved, one_on, token_mark}
 use Rattle.yaml_laws.proofs.Flow.Ends.{ends_behind_separation}
 use Rattle.yaml_laws.proofs.Flow.Spaces.{spaces_passed}
@@ -62,7 +62,7 @@ pub mark_passes : (around : Around) (y : Context) → is_block y ≡ false → (
     now.places (moved m (question_mark ∷ [])) o (tokens.Key ∷ [])
 mark_passes around y flows m o fits parted some tabs now before text =
     let v = arrives around (moment_in y now) m (63 ∷ o) (text ∙ past_content around.indent m 63 o question.content) refl
-    fits.right fits.calm in
+    (mark_begins m 63 o question fits.clear) flows fits.right in
     let on = le_next around.indent m.col fits.right in
     let w = parted.separation in
     let c = parted.first in
@@ -83,10 +83,12 @@ mark_passes around y flows m o fits parted some tabs now before text =
     let below = fits.below in
     let new = token_place m n tokens.Key ∷ [] in
     let next = moment there (behind_question y) None now.outer false now.adjacent now.places in
-    let came = step_comes around (moment_in y now) m (63 ∷ o) v (mark_begins m 63 o question fits.clear) None
+    let came = step_comes around (state_at around (moment_in y now)) (moment_in y now) m (63 ∷ o) v None
     (moment_with new next) (from_to m n tokens.Key ∷ []) (λ d. d) stepped refl
-    (within_index around.indent around.limit there (along m 1) o lands (omega (arith, below))) in
+    (within_index around.indent around.limit there (along m 1) o lands (omega (arith, below)))
+    (kept_inside (question_flows y flows)) in
     step_passes next new (moved m (63 ∷ [])) o (tokens.Key ∷ [])
     (no_key (moved m (63 ∷ []))) came (right_one around.indent m 63 refl fits.right) (cc (mark_moved m 63 question))
-    (fresh_in_flow (behind_question y) o false there (question_flows y flows)) refl
+    (fresh_in_flow (behind_question y) o false there (question_flows y flows))
+    (holds_in_flow (question_flows y flows)) refl
     (came.same (question_flows y flows), refl, one_on m 63 now.adjacent before)

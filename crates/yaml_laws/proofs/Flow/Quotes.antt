@@ -1,21 +1,24 @@
 -- The quoted scalars of a text in flow style are passed.
 use Rattle.std.proofs.Common.{◌≡◌, ℕ, ◌≤◌, Bool, true, false, List, [], ◌∷◌, ◌++◌, length, slice_index, Ok, refl, sym, ap, ◌∙◌, subst, encode_utf8_all, ◌⊎◌, inl, inr, arith}
-use Rattle.yaml_laws.proofs.Common.{◌||◌, ◌==◌, Option, None, is_blank, is_break, is_breakz, SkipTabs, Yes, Marker, Quote, Single, Double, Cursor, separation, mark, mid_line, Context, scalar_token, Style, Node, from_to, completed_step, Candidate, Level, is_block, IsQuoted, or_left, apostrophe, cursor_at, clash, saved}
+use Rattle.yaml_laws.proofs.Common.{colon, eq-eqb, ◌||◌, ◌==◌, Option, None, is_blank, is_break, is_breakz, SkipTabs, Yes, Marker, Quote, Single, Double, Cursor, separation, mark, mid_line, Context, scalar_token, Style, Node, from_to, completed_step, AreIn, Candidate, Level, State, is_block, IsQuoted, or_left, apostrophe, cursor_at, clash, saved}
 use Rattle.saphyr_scanner.specs.declared.engine.level.Context.TheVariants as context
 use Rattle.saphyr_scanner.specs.Grammar.Tokens as tokens
 use Rattle.saphyr_scanner.specs.Steps.Scalar as scalar
 use Rattle.saphyr_scanner.specs.Steps.Scalar.{quote_style, behind_quotes, goes_on_behind_quotes}
 use Rattle.saphyr_scanner.specs.Steps.Fetch.{step}
-use Rattle.yaml_laws.proofs.InFlow.States.{Around, core_at, reach, reach_low, Placed, placed_right, saves_key, FlowMoment}
+use Rattle.yaml_laws.proofs.InFlow.States.{Around, core_at, reach, reach_low, Placed, saves_key, FlowMoment, Ready}
 use Rattle.yaml_laws.proofs.InFlow.Tabs.{lands_on_content}
-use Rattle.yaml_laws.proofs.Flow.States.{moved, past, crosses, IsClear, IsContentStart, EndsNode, IsBehindNode, IsBehindRoot, ReaderPromises, FitsAround, StandsBefore}
+use Rattle.yaml_laws.proofs.Flow.States.{moved, past, crosses, IsClear, IsContentStart, EndsNode, Fits, IsBehindNode, IsBehindRoot, ReaderPromises}
+use Rattle.yaml_laws.proofs.Flow.KeyPieces.{blanks_lands, fits_clear, fits_reach}
 use Rattle.yaml_laws.proofs.Flow.GapSteps.{past_again, past_content}
-use Rattle.yaml_laws.proofs.Flow.Fillers.{EndsLine, rest_past, separation_past}
+use Rattle.yaml_laws.proofs.InBlock.Skips.{blanks_cross}
+use Rattle.yaml_laws.proofs.Flow.Fillers.{EndsLine, blanks_past, rest_past, separation_past}
 use Rattle.yaml_laws.proofs.Flow.Tokens.{PassesGap, passes_gap, adjacent_at, token_passes, PassesToken}
-use Rattle.yaml_laws.proofs.Flow.Separates.{separates, separates_rest}
+use Rattle.yaml_laws.proofs.Flow.Separates.{blanks_moved, blanks_separated, separates, separates_rest}
+use Rattle.yaml_laws.proofs.InFlow.OnLine.{separation_of_blanks}
 use Rattle.yaml_laws.proofs.Flow.Quoted.{quoted_read, quoted_right}
 use Rattle.yaml_laws.proofs.InBlock.Crossings.{line_rest_crosses}
-use Rattle.yaml_laws.proofs.Flow.ContentStarts.{Begins, starts}
+use Rattle.yaml_laws.proofs.Flow.ContentStarts.{Begins, colon_content, starts}
 
 -- ## After the closing quote
 
@@ -58,6 +61,9 @@ ends_node_content node w others c (inr (inr (inl e))) =
     rw e (record { blank = refl; break = refl; comment = refl; byte_order_mark = refl }, refl)
 ends_node_content node w others c (inr (inr (inr h))) =
     rw h.0 (record { blank = refl; break = refl; comment = refl; byte_order_mark = refl }, refl)
+
+pub content_uncrossed : (c : ℕ) (cs : List ℕ) → IsContentStart c → crosses (c ∷ cs) ≡ false
+content_uncrossed c cs h = grind arith
 
 pub flow_ends_quotes : (around : Around) (node : Node) (start m : Marker) (o : List ℕ) (x : Context)
     → is_block x ≡ false → IsBehindNode around.indent node o → around.indent ≤ m.col
@@ -103,6 +109,30 @@ root_ends_quotes around start m o h right =
     first more (inl e) = rw e refl
     first more (inr e) = rw e refl
 
+goes_before_colon : (around : Around) (d : Bool) (start : Marker) (s : Cursor) (r : List ℕ) (k : Option Candidate)
+    (ls : List Level) (a : Bool) (ad : ℕ) → s.rest ≡ colon ∷ r → start.line ≡ s.mark.line
+    → goes_on_behind_quotes start (core_at around d s context.Block k ls a ad) ≡ true
+unfolding goes_on_behind_quotes
+goes_before_colon around d start s r k ls a ad is e = rw (is, eq-eqb start.line s.mark.line e) refl
+
+pub key_ends_quotes : (around : Around) (start m : Marker) (o w r : List ℕ) → o ≡ w ++ (colon ∷ r) → AreIn is_blank w
+    → around.indent ≤ m.col → start.line ≡ m.line → EndsQuotes around start (mid_line m o) context.Block
+key_ends_quotes around start m o w r is are right line =
+    let p = separates around.indent (mid_line m o) w 58 r is (separation_of_blanks around.indent w are) right
+    colon_content in
+    let near = p.near are in
+    let lands = blanks_lands around.indent m o w 58 r is are colon_content right in
+    record {
+      found = p.found;
+      there = p.there;
+      is = p.is;
+      lands = p.lands;
+      past_blanks = ap (λ (z : Marker × List ℕ). is_blank (slice_index z.1 0)) lands;
+      stays = λ _ e. absurd (clash (crosses o) e (ap crosses is ∙ blanks_cross w (58 ∷ r) are));
+      goes = λ d k ls a ad. goes_before_colon around d start p.there r k ls a ad near.0
+          (line ∙ sym (ap (λ (n : Marker). n.line) (near.1 ∙ blanks_moved m w are)));
+    }
+
 pub behind_step : (around : Around) (d : Bool) (start : Marker) (style : Style) (text : List ℕ) (s : Cursor)
     (x : Context) (k : Option Candidate) (ls : List Level) (ad : ℕ) (m : Marker) (y : List ℕ)
     (p : EndsQuotes around start s x)
@@ -145,30 +175,45 @@ quote_first Single inside = starts 39 inside (39 ∷ inside) refl refl
 quote_first Double inside = starts 34 inside (34 ∷ inside) refl refl
 
 pub quoted_passes : ReaderPromises → (around : Around) (quote : Quote) (value t o : List ℕ) (m : Marker)
-    → IsQuoted quote around.indent value t → FitsAround around m t o → (slice_index o 0 == apostrophe) ≡ false
-    → (now : FlowMoment) → EndsQuotes around m (mid_line (moved m t) o) now.context → StandsBefore around now m (t ++ o)
-    → PassesToken around (adjacent_at (past around.indent (moved m t) o).0.index) now m t o
+    → IsQuoted quote around.indent value t → (now : FlowMoment) → Fits around now.context m t o
+    → (slice_index o 0 == apostrophe) ≡ false → EndsQuotes around m (mid_line (moved m t) o) now.context
+    → (from : Bool → State) → Ready around from now m (t ++ o)
+    → PassesToken around (adjacent_at (past around.indent (moved m t) o).0.index) from now m t o
     (scalar_token (quote_style quote) value)
-quoted_passes reads around quote value t o m h fits apart now p text =
+quoted_passes reads around quote value t o m h now fits apart p from ready =
     let first = subst Begins (sym h.5) (quote_first quote h.0) in
     let at_first : slice_index (t ++ o) 0 ≡ mark quote = simp h.5 in
     let behind = past around.indent (moved m t) o in
     let place = length now.places in
-    token_passes around None (adjacent_at behind.0.index) (scalar_token (quote_style quote) value) t o m first fits
-    (quoted_right around.indent quote m value t o h fits.clear fits.right) now text
-    (λ b j e. let g = passes_gap around p.there now.context (saved e place m j) now.outer false now.adjacent behind.0
-    behind.1 p.lands p.past_blanks in
+    let clear = fits_clear fits in
+    let right = fits_reach m t o first (quoted_right around.indent quote m value t o h clear) fits in
+    token_passes around None (adjacent_at behind.0.index) (scalar_token (quote_style quote) value) t o m now fits right
+    from ready (λ b j e placed. let g = passes_gap around p.there now.context (saved e place m j) now.outer false
+    now.adjacent behind.0 behind.1 p.lands p.past_blanks in
     record {
       there = cursor_at behind.1 behind.0 g.blank;
       end = p.there.mark;
       allowed = g.allowed;
       adjacent = behind.0.index;
       to = λ d. d;
-      is = λ d. quoted_step reads around d quote place m b value t o h fits.clear apart now.context j now.outer e
-          now.adjacent (slice_index (t ++ o) 0) at_first (placed_right now.context e fits.calm fits.right)
+      is = λ d. quoted_step reads around d quote place m b value t o h clear apart now.context j now.outer e
+          now.adjacent (slice_index (t ++ o) 0) at_first placed
           ∙ behind_step around d m (quote_style quote) (encode_utf8_all value) (mid_line (moved m t) o) now.context
           (saved e place m j) now.outer now.adjacent behind.0 behind.1 p g;
       fits = past_again around.indent (moved m t) o;
       fresh = λ b e. or_left g.allowed (crosses behind.1) (g.fresh b (p.stays b e));
+      line = λ block white c cs is are content right.
+          let lands = blanks_lands around.indent (moved m t) o white c cs is are content right in
+          let near = blanks_separated around.indent (mid_line (moved m t) o) p.found p.there p.is white c cs is are right
+          content in (
+            g.still (ap crosses near.0 ∙ content_uncrossed c cs content),
+            record {
+              white = [];
+              are = tt;
+              rest = ap (λ (z : Marker × List ℕ). z.1) lands;
+              mark = ap (λ (z : Marker × List ℕ). z.0) lands;
+              right = rw lands (blanks_past around.indent white are (moved m t) right).right;
+            },
+          );
       holds = refl;
     })

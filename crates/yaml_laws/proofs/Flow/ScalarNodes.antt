@@ -1,12 +1,12 @@
 -- The scalars of a text in flow style are passed, with their properties.
-use Rattle.std.proofs.Common.{◌≡◌, ◌≢◌, ℕ, ◌≤◌, Bool, List, [], ◌∷◌, ◌++◌, refl, arith, append_assoc, inl, inr}
-use Rattle.yaml_laws.proofs.Common.{not, None, false≢true, colon, Marker, EndsTag, IsSeparation, Context, Kind, scalar_token, is_block, Style, Plain, Properties, Node, Scalar, allows_adjacent, IsProperties, IsBeforeContent, IsScalarNode, IsPlainKeyNode}
+use Rattle.std.proofs.Common.{◌≡◌, ℕ, ◌≤◌, List, [], ◌∷◌, ◌++◌, refl, arith, inl, inr}
+use Rattle.yaml_laws.proofs.Common.{not, None, false≢true, colon, Marker, Context, Kind, scalar_token, is_block, Style, Plain, Properties, Node, Scalar, allows_adjacent, IsProperties, IsBeforeContent, IsScalarNode, IsPlainKeyNode}
 use Rattle.saphyr_scanner.specs.Grammar.TokenGrammar as grammar
 use Rattle.yaml_laws.proofs.InFlow.States.{Around, FlowMoment}
 use Rattle.yaml_laws.proofs.Flow.States.{moved, ReaderPromises, after_node, keeping, Follows, IsLow, ReadsText}
 use Rattle.yaml_laws.proofs.Flow.Joins.{knowing, mapped}
-use Rattle.yaml_laws.proofs.Flow.ContentStarts.{behind_low}
-use Rattle.yaml_laws.proofs.Flow.Ends.{white_ends_tag, ends_behind_separation, follows_tag}
+use Rattle.yaml_laws.proofs.Flow.ContentStarts.{Begins, behind_low, plain_key_begins, scalar_begins}
+use Rattle.yaml_laws.proofs.Flow.Ends.{follows_tag}
 use Rattle.yaml_laws.proofs.Flow.Properties.{properties_read}
 use Rattle.yaml_laws.proofs.Flow.Contents.{content_passes, PassesContent, key_content_passes}
 use Rattle.yaml_laws.proofs.Flow.Fronts.{behind_front}
@@ -17,20 +17,15 @@ pub empty_are : (p : Properties) (indent : ℕ) (t : List ℕ) (tokens : List Ki
     → IsProperties p indent t → grammar.YieldProperties p tokens → grammar.YieldsNode (Scalar p Plain []) place tokens
 empty_are p indent t tokens place h are = grind arith
 
-pub separation_ends : (indent : ℕ) (in_flow : Bool) (w b o : List ℕ) → w ≢ [] → IsSeparation indent w
-    → EndsTag in_flow ((w ++ b) ++ o)
-separation_ends indent in_flow w b o some h =
-    rw (append_assoc w b o) (white_ends_tag in_flow (w ++ (b ++ o)) (ends_behind_separation indent w (b ++ o) h some))
-
 -- ## Properties alone, for an empty scalar
 
 empty_passes : ReaderPromises → (around : Around) (p : Properties) (m : Marker) (t o : List ℕ) (now : FlowMoment)
     → IsProperties p around.indent t → ReadsText around (Scalar p Plain []) m t o now
-empty_passes reads around p m t o now h fits follows low text =
+empty_passes reads around p m t o now h fits follows low start ready =
     let node = Scalar p Plain [] in
     let end = moved m t in
     let r = properties_read reads around p.anchor p.tag m t o h now
-    (follows_tag around now.context node end o refl follows) fits text in
+    (follows_tag around now.context node end o refl follows) fits start ready in
     let known = r.passes.knows.properties in
     record {
       tokens = r.tokens;
@@ -52,16 +47,17 @@ low_content : {x y : Context} {ad bd : ℕ} (m e : Marker) → y ≡ x → bd �
 low_content {x} {y} {ad} {bd} m e same_context same later (low, h) = grind (arith)
 
 content_node : ReaderPromises → (around : Around) (p : Properties) (style : Style) (value front content o : List ℕ)
-    (m : Marker) (now : FlowMoment) → IsBeforeContent p around.indent front
+    (m : Marker) (now : FlowMoment) → IsBeforeContent p around.indent front → Begins content
     → ((e : Marker) (next : FlowMoment) → not (is_block next.context) ≡ not (is_block now.context)
     → PassesContent around (Scalar p style value) style value content o e next)
     → ReadsText around (Scalar p style value) m (front ++ content) o now
-content_node reads around p style value front content o m now before g fits follows low text =
+content_node reads around p style value front content o m now before begins g fits follows low start ready =
     mapped (λ ts h place. (h.0, h.1, h.2, inl h.3, h.4)) (λ w h. h)
     (behind_front reads around p (λ ts. ts ≡ scalar_token style value ∷ []) (allows_adjacent (Scalar p style value)) m
-    front content o before fits now text (λ e place later inner next same_context same_outer same_adjacent at.
+    front content o before begins now fits start ready
+    (λ e place later next same_context same_outer same_adjacent inner from at.
     g e next (cc) inner (follows_content same_context place follows)
-    (low_content m e same_context same_adjacent later low) at))
+    (low_content m e same_context same_adjacent later low) from at))
 
 pub scalar_passes : ReaderPromises → (around : Around) (p : Properties) (style : Style) (value : List ℕ) (m : Marker)
     (t o : List ℕ) (now : FlowMoment) → IsScalarNode p style value (not (is_block now.context)) around.indent t
@@ -69,7 +65,8 @@ pub scalar_passes : ReaderPromises → (around : Around) (p : Properties) (style
 scalar_passes reads around p style value m t o now (inl (plain, empty, h)) =
     rw (plain, empty) (empty_passes reads around p m t o now h)
 scalar_passes reads around p style value m t o now (inr (front, content, before, g, is)) =
-    rw is (content_node reads around p style value front content o m now before (λ e next same.
+    rw is (content_node reads around p style value front content o m now before
+    (scalar_begins around.indent style value (not (is_block now.context)) content g) (λ e next same.
     content_passes reads around p style value content o e next (rw same g)))
 
 -- a key before its colon
@@ -77,5 +74,6 @@ pub key_node_passes : ReaderPromises → (around : Around) (p : Properties) (sty
     (m : Marker) (now : FlowMoment) → IsPlainKeyNode (Scalar p style value) (not (is_block now.context)) around.indent t
     → ReadsText around (Scalar p style value) m t (colon ∷ r) now
 key_node_passes reads around p style value t r m now (front, content, plain, before, g, stands, is) =
-    rw (plain, is) (content_node reads around p Plain value front content (58 ∷ r) m now before (λ e next same.
+    rw (plain, is) (content_node reads around p Plain value front content (58 ∷ r) m now before
+    (plain_key_begins (not (is_block now.context)) around.indent content g) (λ e next same.
     key_content_passes reads around p value content r e next stands (rw same g)))

@@ -1,6 +1,6 @@
 -- Blanks and a comment after a token of a text in flow style are passed, up to the end of the line.
-use Rattle.std.proofs.Common.{◌≡◌, ◌≢◌, ℕ, ◌+◌, ◌<◌, ◌≤◌, Bool, true, false, List, [], ◌∷◌, ◌++◌, length, drop, slice_index, Ok, refl, sym, ap, ◌∙◌, arith, subst, append_assoc, append-nil, IsTrue, ◌⊎◌, inl, inr, cond}
-use Rattle.yaml_laws.proofs.Common.{◌==◌, not, nat_tests, length-append, number_sign, is_blank, is_break, is_bom, is_yaml_non_break, line_feed, separation_len, found_blanks, SkipTabs, Yes, Marker, AreIn, spaces, joined_pieces, AreEach, IsComment, IsCommentBehind, IsSeparationLine, IsSeparation, IsLineRest, blank_no_feed, non_break_no_feed, back_in, both_in, separated}
+use Rattle.std.proofs.Common.{◌≡◌, ◌≢◌, ℕ, ◌+◌, ◌<◌, ◌≤◌, Bool, true, false, List, [], ◌∷◌, ◌++◌, length, drop, slice_index, Result, Ok, Err, refl, sym, ap, ◌∙◌, arith, subst, append_assoc, append-nil, IsTrue, ◌⊎◌, inl, inr, cond}
+use Rattle.yaml_laws.proofs.Common.{◌==◌, not, nat_tests, length-append, number_sign, is_blank, is_break, is_bom, is_yaml_non_break, line_feed, separation_len, found_blanks, SkipTabs, Yes, Marker, Refusal, AreIn, spaces, joined_pieces, AreEach, IsComment, IsCommentBehind, IsSeparationLine, IsSeparation, IsLineRest, blank_no_feed, non_break_no_feed, back_in, both_in, separated}
 use Rattle.std.proofs.Math.Seq.{drop-append_seam}
 use Rattle.saphyr_scalar.specs.Views.Cursor.{Cursor, along, separation, behind_separation}
 use Rattle.saphyr_scalar.proofs.Runs.{run_len}
@@ -105,6 +105,21 @@ separates_on_line column s blanks c cs is are low content =
       ends = inr refl;
       near = λ _. (refl, mark);
     }
+
+abbrev reached : Cursor → Result (SkipTabs × Cursor) Refusal → Cursor
+reached c (Ok x) = x.1
+reached c (Err e) = c
+
+-- what blanks before a token give is one place
+pub blanks_separated : (column : ℕ) (s : Cursor) (found : SkipTabs) (there : Cursor)
+    → separation Yes s ≡ Ok (found, there)
+    → (w : List ℕ) (c : ℕ) (cs : List ℕ) → s.rest ≡ w ++ (c ∷ cs) → AreIn is_blank w → column ≤ s.mark.col
+    → IsContentStart c → (there.rest ≡ c ∷ cs) × (there.mark ≡ moved s.mark w)
+blanks_separated column s found there is w c cs text are low content =
+    let p = separates_on_line column s w c cs text are low content in
+    let same : there ≡ p.there = ap (reached there) (sym is ∙ p.is) in
+    let near = p.near are in
+    (ap (λ (x : Cursor). x.rest) same ∙ near.0, ap (λ (x : Cursor). x.mark) same ∙ near.1)
 
 -- up to a line's end
 pub line_rest : (s : Cursor) (blanks comment more : List ℕ) → s.rest ≡ blanks ++ (comment ++ more)

@@ -1,7 +1,7 @@
 -- What is said of a piece of a text in flow style, and of the states before it and after it, whatever block
 -- collections are open.
 use Rattle.std.proofs.Common.{◌≡◌, ℕ, ◌+◌, ◌<◌, ◌≤◌, Bool, true, false, List, [], ◌∷◌, ◌++◌, length, slice_index, IsTrue, ◌⊎◌, Ok, encode_utf8_all}
-use Rattle.yaml_laws.proofs.Common.{◌||◌, ◌&&◌, ◌==◌, not, nat_lt, Option, Some, None, if◌then◌else◌, colon, number_sign, normalized, is_blank, is_break, is_breakz, is_blank_or_breakz, is_yaml_non_break, is_anchor_char, is_bom, line_feed, carriage_return, is_document_indicator, Marker, Cursor, along, next_line, pass_break, comment_of, end_of_text, mid_line, IsQuotedText, IsPlainText, is_tabbed, past_white, LinesFit, plain_value, folded, IsPassed, ReadDirective, IsDirectiveText, IsReservedDirective, IsLineTail, Item, Quote, AreIn, IsAnchorName, IsTagText, EndsTag, IsSeparation, IsLineRest, Context, Kind, Piece, Place, bare_place, Candidate, Level, is_block, State, Node, most_open, place_kinds, saved, IsPlainKeyNode, IsBeforeColon, allows_adjacent, IsFlowNode, EndsContent}
+use Rattle.yaml_laws.proofs.Common.{◌||◌, ◌&&◌, ◌==◌, not, nat_lt, Option, Some, None, if◌then◌else◌, colon, number_sign, normalized, is_blank, is_break, is_breakz, is_blank_or_breakz, is_yaml_non_break, is_anchor_char, is_bom, line_feed, carriage_return, is_document_indicator, Marker, Cursor, along, next_line, pass_break, comment_of, end_of_text, mid_line, IsQuotedText, IsPlainText, is_tabbed, past_white, LinesFit, plain_value, folded, IsPassed, ReadDirective, IsDirectiveText, IsReservedDirective, IsLineTail, Item, Quote, AreIn, IsAnchorName, IsTagText, EndsTag, IsSeparation, IsLineRest, Context, Kind, Piece, Place, bare_place, Candidate, Level, is_block, State, Node, most_open, place_kinds, saved, IsPlainKeyNode, IsBeforeColon, allows_adjacent, IsFlowNode, EndsContent, IsOnLine}
 use Rattle.saphyr_scalar.specs.Steps.Anchor as anchors
 use Rattle.saphyr_scalar.specs.Steps.Tag as tags
 use Rattle.saphyr_scalar.specs.Steps.Plain as words
@@ -10,7 +10,7 @@ use Rattle.saphyr_scalar.specs.Steps.Directive as directives
 use Rattle.saphyr_scalar.specs.Spelling.Directive as spelling
 use Rattle.saphyr_scanner.specs.declared.engine.level.Context.TheVariants as context
 use Rattle.saphyr_scanner.specs.Grammar.TokenGrammar as grammar
-use Rattle.yaml_laws.proofs.InFlow.States.{Around, FlowMoment, moment, state_at, noted, RunsTo}
+use Rattle.yaml_laws.proofs.InFlow.States.{Around, FlowMoment, Ready, moment, state_at, noted, RunsTo}
 
 -- ## Places in a text
 
@@ -137,12 +137,33 @@ pub record IsBehindRoot (around : Around) (m : Marker) (o : List ℕ) : Type 0 w
   pub lands : around.indent ≤ m.col → EndsDocument (past around.indent m o).0 (past around.indent m o).1
       ⊎ IsLeft around.column (past around.indent m o).0 (past around.indent m o).1
 
--- A piece that is clear, within the limit, and right of the block collection around it, where no key is required.
+-- A piece that is clear, within the limit, and right of the block collection around it.
 pub record FitsAround (around : Around) (m : Marker) (p o : List ℕ) : Type 0 where
   pub clear : IsClear m p o
   pub below : m.index + length (p ++ o) ≤ around.limit
   pub right : around.indent ≤ m.col
-  pub calm : around.pending ≡ false
+
+-- A piece of a key on one line: behind it come blanks and a token, which is near the key's start.
+pub record FitsKey (around : Around) (k : Candidate) (m : Marker) (p o : List ℕ) : Type 0 where
+  pub line : m.line ≡ k.mark.line
+  pub on_line : IsOnLine p
+  pub low : around.indent ≤ m.col + 1
+  pub clear : IsClear m p o
+  pub below : m.index + length (p ++ o) ≤ around.limit
+  pub white : List ℕ
+  pub are_white : AreIn is_blank white
+  pub first : ℕ
+  pub others : List ℕ
+  pub is : o ≡ white ++ (first ∷ others)
+  pub content : IsContentStart first
+  pub near : m.index + length (p ++ white) ≤ k.mark.index + 1024
+
+-- a piece inside flow, or at block level where no key is required or read, or of a key
+pub data Fits (around : Around) (x : Context) (m : Marker) (p o : List ℕ) : Type 0 where
+  fits_free : (is_block x ≡ false) ⊎ ((around.pending ≡ false) × (around.held ≡ None)) → FitsAround around m p o
+      → Fits around x m p o
+  fits_key : is_block x ≡ true → (k : Candidate) → around.held ≡ Some k → FitsKey around k m p o
+      → Fits around x m p o
 
 -- ## What the readers of scalars, properties and directives promise
 
@@ -208,6 +229,28 @@ keeping now m t = record { kept = key_behind now m; before = now.key; from = m; 
 abbrev pub IsFresh : Context → List ℕ → Bool → Cursor → Type 0
 IsFresh x o allowed there = is_block x ≡ true → crosses o ≡ true → (allowed || crosses there.rest) ≡ true
 
+-- ## A key on one line is kept
+
+-- blanks alone come before y, which is at m, right of a column
+pub record IsBehindBlanks (column : ℕ) (there : Cursor) (m : Marker) (y : List ℕ) : Type 0 where
+  pub white : List ℕ
+  pub are : AreIn is_blank white
+  pub rest : there.rest ≡ white ++ y
+  pub mark : moved there.mark white ≡ m
+  pub right : column ≤ there.mark.col
+
+pub record HoldsKey (column : ℕ) (k : Candidate) (key : Option Candidate) (allowed : Bool) (there : Cursor) (m : Marker)
+    (y : List ℕ) : Type 0 where
+  pub is : key ≡ Some k
+  pub closed : allowed ≡ false
+  pub line : IsBehindBlanks column there m y
+
+-- After a piece of a key the key is still kept, and the next token is on the line.
+pub record Holds (around : Around) (x : Context) (key : Option Candidate) (allowed : Bool) (there : Cursor) (m : Marker)
+    (o : List ℕ) : Type 0 where
+  pub so : (k : Candidate) → around.held ≡ Some k → is_block x ≡ true
+      → HoldsKey around.indent k key allowed there (past around.indent m o).0 (past around.indent m o).1
+
 -- ## Runs over a piece
 
 -- what is known after a piece: of the key, whether one may begin, where a colon may come at once, and the new places
@@ -228,6 +271,7 @@ pub record PassesNoting (comment : Option Marker) (around : Around) (start : Boo
   pub right : around.indent ≤ m.col
   pub fits : past around.indent there.mark there.rest ≡ past around.indent m o
   pub fresh : IsFresh x o allowed there
+  pub holds : Holds around x key allowed there m o
   pub are : place_kinds new ≡ ts
   pub knows : known key allowed adjacent new
 
@@ -291,10 +335,13 @@ pub record NodePasses (around : Around) (now : FlowMoment) (node : Node) (m : Ma
       (after_node around.indent now.context (keeping now m t) (allows_adjacent node) (moved m t) o) now.context
       now.outer now.places (moved m t) o tokens
 
--- What comes after a node that ends at m, inside flow or at block level.
+-- What comes after a node that ends at m, inside flow, at block level, or where it is a key on one line.
 pub data Follows (around : Around) (x : Context) (node : Node) (m : Marker) (o : List ℕ) : Type 0 where
   follows_inside : is_block x ≡ false → IsBehindNode around.indent node o → Follows around x node m o
   follows_outside : x ≡ context.Block → IsBehindRoot around m o → Follows around x node m o
+  follows_key : (k : Candidate) → around.held ≡ Some k → x ≡ context.Block → (white r : List ℕ)
+      → o ≡ white ++ (colon ∷ r) → AreIn is_blank white → IsBeforeColon node white
+      → is_blank_or_breakz (slice_index r 0) ≡ true → Follows around x node m o
 
 -- at m no colon may come at once; at block level it may right there
 abbrev pub IsLow : Context → ℕ → Marker → Type 0
@@ -302,13 +349,14 @@ IsLow x adjacent m = (adjacent ≤ m.index) × ((is_block x ≡ true) ⊎ (adjac
 
 -- The tokens of a text t that is at m before o, wherever that is, and the run over it. At block level a comment may
 -- have ended it.
-pub record TextPasses (around : Around) (now : FlowMoment) (Is : List Kind → Type 0) (allows : List ℕ → Bool)
+pub record TextPasses (around : Around) (start : Bool → State) (now : FlowMoment) (Is : List Kind → Type 0)
+    (allows : List ℕ → Bool)
     (m : Marker) (t o : List ℕ) : Type 0 where
   pub tokens : List Kind
   pub are : Is tokens
   pub comment : Option Marker
-  pub none : is_block now.context ≡ false → comment ≡ None
-  pub passes : PassesNoting comment around (state_at around now)
+  pub none : (is_block now.context ≡ false) ⊎ ((k : Candidate) × (around.held ≡ Some k)) → comment ≡ None
+  pub passes : PassesNoting comment around start
       (after_node around.indent now.context (keeping now m t) allows (moved m t) o) now.context now.outer now.places
       (moved m t) o tokens
 
@@ -316,11 +364,12 @@ pub record TextPasses (around : Around) (now : FlowMoment) (Is : List Kind → T
 abbrev pub YieldsAnywhere : Node → List Kind → Type 0
 YieldsAnywhere node ts = (place : grammar.Context) → grammar.YieldsNode node place ts
 
--- a node is passed where it follows a moment
+-- a node is passed where its first token is about to be read
 abbrev pub ReadsText : Around → Node → Marker → List ℕ → List ℕ → FlowMoment → Type 0
 ReadsText around node m t o now =
-    FitsAround around m t o → Follows around now.context node (moved m t) o → IsLow now.context now.adjacent m
-    → StandsBefore around now m (t ++ o) → TextPasses around now (YieldsAnywhere node) (allows_adjacent node) m t o
+    Fits around now.context m t o → Follows around now.context node (moved m t) o → IsLow now.context now.adjacent m
+    → (start : Bool → State) → Ready around start now m (t ++ o)
+    → TextPasses around start now (YieldsAnywhere node) (allows_adjacent node) m t o
 
 -- a node inside flow, or a plain scalar that is a key, with its colon right after it
 abbrev pub IsNodeOrKey : ℕ → Node → ℕ → List ℕ → List ℕ → Type 0

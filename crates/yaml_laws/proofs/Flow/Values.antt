@@ -4,14 +4,14 @@ use Rattle.yaml_laws.proofs.Common.{Option, Some, None, ◌==◌, Marker, Cursor
 use Rattle.saphyr_scanner.specs.Grammar.Tokens as tokens
 use Rattle.saphyr_scanner.specs.Steps.Value as value
 use Rattle.saphyr_scanner.specs.Steps.Value.{value_alone, opening_actions, check_tab, refuse_lone_tab, value_of_key, behind_key}
-use Rattle.yaml_laws.proofs.InFlow.States.{Around, core_at, state_at, chains, moment, FlowMoment, moment_in, moment_with}
+use Rattle.yaml_laws.proofs.InFlow.States.{Around, core_at, state_at, chains, moment, FlowMoment, moment_in, moment_with, kept_inside}
 use Rattle.yaml_laws.proofs.Flow.States.{moved, past, IsParted, ends_colon, KeptKey, no_key, after_node, PassesPiece, FitsAround, after, StandsBefore}
 use Rattle.yaml_laws.proofs.Flow.Places.{right_one}
 use Rattle.yaml_laws.proofs.Flow.GapSteps.{past_content}
 use Rattle.yaml_laws.proofs.Flow.Fillers.{separation_past}
 use Rattle.yaml_laws.proofs.Flow.Tokens.{arrives, step_comes, within_index}
 use Rattle.yaml_laws.proofs.Flow.Joins.{step_passes}
-use Rattle.yaml_laws.proofs.InBlock.Crossings.{fresh_in_flow}
+use Rattle.yaml_laws.proofs.InBlock.Crossings.{fresh_in_flow, holds_in_flow}
 use Rattle.yaml_laws.proofs.Flow.Brackets.{mark_begins, mark_moved, one_on, IsTokenMark, token_mark}
 use Rattle.saphyr_scanner.specs.declared.queue.Opening.TheVariants as opening
 use Rattle.saphyr_scanner.specs.Steps.Fetch.{step, flow_value_steps}
@@ -140,7 +140,8 @@ colon_passes around y flows first e node w o parts fits parted ends same_line st
     separation_past around.indent e w (58 ∷ o) parts p.right
     ∙ past_content around.indent m 58 o colon_is_mark.content in
     let qs = ps ++ p.new in
-    let v = arrives around (after p) m (58 ∷ o) (p.fits ∙ lands) refl fits.right fits.calm in
+    let v = arrives around (after p) m (58 ∷ o) (p.fits ∙ lands) refl (mark_begins m 58 o colon_is_mark fits.clear)
+    flows fits.right in
     let k = key_at first ps in
     let same_key : v.key ≡ Some k = (v.same flows).0 ∙ n.keeps flows ∙ first_kept in
     let seen = cursor_at (58 ∷ o) m v.blank in
@@ -155,10 +156,11 @@ colon_passes around y flows first e node w o parts fits parted ends same_line st
     let below = fits.below in
     let op = opened_key (begins_pair y) in
     let new = pair_places op n.piece n.others (empty_piece m tokens.Value) in
-    let came = step_comes around (after p) m (58 ∷ o) v (mark_begins m 58 o colon_is_mark fits.clear) None
+    let came = step_comes around (state_at around (after p)) (after p) m (58 ∷ o) v None
     (moment t.there (behind_colon y) None ls false p.adjacent (ps ++ new)) (Open (length ps) op ∷ at_mark m tokens.Value
     ∷ []) (λ d. d) stepped (performs ps n.others p.new op n.piece (empty_piece m tokens.Value) n.is)
-    (within_index around.indent around.limit t.there (along m 1) o t.lands (omega (arith, below))) in
+    (within_index around.indent around.limit t.there (along m 1) o t.lands (omega (arith, below)))
+    (kept_inside (colon_flows y flows)) in
     record {
       there = t.there;
       key = came.key;
@@ -169,6 +171,7 @@ colon_passes around y flows first e node w o parts fits parted ends same_line st
       right = right_one around.indent m 58 refl fits.right;
       fits = t.lands ∙ ap (λ (q : Marker). past around.indent q o) (mark_moved m 58 colon_is_mark);
       fresh = fresh_in_flow (behind_colon y) o false t.there (colon_flows y flows);
+      holds = holds_in_flow (colon_flows y flows);
       are = pair_kinds (begins_pair y) n.piece n.others p.new m ts n.is p.are;
       knows = (came.same (colon_flows y flows), refl, one_on m 58 p.adjacent (rw lands at n.low));
     }
@@ -218,7 +221,7 @@ pub value_passes : (around : Around) (y : Context) → is_block y ≡ false → 
 value_passes around y flows m o fits parted now none ends before text =
     let v = arrives around (moment_in y now) m (58 ∷ o)
     (text ∙ past_content around.indent m 58 o colon_is_mark.content) refl
-    fits.right fits.calm in
+    (mark_begins m 58 o colon_is_mark fits.clear) flows fits.right in
     let seen = cursor_at (58 ∷ o) m v.blank in
     let t = tabbed around o (along m 1) (behind_colon y) None now.outer v.allowed now.adjacent (colon_flows y flows)
     parted (le_next around.indent m.col fits.right) in
@@ -231,11 +234,13 @@ value_passes around y flows m o fits parted now none ends before text =
     let below = fits.below in
     let new = alone_places (begins_pair y) m in
     let next = moment t.there (behind_colon y) None now.outer false now.adjacent now.places in
-    let came = step_comes around (moment_in y now) m (58 ∷ o) v (mark_begins m 58 o colon_is_mark fits.clear) None
+    let came = step_comes around (state_at around (moment_in y now)) (moment_in y now) m (58 ∷ o) v None
     (moment_with new next) (alone_actions (begins_pair y) m) (λ d. d) stepped (alone_puts (begins_pair y) now.places m)
-    (within_index around.indent around.limit t.there (along m 1) o t.lands (omega (arith, below))) in
+    (within_index around.indent around.limit t.there (along m 1) o t.lands (omega (arith, below)))
+    (kept_inside (colon_flows y flows)) in
     step_passes next new (moved m (58 ∷ [])) o (alone_kinds (begins_pair y)
     ++ tokens.Value ∷ []) (no_key (moved m (58 ∷ []))) came (right_one around.indent m 58 refl fits.right)
     (t.lands ∙ ap (λ (q : Marker). past around.indent q o) (mark_moved m 58 colon_is_mark))
-    (fresh_in_flow (behind_colon y) o false t.there (colon_flows y flows)) (alone_known (begins_pair y) m)
+    (fresh_in_flow (behind_colon y) o false t.there (colon_flows y flows)) (holds_in_flow (colon_flows y flows))
+    (alone_known (begins_pair y) m)
     (came.same (colon_flows y flows), refl, one_on m 58 now.adjacent before)

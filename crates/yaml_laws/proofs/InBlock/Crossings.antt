@@ -1,7 +1,8 @@
 -- Whether a break is ahead, before what is passed and after it.
 use Rattle.std.proofs.Common.{◌≡◌, ℕ, Bool, true, false, List, [], ◌∷◌, ◌++◌, slice_index, refl, ap, ◌∙◌, append_assoc, inl, inr}
-use Rattle.yaml_laws.proofs.Common.{◌||◌, if◌then◌else◌, is_blank, is_break, line_feed, is_blank_or_break, Marker, spaces, Cursor, along, next_line, ends_line, past_white, AreEach, joined_pieces, IsSeparation, IsSeparationLine, IsLineRest, Context, is_block, clash}
-use Rattle.yaml_laws.proofs.Flow.States.{crosses, IsFresh}
+use Rattle.yaml_laws.proofs.Common.{◌||◌, if◌then◌else◌, is_blank, is_break, line_feed, is_blank_or_break, Marker, spaces, Cursor, along, next_line, ends_line, past_white, AreEach, joined_pieces, IsSeparation, IsSeparationLine, IsLineRest, Candidate, Context, Option, is_block, clash}
+use Rattle.yaml_laws.proofs.Flow.States.{crosses, Holds, IsFresh}
+use Rattle.yaml_laws.proofs.InFlow.States.{Around}
 use Rattle.yaml_laws.proofs.Flow.Fillers.{EndsLine, behind_is}
 use Rattle.yaml_laws.proofs.InBlock.Skips.{blanks_cross, rest_crosses, last_crosses}
 
@@ -9,6 +10,10 @@ use Rattle.yaml_laws.proofs.InBlock.Skips.{blanks_cross, rest_crosses, last_cros
 pub fresh_in_flow : (x : Context) (o : List ℕ) (allowed : Bool) (there : Cursor) → is_block x ≡ false
     → IsFresh x o allowed there
 fresh_in_flow x o allowed there flow b e = absurd (clash (is_block x) b flow)
+
+pub holds_in_flow : {around : Around} {x : Context} {key : Option Candidate} {allowed : Bool} {there : Cursor}
+    {m : Marker} {o : List ℕ} → is_block x ≡ false → Holds around x key allowed there m o
+holds_in_flow {x = x} flow = record { so = λ k held block. absurd (clash (is_block x) block flow) }
 
 -- a break after separation is one after what comes before it
 pub separation_crosses : (indent : ℕ) (w o : List ℕ) → IsSeparation indent w → crosses o ≡ true

@@ -5,9 +5,9 @@ use Rattle.saphyr_scanner.specs.Steps.Passing.{goes_on_behind}
 use Rattle.yaml_laws.proofs.InFlow.States.{Around, moment, state_at, not_more, least_low, least}
 use Rattle.yaml_laws.proofs.Flow.States as flow
 use Rattle.yaml_laws.proofs.Flow.Places.{moved_append, moved_count, moved_along}
-use Rattle.yaml_laws.proofs.Flow.GapSteps.{past_content}
-use Rattle.yaml_laws.proofs.Flow.Fillers.{rest_past, blanks_past}
-use Rattle.yaml_laws.proofs.Flow.ContentStarts.{node_content, colon_content}
+use Rattle.yaml_laws.proofs.Flow.Fillers.{rest_past}
+use Rattle.yaml_laws.proofs.Flow.ContentStarts.{node_begins, node_content, colon_content}
+use Rattle.yaml_laws.proofs.Flow.Tokens.{text_ready}
 use Rattle.yaml_laws.proofs.Documents.Lines.{eol}
 use Rattle.yaml_laws.proofs.Flow.NodesPass.{nodes_close}
 use Rattle.yaml_laws.proofs.InBlock.States.{Frame, Moment, core_of, IsStop, IsLeftOf, At, Before, moment_at, state_of, tabbed, GoesOnAs, moved, past, crosses, EndsDocument, IsLeft, IsBehindRoot, Since, ReaderPromises}
@@ -19,7 +19,8 @@ use Rattle.yaml_laws.proofs.InBlock.Crossings.{content_crosses}
 use Rattle.yaml_laws.proofs.InBlock.Statements.{context_at, ReadsAt, ReadsKey}
 use Rattle.yaml_laws.proofs.InBlock.BehindIndicators.{further_content}
 use Rattle.yaml_laws.proofs.InBlock.Untabbed.{clean_past, settles}
-use Rattle.yaml_laws.proofs.InFlow.KeyLines.{IsNear, not_far, deeper_at, is_required}
+use Rattle.yaml_laws.proofs.InFlow.KeyLines.{deeper_at, is_required}
+use Rattle.yaml_laws.proofs.Flow.KeyPieces.{IsNear, blanks_lands, not_far}
 use Rattle.yaml_laws.proofs.InFlow.Keys.{key_read, blanks_are_on_line, both_on_line}
 use Rattle.yaml_laws.proofs.InBlock.Skips.{right_untabbed}
 use Rattle.yaml_laws.proofs.InBlock.Texts.{content_clean}
@@ -35,6 +36,7 @@ around_of limit f = record {
   outers = f.outers;
   pending = false;
   required = false;
+  held = None;
 }
 
 -- after a text on a key's line
@@ -49,13 +51,13 @@ reads_key reads limit node f m t o n far h line apart short white fits start ts 
     let k : Candidate = record { mark = m; place = length v.places } in
     let r = key_read reads around refl node m t n o h line apart short white far fits.clear fits.below v.deeper v.blank
     v.key v.adjacent v.places v.low in
-    let a = r.along in
+    let a = r.line in
     let moment : Moment = record {
-      cursor = a.there;
+      cursor = r.there;
       key = Some k;
       allowed = false;
-      adjacent = a.adjacent;
-      deeper = a.deeper;
+      adjacent = r.adjacent;
+      deeper = r.deeper;
       required = is_required around (deeper_at around v.deeper m) m;
       comment = None;
     } in
@@ -63,30 +65,29 @@ reads_key reads limit node f m t o n far h line apart short white fits start ts 
     subst (λ (b : Bool). GoesOnAs limit start (state_of f (moment_at m y v.blank v.key b v.adjacent v.deeper) v.places))
     allowed v.follows in
     let place : moved (moved m t) n.text ≡ moved m (t ++ n.text) = sym (moved_append m t n.text) in
-    let right = further f.indent m.col a.there.mark.col far a.right in
+    let right = further f.indent m.col r.there.mark.col far a.right in
     record {
       moment = moment;
       places = v.places;
-      key = a.piece;
-      others = a.others;
-      follows = goes_on before a.leads;
+      key = r.piece;
+      others = r.others;
+      follows = goes_on before r.leads;
       first = v.are;
       tokens = r.tokens;
-      are = a.are;
-      node_are = r.are;
+      are = r.are;
+      node_are = r.node_are;
       candidate = refl;
       quiet = refl;
-      lands = ap (past 0 a.there.mark) a.rest
-          ∙ (blanks_past 0 a.white a.are_white a.there.mark (none_left a.there.mark.col)).is (58 ∷ o)
-          ∙ past_content 0 (moved a.there.mark a.white) 58 o colon_content
+      lands = blanks_lands 0 r.there.mark r.there.rest a.white 58 o a.rest a.are colon_content
+          (none_left r.there.mark.col)
           ∙ ap (λ (p : Marker). (p, 58 ∷ o)) (a.mark ∙ place);
-      untabbed = ap (tabbed (least f.indent a.deeper) a.there.mark a.there.blank_so_far false) a.rest
-          ∙ right_untabbed (least f.indent a.deeper) f.indent (least_low f.indent a.deeper) a.white (58 ∷ o) a.are_white
-          (content_clean 58 o colon_content) a.there.mark a.there.blank_so_far right;
+      untabbed = ap (tabbed (least f.indent r.deeper) r.there.mark r.there.blank_so_far false) a.rest
+          ∙ right_untabbed (least f.indent r.deeper) f.indent (least_low f.indent r.deeper) a.white (58 ∷ o) a.are
+          (content_clean 58 o colon_content) r.there.mark r.there.blank_so_far right;
       near = not_far k (moved m (t ++ n.text))
           (line_near m (length v.places) (t ++ n.text) (both_on_line t n.text line (blanks_are_on_line n.text n.are))
           short);
-      low = subst (λ (p : Marker). a.adjacent ≤ p.index) place a.low;
+      low = subst (λ (p : Marker). r.adjacent ≤ p.index) place r.low;
     }
   where
     none_left : (n : ℕ) → 0 ≤ n
@@ -238,8 +239,9 @@ reads_flow reads limit short node place f same m t o (gap, text, end, gap_is, no
     ∙ clean_past f.indent (moved m t) o behind.clean in
     let root = behind_root limit f n end o end_is q lands_at (past_stops (moved m t) o) behind.left in
     let now = moment (cursor_at (text ++ rest) at v.blank) context.Block v.key [] v.allowed v.adjacent v.places in
-    let r = nodes_close reads around refl node at text rest is now refl refl inside (flow.follows_outside refl root)
-    (v.low, inl refl) refl in
+    let r = nodes_close reads around refl node at text rest is now refl refl (flow.fits_free (inr (refl, refl)) inside)
+    (flow.follows_outside refl root) (v.low, inl refl) (state_at around now)
+    (text_ready around now at text rest (node_begins f.indent most_open node false text is) refl refl inside refl) in
     let c = r.passes in
     let g = goes_behind v c c.knows.low q (lands_at c.right) (past_stops (moved m t) o)
     (λ d. quiet_left f (behind_piece c d) q.0 q.1 behind.left) in

@@ -3,8 +3,10 @@
 use Rattle.yaml_laws.proofs.Common.{IsTrue, List, [], ap, append_assoc, arith, false, inl, inr, length, refl, slice_index, subst, sym, true, ℕ, ◌++◌, ◌<◌, ◌^◌, ◌∙◌, ◌∷◌, ◌≡◌, ◌≤◌, None, Option, is_blank_or_breakz, line_feed, Marker, spaces, IsGap, IsLineRest, is_too_far, Candidate, Properties, State, Kind, IsProperties, indent_at, or_true_swap, cursor_at, length-append}
 use Rattle.saphyr_scanner.specs.Grammar.TokenGrammar as grammar
 use Rattle.saphyr_scanner.specs.declared.engine.level.Context.TheVariants as context
-use Rattle.yaml_laws.proofs.InFlow.States.{moment}
-use Rattle.yaml_laws.proofs.Flow.ContentStarts.{StartsContent, properties_content, behind_low}
+use Rattle.yaml_laws.proofs.InFlow.States.{moment, state_at}
+use Rattle.yaml_laws.proofs.Flow.ContentStarts.{StartsContent, properties_begin, properties_content, behind_low}
+use Rattle.yaml_laws.proofs.Flow.Tokens.{text_ready}
+use Rattle.yaml_laws.proofs.Flow.States.{fits_free}
 use Rattle.yaml_laws.proofs.Flow.GapSteps.{past_content}
 use Rattle.yaml_laws.proofs.Flow.Fillers.{separation_past}
 use Rattle.yaml_laws.proofs.Flow.Ends.{white_ends_tag}
@@ -74,9 +76,11 @@ properties_passed reads {limit} short f p t h m o low white fits lands v late =
     let n = moved m t in
     let q = past 0 n o in
     let inside : FitsAround around m t o =
-    record { clear = fits.clear; below = fits.below; right = low; calm = refl } in
+    record { clear = fits.clear; below = fits.below; right = low } in
     let now = moment (cursor_at (t ++ o) m v.blank) context.Block v.key [] v.allowed v.adjacent v.places in
-    let r = properties_read reads around p.anchor p.tag m t o h now (white_ends_tag false o white) inside refl in
+    let r = properties_read reads around p.anchor p.tag m t o h now (white_ends_tag false o white)
+    (fits_free (inr (refl, refl)) inside) (state_at around now)
+    (text_ready around now m t o (properties_begin p f.indent t h) refl refl inside refl) in
     let c = r.passes in
     let g = goes_behind v c (rw c.knows.still
     (behind_low f.indent v.adjacent m t o v.low)) q (lands c.right) (past_stops n o) (λ d. inl refl) in

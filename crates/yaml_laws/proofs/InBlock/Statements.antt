@@ -6,7 +6,7 @@ use Rattle.yaml_laws.proofs.Flow.ContentStarts.{StartsContent}
 use Rattle.yaml_laws.proofs.InBlock.Lines.{FitsOnLines}
 use Rattle.yaml_laws.proofs.InBlock.States.{Frame, Moment, core_of, state_of, IsUntabbed, EndsDocument, IsLeftOf, GoesOnAs, At, Before, moved, past}
 use Rattle.yaml_laws.proofs.InBlock.Skips.{IsClean}
-use Rattle.yaml_laws.proofs.InFlow.KeyScalars.{Blanks}
+use Rattle.yaml_laws.proofs.InFlow.KeyLines.{Blanks}
 use Rattle.yaml_laws.proofs.Flow.NoDashes.{NoDash}
 
 -- in which part of the token grammar a node at a place is

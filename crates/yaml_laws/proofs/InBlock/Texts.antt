@@ -1,5 +1,5 @@
 -- The texts of nodes at block level: where they end, and the columns and tokens after what is skipped.
-use Rattle.yaml_laws.proofs.Common.{List, [], ap, append-nil, arith, inl, inr, length, refl, suc, zero, ℕ, ◌++◌, ◌+◌, ◌<◌, ◌∙◌, ◌∷◌, ◌≡◌, ◌≤◌, ◌⊎◌, not, ◌==◌, line_feed, Marker, spaces, along, AreIn, IsEol, Alias, Map, MoreNodes, MorePairs, NoNode, NoPair, Node, Nodes, Pairs, Scalar, Seq, most_open, Position, indent_at, IsLeftOut, IsFlowInBlock, IsBlockPair, IsEntryIndentation, IsBlockNode, AreEntries, AreOtherEntries, ArePairs, AreOtherPairs}
+use Rattle.yaml_laws.proofs.Common.{List, [], ap, append-nil, arith, inl, inr, length, refl, suc, zero, ℕ, ◌++◌, ◌<◌, ◌∙◌, ◌∷◌, ◌≡◌, ◌≤◌, ◌⊎◌, not, ◌==◌, line_feed, Marker, spaces, along, AreIn, IsEol, Alias, Map, MoreNodes, MorePairs, NoNode, NoPair, Node, Nodes, Pairs, Scalar, Seq, most_open, Position, indent_at, IsLeftOut, IsFlowInBlock, IsBlockPair, IsEntryIndentation, IsBlockNode, AreEntries, AreOtherEntries, ArePairs, AreOtherPairs}
 use Rattle.yaml_laws.proofs.Flow.States.{IsContentStart, moved, past}
 use Rattle.yaml_laws.proofs.Flow.Places.{moved_append, moved_along}
 use Rattle.yaml_laws.proofs.Documents.Lines.{filler_line}

@@ -1,5 +1,5 @@
 -- Parts of one line, and plain scalars at an indentation that is further left.
-use Rattle.yaml_laws.proofs.Common.{Bool, List, [], ap, append_assoc, arith, false, inl, inr, refl, subst, sym, true, ℕ, ◌++◌, ◌∙◌, ◌∷◌, ◌≡◌, ◌≢◌, ◌≤◌, not, ◌==◌, is_blank, line_feed, spaces, AreIn, AreEach, AreMany, IsGap, IsLinePrefix, IsSeparation, IsSeparationLine, joined_pieces, back_in, front_in, IsEmptyLine, IsFurtherWord, IsLoneDash, IsPlain, IsPlainKey, IsWordGap, IsOnLine}
+use Rattle.yaml_laws.proofs.Common.{Bool, List, [], ap, append_assoc, arith, false, inl, inr, refl, subst, sym, true, ℕ, ◌++◌, ◌∙◌, ◌∷◌, ◌≡◌, ◌≤◌, not, ◌==◌, is_blank, line_feed, spaces, AreIn, AreEach, AreMany, IsLinePrefix, IsSeparation, IsSeparationLine, joined_pieces, back_in, front_in, IsEmptyLine, IsFurtherWord, IsLoneDash, IsPlain, IsPlainKey, IsWordGap, IsOnLine}
 
 -- ## Parts of a line
 
@@ -27,13 +27,6 @@ blanks_on_line indent w (lines, blanks, (pieces, each, lines_are), are, e) h = b
 
 pub separation_of_blanks : (indent : ℕ) (w : List ℕ) → AreIn is_blank w → IsSeparation indent w
 separation_of_blanks indent w h = ([], w, ([], tt, refl), h, refl)
-
--- a gap on one line is of blanks
-pub gap_of_blanks : (indent : ℕ) (w : List ℕ) → IsGap indent w → IsOnLine w → (w ≢ []) × AreIn is_blank w
-gap_of_blanks indent w (inl h) line = h
-gap_of_blanks indent w (inr (end, filler, front, (rest, rest_is, end_is), filler_is, prefix, e)) line =
-    absurd (let f : false ≡ true = (back_on_line rest (10 ∷ (filler ++ front)) w
-    (cc (append_assoc rest (10 ∷ []) (filler ++ front))) line).0 in cc)
 
 -- ## Plain scalars further left
 

@@ -1,17 +1,17 @@
 -- States of a scanner that reads a node in flow style, whatever block collections are open around it.
-use Rattle.yaml_laws.proofs.Common.{Bool, List, Ok, [], ap, arith, cond, false, length, refl, true, ℕ, ◌++◌, ◌<◌, ◌∙◌, ◌∷◌, ◌≡◌, ◌≤◌, ◌⊎◌, None, Option, Some, if◌then◌else◌, nat_lt, not, ◌&&◌, ◌-◌, ◌||◌, SkipTabs, Yes, Marker, Cursor, along, separation, ◌>>=◌, Context, Kind, Place, Candidate, Level, is_block, State, on_core, most_open, LeadsTo, leads_on, onward, stay, cursor_at, le-leb, level_of, saved, queue_of}
+use Rattle.yaml_laws.proofs.Common.{Bool, List, Ok, [], ap, arith, cond, false, length, slice_index, refl, true, ℕ, ◌++◌, ◌<◌, ◌∙◌, ◌∷◌, ◌≡◌, ◌≤◌, ◌⊎◌, None, Option, Some, if◌then◌else◌, nat_lt, not, ◌&&◌, ◌-◌, ◌||◌, SkipTabs, Yes, Marker, Cursor, along, separation, ◌>>=◌, Context, Kind, Place, Candidate, Level, is_block, State, after_step, on_core, most_open, LeadsTo, leads_on, onward, stay, cursor_at, le-leb, level_of, saved, queue_of}
 use Rattle.saphyr_scanner.specs.Steps.Core.{Core, is_too_far, drop_far_key, save_key, from_to, completed_step}
 use Rattle.saphyr_scanner.specs.Steps.Flow as flow
 use Rattle.saphyr_scanner.specs.Steps.Flow.{open_collection, close_collection, behind_pair}
 use Rattle.saphyr_scanner.specs.Steps.Unrolling.{end_blocks, unroll}
-use Rattle.saphyr_scanner.specs.Steps.Fetch.{fetch, check_limit, fetch_within}
+use Rattle.saphyr_scanner.specs.Steps.Fetch.{fetch, step, check_limit, fetch_within}
 
 -- ## What stays as it is
 
 -- How long the text may be, which block collections are open around the nodes that are read, and whether a key is
 -- required at block level, and inside the nodes. `column` is the first column to the right of the innermost collection,
 -- and 0 where there is none; `indent` is the indentation of the nodes, which is further right where they are in a key
--- that begins a block mapping.
+-- that begins a block mapping. `held` is the key on one line that is read, where a key is.
 pub record Around : Type 0 where
   pub limit : ℕ
   pub column : ℕ
@@ -20,6 +20,7 @@ pub record Around : Type 0 where
   pub outers : List ℕ
   pub pending : Bool
   pub required : Bool
+  pub held : Option Candidate
 
 pub not_more : (n : ℕ) → n ≤ n
 not_more n = omega arith
@@ -34,6 +35,7 @@ alone limit = record {
   outers = [];
   pending = false;
   required = false;
+  held = None;
 }
 
 -- ## States
@@ -138,12 +140,23 @@ chains f g = grind (arith, leads_on)
 abbrev pub key_left : Context → Option Candidate → Marker → Option Candidate
 key_left x k m = if is_block x && is_too_far k m then None else k
 
+-- What is known where a key might be dropped: outside flow none is required, or it is near.
+pub data Kept (around : Around) (x : Context) (k : Option Candidate) (m : Marker) : Type 0 where
+  unrequired : around.pending ≡ false → Kept around x k m
+  kept_inside : is_block x ≡ false → Kept around x k m
+  kept_near : is_too_far k m ≡ false → Kept around x k m
+
 pub drops_far_key : (around : Around) (comment : Option Marker) (d : Bool) (s : Cursor) (x : Context)
-    (k : Option Candidate) (ls : List Level) (a : Bool) (ad : ℕ) → around.pending ≡ false
+    (k : Option Candidate) (ls : List Level) (a : Bool) (ad : ℕ) → Kept around x k s.mark
     → drop_far_key (noted_core comment (core_at around d s x k ls a ad))
     ≡ Ok (noted_core comment (core_at around d s x (key_left x k s.mark) ls a ad))
 unfolding drop_far_key
-drops_far_key around comment d s x k ls a ad calm = grind arith
+drops_far_key around comment d s x k ls a ad (unrequired calm) = grind arith
+drops_far_key around comment d s x k ls a ad (kept_inside flow) = grind arith
+drops_far_key around comment d s x k ls a ad (kept_near near) = grind arith
+
+pub left_near : (x : Context) (k : Option Candidate) (m : Marker) → is_too_far k m ≡ false → key_left x k m ≡ k
+left_near x k m near = grind arith
 
 pub left_or_none : (x : Context) (k : Option Candidate) (m : Marker) → (key_left x k m ≡ None) ⊎ (key_left x k m ≡ k)
 left_or_none x k m = grind (arith)
@@ -177,6 +190,7 @@ pub record ComesAround (around : Around) (start : Bool → State) (comment : Opt
     pub leads : RunsTo around (λ d. noted comment (state_at around (record next { key = key }) d)) start
     pub same : is_block next.context ≡ false → key ≡ next.key
     pub kept : (key ≡ None) ⊎ (key ≡ next.key)
+    pub stays : is_too_far next.key next.cursor.mark ≡ false → key ≡ next.key
 
 -- Where a step gives this, it leads there. Behind the step the limit is tested, and a key outside flow is dropped if
 -- it is too far away. So the key is the step's or none: which of them isn't told, since nothing that is read depends
@@ -184,14 +198,16 @@ pub record ComesAround (around : Around) (start : Bool → State) (comment : Opt
 pub comes : (around : Around) (start : Bool → State) (comment : Option Marker) (next : FlowMoment) (to : Bool → Bool)
     → ((d : Bool) → (start d).core.ended ≡ false)
     → ((d : Bool) → fetch (start d) ≡ Ok (noted comment (state_at around next (to d))))
-    → next.cursor.mark.index ≤ around.limit → around.pending ≡ false → ComesAround around start comment next
+    → next.cursor.mark.index ≤ around.limit → Kept around next.context next.key next.cursor.mark
+    → ComesAround around start comment next
 unfolding fetch_within
-comes around start comment next to going is low calm =
+comes around start comment next to going is low kept =
     record {
       key = key_left next.context next.key next.cursor.mark;
       leads = record { run = λ d. one d };
       same = left_in_flow next.context next.key next.cursor.mark;
       kept = left_or_none next.context next.key next.cursor.mark;
+      stays = left_near next.context next.key next.cursor.mark;
     }
   where
     there : Bool → State
@@ -206,7 +222,7 @@ comes around start comment next to going is low calm =
           leads = onward (start d) st (there (to d)) (going d)
               (ap (λ r. r >>= check_limit around.limit) (is d) ∙ fits) (ap (λ r. on_core r (queue_of next.places))
               (drops_far_key around comment (to d) next.cursor next.context next.key next.outer next.allowed
-              next.adjacent calm)) stay;
+              next.adjacent kept)) stay;
         }
 
 -- ## Keys and brackets
@@ -231,6 +247,23 @@ saves_key n around d s x k ls a ad h = grind arith
 pub plain_placed : (around : Around) (x : Context) (a : Bool) (m : Marker) → Placed around x a m
     → (not (is_block x) && nat_lt m.col around.column) ≡ false
 plain_placed around x a m h = grind arith
+
+-- The token that y begins with is about to be read at m, for a moment: which key is kept, and whether one may begin.
+pub record Ready (around : Around) (start : Bool → State) (now : FlowMoment) (m : Marker) (y : List ℕ) : Type 0 where
+  pub blank : Bool
+  pub key : Option Candidate
+  pub allowed : Bool
+  pub to : Bool → Bool
+  pub running : (d : Bool) → (start d).core.ended ≡ false
+  pub fetches : (d : Bool) → fetch (start d)
+      ≡ after_step (step (slice_index y 0) (slice_index y 1) (length now.places)
+      (core_at around (to d) (cursor_at y m blank) now.context key now.outer allowed now.adjacent))
+      (queue_of now.places)
+  pub placed : Placed around now.context allowed m
+  pub same : is_block now.context ≡ false → (key ≡ now.key) × (allowed ≡ now.allowed)
+  pub kept : (key ≡ None) ⊎ (key ≡ now.key)
+  pub holds : (k : Candidate) → around.held ≡ Some k → is_block now.context ≡ true
+      → (key ≡ Some k) × (allowed ≡ false)
 
 pub opening_steps_open : (y : Context) (kind : Kind) (n : ℕ) (around : Around) (d : Bool) (s : Cursor) (x : Context)
     (k : Option Candidate) (ls : List Level) (a : Bool) (ad : ℕ) → Placed around x a s.mark

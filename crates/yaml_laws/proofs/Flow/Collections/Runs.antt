@@ -1,10 +1,12 @@
 -- Collections in brackets and braces after their properties, and given how their entries are read.
-use Rattle.yaml_laws.proofs.Common.{◌≡◌, ℕ, suc, ◌+◌, ◌≤◌, Bool, false, List, [], ◌∷◌, ◌++◌, length, arith, append_assoc, IsTrue, list_all, is_blank, Marker, Context, Kind, is_block, Properties, Node, Seq, Map, Nodes, Pairs, most_open, allows_adjacent, IsOpening, IsFlowNode, AreItems, AreFlowPairs, level_of, clash}
+use Rattle.yaml_laws.proofs.Common.{◌≡◌, ℕ, suc, ◌+◌, ◌≤◌, Bool, false, List, [], ◌∷◌, ◌++◌, length, refl, arith, append_assoc, IsTrue, list_all, is_blank, Marker, Context, Kind, is_block, Properties, Node, Seq, Map, Nodes, Pairs, most_open, allows_adjacent, IsOpening, IsFlowNode, AreItems, AreFlowPairs, level_of, clash}
 use Rattle.saphyr_scanner.specs.Grammar.TokenGrammar as grammar
 use Rattle.yaml_laws.proofs.InFlow.States.{Around, Calm, FlowMoment}
-use Rattle.yaml_laws.proofs.Flow.States.{moved, ReaderPromises, Follows, follows_inside, follows_outside, ReadsText}
-use Rattle.yaml_laws.proofs.Flow.Pieces.{fits_front, fits_back, fits_so, parted_by, behind_so}
-use Rattle.yaml_laws.proofs.Flow.Collections.{EndsAt, Brackets, AreBrackets, square, curly, are_square, are_curly, bracket_text, RunsInside, brackets_pass, ends_inside, ends_root, AreBracketed}
+use Rattle.yaml_laws.proofs.Flow.States.{moved, ReaderPromises, Follows, follows_inside, follows_outside, follows_key, ReadsText}
+use Rattle.yaml_laws.proofs.Flow.KeyPieces.{cut_back, fits_around}
+use Rattle.yaml_laws.proofs.Flow.ContentStarts.{starts}
+use Rattle.yaml_laws.proofs.Flow.Pieces.{parted_by, behind_so}
+use Rattle.yaml_laws.proofs.Flow.Collections.{EndsAt, Brackets, AreBrackets, square, curly, are_square, are_curly, bracket_text, RunsInside, brackets_pass, ends_inside, ends_key, ends_root, AreBracketed}
 use Rattle.yaml_laws.proofs.Flow.Items.{ReadsEntries}
 use Rattle.yaml_laws.proofs.Flow.Joins.{mapped}
 use Rattle.yaml_laws.proofs.Flow.Fronts.{behind_front}
@@ -58,30 +60,33 @@ follows_bracket {around} {x} {node} {m} {o} (follows_inside flow behind) e right
     ends_inside around.indent x e o flow (behind_so (λ w c cs k. (ends_node_content node w cs c k).0) behind) right
 follows_bracket {around} {x} {node} {m} {o} (follows_outside is behind) e right =
     rw is (ends_root around e m o behind right)
+follows_bracket {around} {x} {node} {m} {o} (follows_key k held block w r is are before white) e right =
+    rw block (ends_key around.indent e o w r is are right)
 
 pub collection_passes : {around : Around} {node : Node} {p : Properties} {b : Brackets} {Text : ℕ → List ℕ → Type 0}
     {Are : List Kind → Type 0} → ReaderPromises → ReadsCollection around node p b Text Are → (room : ℕ) (m : Marker)
     (t o : List ℕ) (now : FlowMoment) → IsBracketText b Text p room around.indent t
     → room + length now.outer ≤ most_open → Calm around now.context → ReadsText around node m t o now
 collection_passes {around} {node} {p} {b} {Are = Are} reads collection room m t o now
-    (left, opening, inside, r, (front, w, before, parts, e), h, is) small calm fits follows low text =
+    (left, opening, inside, r, (front, w, before, parts, e), h, is) small calm fits follows low start ready =
     let text_is = whole_text t opening front w inside b.opening b.closing is e in
     let body = bracket_text b w inside in
     let entries = collection.entries left in
     let c = behind_front reads around p (AreBracketed b Are) (list_all is_blank) m front body o before
-    (fits_so m t (front ++ body) o text_is fits) now (cc)
-    (λ n place later inner next same_context same_outer same_adjacent at.
+    (starts b.opening (w ++ (inside ++ (b.closing ∷ []))) body refl collection.are.start) now (rw text_is at fits) start
+    (rw text_is at ready) (λ n place later next same_context same_outer same_adjacent fits_next from at.
     let here = moved n (b.opening ∷ w) in
     let next_calm : Calm around next.context = rw same_context calm in
     let next_small : room + length next.outer ≤ most_open = rw same_outer small in
     let run : RunsInside around Are b next.context next.outer here inside o =
     λ j start no_candidate fresh on right stands. entries.passes here inside o h
-    (fits_front here inside (b.closing ∷ []) o (fits_back n (b.opening ∷ w) (inside ++ (b.closing ∷ [])) o right inner))
+    (fits_around here inside (b.closing ∷ []) o right
+    (cut_back n (b.opening ∷ w) (inside ++ (b.closing ∷ [])) o right fits_next))
     (record start { outer = level_of next.context j ∷ next.outer }) no_candidate fresh (omega (arith, r, next_small)) on
     stands in
-    brackets_pass around Are b collection.are n w inside o inner parts
-    (parted_by around.indent w (inside ++ (b.closing ∷ o)) parts (entries.content inside o h)) next
-    (omega (arith, r, next_small)) next_calm (omega (arith, same_adjacent, later, low.0)) at
+    brackets_pass around Are b collection.are n w inside o next fits_next (entries.content inside [] h) parts
+    (parted_by around.indent w (inside ++ (b.closing ∷ o)) parts (entries.content inside o h))
+    (omega (arith, r, next_small)) next_calm (omega (arith, same_adjacent, later, low.0)) from at
     (λ right. rw same_context (follows_bracket follows (moved here inside) right)) run) in
     rw text_is (mapped (λ ts (properties, content, are, (entries, inner, k), is) place. rw (is, k)
     (collection.yields place properties entries are inner)) collection.adjacent c)
