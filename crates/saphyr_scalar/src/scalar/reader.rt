@@ -149,7 +149,8 @@ impl<T: Input> Reader<T> {
             × (slice_index (cursor_of self.old).rest 1 < 128) }
         ensures { cursor_of self.new ≡ spec.pass 2 (cursor_of self.old) }
     {
-        self.input.skip_two_ascii();
+        self.input.skip_ascii();
+        self.input.skip_ascii();
         self.mark = self.mark.along(2);
         self.blank_so_far = false;
     }
