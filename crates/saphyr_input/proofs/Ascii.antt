@@ -1,5 +1,5 @@
 -- A text whose first bytes are ASCII begins with these bytes as characters.
-use Rattle.std.proofs.Common.{◌≡◌, ℕ, ◌+◌, ◌<◌, ◌≤◌, Bool, true, false, List, [], ◌∷◌, ◌++◌, length, take, drop, get_or, IsUtf8, refl, sym, ap, ◌∙◌, subst, arith, add-one, inl, inr, ◌&&◌, ◌==◌, encode_utf8, encode_utf8_all, zero, suc, lit<, add-zero, rules, length-append, length-drop}
+use Rattle.std.proofs.Common.{◌≡◌, ℕ, ◌+◌, ◌<◌, ◌≤◌, Bool, true, false, List, [], ◌∷◌, ◌++◌, length, take, drop, get_or, IsUtf8, refl, sym, ap, ◌∙◌, subst, arith, add-one, inl, inr, ◌&&◌, ◌==◌, encode_utf8, encode_utf8_all, zero, suc, lit<, add-zero, rules, length-append}
 use Rattle.std.specs.List.{prefix_len}
 use Rattle.std.specs.Str.{chars, IsAscii, IsCharBoundary}
 use Rattle.std.proofs.lemmas.Bool.{cases_lt, eqb-true}
@@ -232,7 +232,7 @@ same_marker mark bs u l some =
     (λ t. test_at p bs 2 mark u a l some (two_marks bs mark t)))
     (λ t. test_at is_blank_or_breakz bs 3 mark u b l some (three_marks bs mark t))
 
--- two ASCII characters come first
+-- an ASCII character comes first
 
 small_byte : (b c : ℕ) → StandsFor b c → c < 128 → b < 128
 small_byte b c (inl e) l = rw e l
@@ -248,17 +248,6 @@ first_one bs a (suc k) l = absurd (omega arith)
 
 pub past_one : (bs : List ℕ) → IsUtf8 bs → 0 < length (chars bs) → get_or (chars bs) 0 0 < 128 → PastAscii bs 1
 past_one bs u l a = past_ascii bs 1 u (bytes_left bs l) (first_one bs (small_byte _ _ (first_stands bs u) a))
-
-pub past_two : (bs : List ℕ) → IsUtf8 bs → 2 ≤ length (chars bs) → get_or (chars bs) 0 0 < 128
-    → get_or (chars bs) 1 0 < 128 → PastAscii bs 2
-past_two bs u l a b =
-    let first = small_byte _ _ (first_stands bs u) a in
-    let s = past_ascii bs 1 u (bytes_left bs (omega (arith, l))) (first_one bs first) in
-    let c : get_or (chars (drop 1 bs)) 0 0 < 128 = rw (s.rest, at_drop (chars bs) 1) b in
-    let second : get_or bs 1 0 < 128 = rw (← at_drop bs 1)
-    (small_byte (get_or (drop 1 bs) 0 0) _ (first_stands (drop 1 bs) s.utf8) c) in
-    let more : 0 < length (chars (drop 1 bs)) = rw (s.rest, length-drop) (omega (arith, l)) in
-    past_ascii bs 2 u (omega (arith, length-drop 1 bs, bytes_left (drop 1 bs) more)) (first_two bs first second)
 
 prefix_same : (p q : ℕ → Bool) (xs : List ℕ) → ((c : ℕ) → p c ≡ q c) → prefix_len p xs ≡ prefix_len q xs
 prefix_same p q [] h = refl

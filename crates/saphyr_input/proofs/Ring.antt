@@ -1,7 +1,7 @@
 -- What a ring holds of a text, and what the iterator after it still gives.
 use Rattle.std.specs.Prelude.{Option, slice_get, unwrap_or}
 use Rattle.circular_buffer.specs.Buffer.{Buffer, buffer, keep_last}
-use Rattle.std.proofs.Common.{◌≡◌, ℕ, zero, suc, ◌+◌, ◌-◌, ◌<◌, ◌≤◌, List, [], ◌∷◌, ◌++◌, length, drop, slice_index, refl, sym, ap, ◌∙◌, arith, append_assoc}
+use Rattle.std.proofs.Common.{◌≡◌, ℕ, zero, suc, ◌+◌, ◌-◌, ◌<◌, ◌≤◌, List, [], ◌∷◌, ◌++◌, length, drop, slice_index, refl, sym, ap, ◌∙◌, arith}
 use Rattle.std.proofs.lemmas.List.{length-append}
 
 -- with no loaded place it holds nothing
@@ -32,17 +32,6 @@ pushed before after c put room =
     let none : length (before.items ++ (c ∷ [])) - before.capacity ≡ 0 =
     omega (arith, length-append before.items (c ∷ []), room) in
     ap (λ (b : Buffer ℕ). b.items) put ∙ ap (λ (n : ℕ). drop n (before.items ++ (c ∷ []))) none
-
--- the first of the items that a copy lacks
-pub pushed_on : (before after : Buffer ℕ) (c : ℕ) (lacks left all : List ℕ)
-    → after ≡ buffer (keep_last before.capacity (before.items ++ (c ∷ []))) before.capacity
-    → before.items ++ lacks ≡ all → lacks ≡ c ∷ left → length all ≤ before.capacity → after.items ++ left ≡ all
-pushed_on before after c lacks left all put whole is within =
-    let now : before.items ++ (c ∷ left) ≡ all = ap (λ (xs : List ℕ). before.items ++ xs) (sym is) ∙ whole in
-    let long : length (before.items ++ (c ∷ left)) ≡ length all = ap length now in
-    ap (λ (xs : List ℕ). xs ++ left)
-    (pushed before after c put (omega (arith, length-append before.items (c ∷ left), long, within)))
-    ∙ append_assoc before.items (c ∷ []) left ∙ now
 
 -- a character that is put back where no place is loaded
 

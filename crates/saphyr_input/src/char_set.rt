@@ -16,7 +16,10 @@ pub trait CharSet {
 
     /// Whether the byte is an ASCII character of the set.
     fn has_ascii(byte: u8) -> bool
-        ensures { result ≡ spec.ascii_in test byte };
+        ensures { result ≡ spec.ascii_in test byte }
+    {
+        Self::has(byte as char) && byte < 0x80
+    }
 
     /// Whether each character whose UTF-8 begins with the byte is in the set, as far as that is known. The
     /// byte is not ASCII.
@@ -75,11 +78,6 @@ impl CharSet for Blank {
     fn has(c: char) -> bool {
         is_blank(c)
     }
-
-    #[inline]
-    fn has_ascii(byte: u8) -> bool {
-        is_blank(byte as char)
-    }
 }
 
 /// Digits, ASCII letters, `_` and `-`.
@@ -93,12 +91,6 @@ impl CharSet for Alpha {
     #[inline]
     fn has(c: char) -> bool {
         is_alpha(c)
-    }
-
-    #[inline]
-    fn has_ascii(byte: u8) -> bool {
-        // For speed: most are small letters.
-        matches!(byte, b'a'..=b'z') || is_alpha(byte as char)
     }
 }
 

@@ -62,7 +62,7 @@ pub fn is_alpha(c: char) -> bool
     ensures test { result ≡ spec.is_alpha c }
     ensures set { IsTrue result ↔ spec.IsAlpha c }
 {
-    matches!(c, '0'..='9' | 'a'..='z' | 'A'..='Z' | '_' | '-')
+    matches!(c, 'a'..='z' | '0'..='9' | 'A'..='Z' | '_' | '-')
 }
 
 /// Whether the character is a hexadecimal digit, of either case (YAML 1.2.2, 5.6).

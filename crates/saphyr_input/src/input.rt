@@ -115,18 +115,6 @@ pub trait Input {
         self.skip();
     }
 
-    /// Takes two characters off, both of them ASCII.
-    fn skip_two_ascii(&mut self)
-        requires loaded { 2 ≤ loaded self.old }
-        requires some { 2 ≤ length (rest self.old) }
-        requires ascii { (slice_index (rest self.old) 0 < 128)
-            × (slice_index (rest self.old) 1 < 128) }
-        ensures rest { rest self.new ≡ drop 2 (rest self.old) }
-        ensures loaded { loaded self.old ≤ loaded self.new + 2 }
-    {
-        self.skip_n(2);
-    }
-
     /// Loads one place, and returns what [`peek`](Input::peek) returns.
     fn look_ch(&mut self) -> char
         ensures value { result ≡ slice_index (rest self.old) 0 }
@@ -172,6 +160,7 @@ pub trait Input {
 
     /// Whether `---` or `...` comes next, and after it a blank, a break, NUL or the end. The
     /// caller has to know whether this is the start of a line.
+    #[inline]
     fn next_is_document_indicator(&self) -> bool
         requires { 4 ≤ loaded self.now }
         ensures { result ≡ spec.is_document_indicator (rest self.now) }
@@ -266,6 +255,7 @@ pub trait Input {
     }
 
     /// Whether the first character is a blank.
+    #[inline]
     fn next_is_blank(&self) -> bool
         requires { 1 ≤ loaded self.now }
         ensures { result ≡ class.is_blank (slice_index (rest self.now) 0) }

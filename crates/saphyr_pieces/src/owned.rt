@@ -145,18 +145,6 @@ impl Input for OwnedText {
         self.start = start_of(&self.text, self.start, rest.as_str());
     }
 
-    #[inline(always)]
-    fn skip_two_ascii(&mut self) {
-        let mut rest = self.rest();
-        rest.skip_two_ascii();
-        self.start = start_of(&self.text, self.start, rest.as_str());
-    }
-
-    #[inline]
-    fn next_is_document_indicator(&self) -> bool {
-        self.rest().next_is_document_indicator()
-    }
-
     #[inline]
     fn next_is_document_start(&self) -> bool {
         self.rest().next_is_document_start()
@@ -174,11 +162,6 @@ impl Input for OwnedText {
         let skipped = rest.skip_ws_to_eol(skip_tabs);
         self.start = start_of(&self.text, self.start, rest.as_str());
         skipped
-    }
-
-    #[inline]
-    fn next_is_blank(&self) -> bool {
-        self.rest().next_is_blank()
     }
 
     fn skip_while<C: CharSet>(&mut self) -> usize {

@@ -18,23 +18,15 @@ mod came;
 
 pub use came::steps_by_what_came;
 use saphyr_scalar::scalar::{
-    begins_plain_scalars_with_non_space, counts_each_block_scalar, indents_plain_lines,
-    places_each_block_scalar, reads_block_texts, reads_plain_values, refuses_inside,
-    spells_each_anchor, spells_each_directive, spells_each_quoted, spells_each_tag,
-    spells_quoted_lines, takes_anchor, takes_block_scalar, takes_directive, takes_plain,
-    takes_quoted, takes_tag,
+    reads_block_texts, reads_plain_values, refuses_inside, spells_each_directive,
+    spells_each_property, spells_each_quoted, takes_characters,
 };
 
 /// Each reader of a token takes characters off the text, so scanning ends. Like all laws it does nothing when it runs.
 pub fn takes_characters_off()
     ensures { Readers }
 {
-    takes_plain();
-    takes_quoted();
-    takes_block_scalar();
-    takes_anchor();
-    takes_tag();
-    takes_directive();
+    takes_characters();
 }
 
 /// The spans of a text's tokens come one after the other, within the text.
@@ -43,9 +35,8 @@ pub fn orders_spans()
 {
     reads_plain_values();
     spells_each_quoted();
-    counts_each_block_scalar();
-    spells_each_anchor();
-    spells_each_tag();
+    reads_block_texts();
+    spells_each_property();
     spells_each_directive();
 }
 
@@ -63,9 +54,8 @@ pub fn bounds_tokens()
 {
     reads_plain_values();
     spells_each_quoted();
-    counts_each_block_scalar();
-    spells_each_anchor();
-    spells_each_tag();
+    reads_block_texts();
+    spells_each_property();
     spells_each_directive();
     takes_characters_off();
 }
@@ -81,29 +71,22 @@ pub fn passes_separation()
 
 /// The tokens of a text are taken from it: up to the last token it is their spellings in order, with
 /// only blanks, breaks and comments between them. If no refusal ends them, this is the whole text. If
-/// one does, its place is in the text.
+/// one does, its place is in the text. Each token begins and ends at a place of it.
 pub fn takes_all_tokens()
-    ensures { (limit : ℕ) (text : List ℕ) → length text < 2 ^ 63
+    ensures taken { (limit : ℕ) (text : List ℕ) → length text < 2 ^ 63
         → AreTakenFrom text (scan limit text) }
+    ensures places { (limit : ℕ) (text : List ℕ) → length text < 2 ^ 63
+        → AreAtPlaces text (scan limit text).pieces }
+    ensures refusal { (limit : ℕ) (text : List ℕ) → length text < 2 ^ 63 → (e : Refusal)
+        → (scan limit text).refusal ≡ Some e → IsPlaceOf text e.mark }
 {
-    indents_plain_lines();
-    spells_quoted_lines();
-    begins_plain_scalars_with_non_space();
+    reads_plain_values();
+    spells_each_quoted();
     reads_block_texts();
-    places_each_block_scalar();
-    spells_each_anchor();
-    spells_each_tag();
+    spells_each_property();
     spells_each_directive();
     takes_characters_off();
     refuses_inside();
-}
-
-/// Each token of a text begins and ends at a place of it.
-pub fn begins_at_places()
-    ensures { (limit : ℕ) (text : List ℕ) → length text < 2 ^ 63
-        → AreAtPlaces text (scan limit text).pieces }
-{
-    takes_all_tokens();
 }
 
 /// Tokens that are taken from a text begin and end at places of it.
@@ -111,11 +94,3 @@ pub fn places_taken_tokens()
     ensures { (text : List ℕ) (pieces : List Piece) (end : Cursor)
         → AreTokens no_collections pieces (start_cursor text) end → AreAtPlaces text pieces }
 {}
-
-/// A refusal that ends the tokens of a text is at a place of it.
-pub fn refuses_at_places()
-    ensures { (limit : ℕ) (text : List ℕ) → length text < 2 ^ 63 → (e : Refusal)
-        → (scan limit text).refusal ≡ Some e → IsPlaceOf text e.mark }
-{
-    takes_all_tokens();
-}

@@ -24,8 +24,8 @@ ghost use Rattle.yaml_laws.specs.SameKinds.{HaveSameKinds};
 
 use saphyr_scalar::Marker;
 use saphyr_scalar::scalar::{
-    places_each_block_scalar, reads_block_texts, reads_plain_values, spells_each_anchor,
-    spells_each_directive, spells_each_quoted, spells_each_tag,
+    reads_block_texts, reads_plain_values, spells_each_directive, spells_each_property,
+    spells_each_quoted,
 };
 use saphyr_scalar::values::BlockStyle;
 use saphyr_scanner::law::takes_characters_off;
@@ -44,9 +44,8 @@ pub fn scans_breaks_alike()
     reads_breaks_alike();
     reads_plain_values();
     spells_each_quoted();
-    places_each_block_scalar();
-    spells_each_anchor();
-    spells_each_tag();
+    reads_block_texts();
+    spells_each_property();
     spells_each_directive();
     takes_characters_off();
 }
@@ -61,7 +60,7 @@ pub fn scans_each_yaml_text()
     reads_each_plain_text();
     reads_each_quoted();
     reads_each_block_scalar();
-    places_each_block_scalar();
+    reads_block_texts();
     passes_to_one_place();
     reads_each_anchor();
     reads_each_tag();
@@ -83,7 +82,7 @@ pub fn hands_out_markers()
     reads_each_plain_text();
     reads_each_quoted();
     reads_each_block_scalar();
-    places_each_block_scalar();
+    reads_block_texts();
     passes_to_one_place();
     reads_each_anchor();
     reads_each_tag();

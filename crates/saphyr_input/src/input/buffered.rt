@@ -88,20 +88,6 @@ impl<I: Iterator<Item = char>> BufferedInput<I> {
             loaded: 0,
         })
     }
-
-    // Loads one more place.
-    fn load(&mut self)
-        requires { ⟦<BufferedInput<I> as Input>⟧.loaded self.old < 16 }
-        ensures rest { ⟦<BufferedInput<I> as Input>⟧.rest self.new
-            ≡ ⟦<BufferedInput<I> as Input>⟧.rest self.old }
-        ensures loaded { ⟦<BufferedInput<I> as Input>⟧.loaded self.new
-            ≡ ⟦<BufferedInput<I> as Input>⟧.loaded self.old + 1 }
-    {
-        if let Some(c) = self.source.next() {
-            self.ring.push_back(c);
-        }
-        self.loaded += 1;
-    }
 }
 
 impl<I: Iterator<Item = char>> Input for BufferedInput<I> {
@@ -118,7 +104,10 @@ impl<I: Iterator<Item = char>> Input for BufferedInput<I> {
     #[tactic(auto, using(crate::proofs::Listing::items_within))]
     fn lookahead(&mut self, count: usize) {
         while self.loaded < count {
-            self.load();
+            if let Some(c) = self.source.next() {
+                self.ring.push_back(c);
+            }
+            self.loaded += 1;
         }
     }
 
@@ -174,7 +163,10 @@ impl<I: FaithfulClone> Clone for BufferedInput<I> {
         × (⟦<BufferedInput<I> as Input>⟧.loaded t ≡ ⟦<BufferedInput<I> as Input>⟧.loaded s) };
 
     fn clone(&self) -> Result<Self, AllocError> {
-        let ring = clone_ring(&self.ring)?;
+        let mut ring = HeapCircularBuffer::with_capacity(*self.ring.allocator(), WINDOW)?;
+        for c in self.ring.iter() {
+            ring.push_back(*c);
+        }
         let source = self.source.clone()?;
         Ok(BufferedInput {
             source,
@@ -182,15 +174,4 @@ impl<I: FaithfulClone> Clone for BufferedInput<I> {
             loaded: self.loaded,
         })
     }
-}
-
-// A copy of the ring with the same characters.
-fn clone_ring(ring: &HeapCircularBuffer<char>) -> Result<HeapCircularBuffer<char>, AllocError>
-    ensures { IfOk result (λ copy. copy ≡ ring.now) }
-{
-    let mut copy = HeapCircularBuffer::with_capacity(*ring.allocator(), ring.capacity())?;
-    for c in ring.iter() {
-        copy.push_back(*c);
-    }
-    Ok(copy)
 }

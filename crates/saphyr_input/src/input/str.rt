@@ -7,11 +7,11 @@ mod text;
 mod wide;
 
 use self::text::{
-    behind, behind_ascii, behind_two_ascii, first_byte, first_char, is_marker, nth_char, run,
-    run_here, second_char, spaces, split_blanks, split_first, third_char, words,
+    behind_ascii, first_char, is_marker, nth_char, run, run_here, second_char, spaces,
+    split_blanks, split_first, third_char, words,
 };
-use crate::char_set::{CharSet, NonBreak, WordSet};
-use crate::char_traits::{is_blank, is_yaml_non_break};
+use crate::char_set::{CharSet, WordSet};
+use crate::char_traits::is_yaml_non_break;
 use crate::input::{Input, SkipTabs};
 use std::alloc::AllocError;
 
@@ -125,7 +125,11 @@ impl Input for StrInput<'_> {
 
     #[inline]
     fn skip_n(&mut self, count: usize) {
-        self.rest = behind(self.rest, count);
+        let mut rest = self.rest;
+        for _ in 0..count {
+            rest = split_first(rest).1;
+        }
+        self.rest = rest;
     }
 
     #[inline]
@@ -154,16 +158,6 @@ impl Input for StrInput<'_> {
         self.rest = behind_ascii(self.rest);
     }
 
-    #[inline(always)]
-    fn skip_two_ascii(&mut self) {
-        self.rest = behind_two_ascii(self.rest);
-    }
-
-    #[inline]
-    fn next_is_document_indicator(&self) -> bool {
-        is_marker(self.rest, b'-') || is_marker(self.rest, b'.')
-    }
-
     #[inline]
     fn next_is_document_start(&self) -> bool {
         is_marker(self.rest, b'-')
@@ -179,24 +173,18 @@ impl Input for StrInput<'_> {
         // There are fewer than 2^64 bytes, and no more characters than bytes.
         let _ = self.rest.as_bytes();
         let (blanks, rest) = split_blanks(self.rest, skip_tabs);
+        self.rest = rest;
         self.lookahead(1);
         let found = SkipTabs::Result(blanks.tabs, blanks.spaces);
-        if first_byte(rest) != '#' {
-            self.rest = rest;
+        if self.peek() != '#' {
             return (blanks.count, Ok(found));
         }
         if blanks.count == 0 {
             let text = "comments must be separated from other tokens by whitespace";
             return (0, Err(text));
         }
-        let (comment_len, rest) = run::<NonBreak>(rest);
-        self.rest = rest;
+        let comment_len = self.skip_while_non_breakz();
         (blanks.count + comment_len, Ok(found))
-    }
-
-    #[inline]
-    fn next_is_blank(&self) -> bool {
-        is_blank(first_byte(self.rest))
     }
 
     fn skip_while<C: CharSet>(&mut self) -> usize {

@@ -1,8 +1,8 @@
 -- The content lines of a block scalar, read a line at a time.
-use Rattle.std.proofs.Common.{◌≡◌, ℕ, suc, ◌+◌, ◌<◌, ◌≤◌, Bool, true, false, List, [], ◌∷◌, ◌++◌, length, take, drop, length-drop, slice_index, Result, Ok, refl, sym, ap, ◌∙◌, arith, subst, encode_utf8_all, append_assoc, nat_eq, nat_lt}
+use Rattle.std.proofs.Common.{◌≡◌, ℕ, suc, ◌+◌, ◌<◌, ◌≤◌, Bool, true, false, List, [], ◌∷◌, ◌++◌, length, take, drop, length-drop, slice_index, Result, Ok, refl, sym, ap, ◌∙◌, arith, subst, encode_utf8_all, append_assoc, nat_eq, nat_lt, nat_le, ◌&&◌}
 use Rattle.saphyr_scalar.proofs.Common.{◌==◌, Option, Some, is_some, prefix_len, nat_tests, append-nil, prefix_len-le-length, encodes-append, is_blank, is_break, is_yaml_non_break, carriage_return, line_feed, BlockStyle, Chomping, Marker, Span, Refusal, EmptyLines, Cursor, along, next_line, pass_break, run_ends, and_false, by_test, non_break_no_break}
 use Rattle.saphyr_scalar.specs.declared.scalar.block.breaks.BlockEnd.{BlockEnd}
-use Rattle.saphyr_scalar.specs.Steps.Block.{line_cursor, is_indentation, is_cr_lf, inside_break, with_empty_line, pass_empty_lines, pass_empty_lines_at, line_starts, break_before, LinesRead, lines_behind_text, lines_ended, between, line, between_at, line_at, with_line, with_lines, tail, is_unfinished, chomped_lines}
+use Rattle.saphyr_scalar.specs.Steps.Block.{line_cursor, is_indentation, is_cr_lf, inside_break, with_empty_line, pass_empty_lines, pass_empty_lines_at, line_starts, break_before, LinesRead, lines_behind_text, lines_ended, between, line, between_at, line_at, with_line, with_lines, tail, is_unfinished, chomped_lines, content, content_lines}
 use Rattle.saphyr_scalar.proofs.Moving.{along_none, along_more}
 use Rattle.saphyr_scalar.proofs.Quoted.Inside.{break_cases}
 use Rattle.saphyr_scalar.proofs.Block.Lines.{no_break, behind_cr}
@@ -274,6 +274,13 @@ pub text_done : (c : Chomping) (i : ℕ) (start : Marker) (read : LinesRead) (te
 unfolding chomped_lines
 text_done c i start read text grown pushed end t u b span e none unfinished same push first last =
     grind (arith, encode_utf8_all, encodes-append)
+
+-- the content lines come first
+pub lines_here : (style : BlockStyle) (c : Chomping) (indent i lines : ℕ) (s : Cursor)
+    → (nat_lt s.mark.col i && nat_le indent s.mark.col) ≡ false
+    → content style c indent i lines s ≡ content_lines style c i lines s
+unfolding content
+lines_here style c indent i lines s h = rw h refl
 
 -- no content line begins with what is no content
 pub no_start : (i col : ℕ) (xs : List ℕ) → is_yaml_non_break (slice_index xs 0) ≡ false → line_starts i col xs ≡ false

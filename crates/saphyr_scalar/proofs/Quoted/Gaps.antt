@@ -64,11 +64,6 @@ pub reads_from : {X Y : Type 0} (r : Result X Stop) (before begun now : Result Y
     → ReadsOn r begun now → ReadsOn r before now
 reads_from r before begun now e h = rw e at h
 
--- after a run no more remains
-pub moved_no_longer : (p : ℕ → Bool) (text grown : List ℕ) (s t : Cursor) → Moved p text grown s t
-    → length t.rest ≤ length s.rest
-moved_no_longer p text grown s t m = grind (arith, length-drop)
-
 -- what was read on is shorter than what was longer before
 pub ok_shorter : {X E : Type 0} (r : Result X E) (n m k : ℕ) → m < k → OnOk r (n ≤ m) → OnOk r (n < k)
 ok_shorter r n m k less no_longer = grind arith

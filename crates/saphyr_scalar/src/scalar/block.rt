@@ -2,7 +2,6 @@
 
 mod breaks;
 mod header;
-mod law;
 mod lines;
 
 ghost use Rattle.std.specs.Prelude.{◌≡◌, ◌<◌, ◌≤◌, length, string_bytes, IfOk, encode_utf8_all};
@@ -16,7 +15,6 @@ use crate::scalar::position::Span;
 use crate::scalar::reader::Reader;
 use crate::values::{BlockStyle, Chomping};
 pub(crate) use breaks::push_line_feeds;
-pub use law::reads_block_texts;
 use saphyr_input::char_traits::is_z;
 use saphyr_input::input::Input;
 use std::alloc::{AllocError, Global};
@@ -66,31 +64,7 @@ impl<T: Input> Reader<T> {
         Ok(text)
     }
 
-    // Takes off the content lines, after some empty lines, and returns the scalar.
-    fn read_block_text(
-        &mut self,
-        alloc: Global,
-        style: BlockStyle,
-        chomping: Chomping,
-        indentation: usize,
-        leading: usize,
-    ) -> Result<BlockScalar, Stop>
-        requires { leading ≤ (cursor_of self.old).mark.index }
-        ensures { ReadsBy spec.seen_block_scalar
-            (spec.content_lines style chomping indentation leading) self.old result self.new }
-    {
-        let start = self.mark;
-        let mut text = String::new(alloc);
-        let end = self.read_block_lines(style, indentation, leading, &mut text)?;
-        let unfinished = self.is_unfinished(indentation);
-        push_tail(&mut text, chomping, unfinished, end)?;
-        Ok(BlockScalar {
-            text,
-            span: Span::new(start, self.mark),
-        })
-    }
-
-    // Takes off what follows the leading empty lines.
+    // Takes off what follows the leading empty lines: the content lines.
     #[tactic(auto, unfolding(crate::specs::Steps::Block::content))]
     fn read_block_content(
         &mut self,
@@ -111,7 +85,15 @@ impl<T: Input> Reader<T> {
                 mark: self.mark,
             }));
         }
-        self.read_block_text(alloc, style, chomping, indentation, leading)
+        let start = self.mark;
+        let mut text = String::new(alloc);
+        let end = self.read_block_lines(style, indentation, leading, &mut text)?;
+        let unfinished = self.is_unfinished(indentation);
+        push_tail(&mut text, chomping, unfinished, end)?;
+        Ok(BlockScalar {
+            text,
+            span: Span::new(start, self.mark),
+        })
     }
 
     /// Takes off a block scalar (YAML 1.2.2, 8.1), from its `|` or `>` on, and the indentation of the

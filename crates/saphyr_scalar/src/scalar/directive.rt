@@ -126,7 +126,7 @@ impl<T: Input> Reader<T> {
                 mark: start,
             }));
         }
-        let mut handle = self.spare.begin_handle(alloc)?;
+        let mut handle = self.spare.begin(alloc)?;
         let c = self.read_marked_word(&mut handle)?;
         if c == '!' {
             self.skip_non_blank();
@@ -154,7 +154,7 @@ impl<T: Input> Reader<T> {
             }));
         }
         let c = self.read_uri_character(start)?;
-        let mut prefix = self.spare.begin_suffix(alloc)?;
+        let mut prefix = self.spare.begin(alloc)?;
         prefix.push(c)?;
         self.read_uri_characters(UriSet::Uri, start, &mut prefix)?;
         Ok(prefix)

@@ -9,33 +9,23 @@ use crate::scalar::reader::Reader;
 use saphyr_input::char_traits::{as_hex, is_hex};
 use saphyr_input::input::Input;
 
-// How many bytes a character has whose UTF-8 begins with this byte, or 0 if there is none.
-#[tactic(auto, unfolding(crate::specs::Steps::Tag::utf8_width))]
-fn utf8_width(byte: u32) -> usize
-    ensures value { result ≡ spec.utf8_width byte }
-    ensures small { result ≤ 4 }
-{
-    match byte {
-        0x00..=0x7F => 1,
-        0xC0..=0xDF => 2,
-        0xE0..=0xEF => 3,
-        0xF0..=0xF7 => 4,
-        _ => 0,
-    }
-}
-
-// What the first byte of a character's UTF-8 says of the character.
-#[tactic(auto, unfolding(crate::specs::Steps::Tag::leading_bits))]
-fn leading_bits(byte: u32) -> u32
+// How many bytes a character has whose UTF-8 begins with this byte, or 0 if there is none. Also what the byte says of
+// the character.
+#[tactic(auto, unfolding(crate::specs::Steps::Tag::utf8_width, crate::specs::Steps::Tag::leading_bits))]
+fn leading_byte(byte: u32) -> (usize, u32)
     requires { byte < 256 }
-    ensures value { result ≡ spec.leading_bits byte }
-    ensures small { result < 192 }
+    ensures width { result.0 ≡ spec.utf8_width byte }
+    ensures bits { result.1 ≡ spec.leading_bits byte }
+    ensures short { result.0 ≤ 4 }
+    ensures small { result.1 < 192 }
 {
     match byte {
-        0xC0..=0xDF => byte - 0xC0,
-        0xE0..=0xEF => byte - 0xE0,
-        0xF0..=0xFF => byte - 0xF0,
-        _ => byte,
+        0x00..=0x7F => (1, byte),
+        0xC0..=0xDF => (2, byte - 0xC0),
+        0xE0..=0xEF => (3, byte - 0xE0),
+        0xF0..=0xF7 => (4, byte - 0xF0),
+        0xF8..=0xFF => (0, byte - 0xF0),
+        _ => (0, byte),
     }
 }
 
@@ -104,14 +94,14 @@ impl<T: Input> Reader<T> {
         ensures { GivesBy (spec.percent_escape start) self.old result self.new }
     {
         let first = self.read_escaped_byte(start)?;
-        let width = utf8_width(first);
+        let (width, bits) = leading_byte(first);
         if width == 0 {
             return Err(Refusal {
                 text: FaultText::TagEscapeLeadingByte,
                 mark: start,
             });
         }
-        let value = self.read_trailing_bytes(width - 1, leading_bits(first), start)?;
+        let value = self.read_trailing_bytes(width - 1, bits, start)?;
         match char::from_u32(value) {
             Some(c) if c.len_utf8() == width => Ok(c),
             _ => Err(Refusal {

@@ -108,32 +108,8 @@ impl<T: Input> Reader<T> {
         }
     }
 
-    // Takes off a quoted scalar behind its opening quote, with its closing quote, and puts its text behind another.
-    // Most have only words on one line without escapes: then that is all.
-    #[inline(always)]
-    fn read_quoted_inside(
-        &mut self,
-        alloc: Global,
-        quote: Quote,
-        indent: usize,
-        start: Marker,
-        text: &mut String,
-    ) -> Result<(), Stop>
-        ensures { WritesBy text_alone (λ before s. spec.with_front before
-            (spec.inner_text_at quote indent start spec.no_gap s))
-            text.old self.old result text.new self.new }
-    {
-        let c = self.take_literal_words(quote, text)?;
-        if self.is_at_closing_quote(c, quote) {
-            self.skip_non_blank();
-            return Ok(());
-        }
-        let whole = replace(text, String::new(alloc));
-        *text = self.read_quoted_rest(quote, indent, start, whole)?;
-        Ok(())
-    }
-
-    // Takes off a quoted scalar, from its opening quote on, and puts its text behind another.
+    // Takes off a quoted scalar, from its opening quote on, and puts its text behind another. Most have only words on
+    // one line without escapes: then that is all.
     #[inline(always)]
     fn read_behind(
         &mut self,
@@ -149,7 +125,13 @@ impl<T: Input> Reader<T> {
     {
         let start = self.mark;
         self.skip_non_blank();
-        self.read_quoted_inside(alloc, quote, indent, start, text)?;
+        let c = self.take_literal_words(quote, text)?;
+        if self.is_at_closing_quote(c, quote) {
+            self.skip_non_blank();
+            return Ok(());
+        }
+        let whole = replace(text, String::new(alloc));
+        *text = self.read_quoted_rest(quote, indent, start, whole)?;
         Ok(())
     }
 

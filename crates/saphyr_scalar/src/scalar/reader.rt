@@ -149,7 +149,8 @@ impl<T: Input> Reader<T> {
             × (slice_index (cursor_of self.old).rest 1 < 128) }
         ensures { cursor_of self.new ≡ spec.pass 2 (cursor_of self.old) }
     {
-        self.input.skip_two_ascii();
+        self.input.skip_ascii();
+        self.input.skip_ascii();
         self.mark = self.mark.along(2);
         self.blank_so_far = false;
     }
@@ -249,22 +250,12 @@ impl<T: Input> Reader<T> {
     {
         self.input.lookahead(2);
         if self.input.next_2_are('\r', '\n') {
-            self.skip_two_character_break();
+            self.input.skip_n(2);
+            self.start_line(2);
         } else {
             self.input.skip();
             self.start_line(1);
         }
-    }
-
-    // Takes off CR LF, of which both places are loaded.
-    #[inline]
-    fn skip_two_character_break(&mut self)
-        requires some { 2 ≤ length (cursor_of self.old).rest }
-        requires loaded { 2 ≤ loaded self.old }
-        ensures { cursor_of self.new ≡ spec.pass_line 2 (cursor_of self.old) }
-    {
-        self.input.skip_n(2);
-        self.start_line(2);
     }
 
     // The place after a break that was taken off.

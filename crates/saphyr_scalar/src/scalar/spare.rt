@@ -97,17 +97,18 @@ impl Spare {
         Ok(())
     }
 
-    // An empty text for a tag's handle.
-    pub(super) fn begin_handle(&mut self, alloc: Global) -> Result<String, AllocError>
-        ensures { IfOk result (λ text. string_bytes text ≡ []) }
+    /// A tag of empty texts, in the memory that is kept or in new memory.
+    pub fn begin_tag(&mut self, alloc: Global) -> Result<TagParts, AllocError>
+        ensures handle { IfOk result (λ tag. string_bytes tag.handle ≡ []) }
+        ensures suffix { IfOk result (λ tag. string_bytes tag.suffix ≡ []) }
     {
-        begin_in(&mut self.handle, alloc)
-    }
-
-    // An empty text for a tag's suffix.
-    pub(super) fn begin_suffix(&mut self, alloc: Global) -> Result<String, AllocError>
-        ensures { IfOk result (λ text. string_bytes text ≡ []) }
-    {
-        begin_in(&mut self.suffix, alloc)
+        let handle = begin_in(&mut self.handle, alloc)?;
+        match begin_in(&mut self.suffix, alloc) {
+            Ok(suffix) => Ok(TagParts { handle, suffix }),
+            Err(e) => {
+                drop(handle);
+                Err(e)
+            }
+        }
     }
 }

@@ -26,41 +26,11 @@ pub struct TagParts {
     pub suffix: String,
 }
 
-impl TagParts {
-    /// A tag of empty texts, in the memory that is kept or in new memory.
-    pub fn begin(spare: &mut Spare, alloc: Global) -> Result<TagParts, AllocError>
-        ensures handle { IfOk result (λ tag. string_bytes tag.handle ≡ []) }
-        ensures suffix { IfOk result (λ tag. string_bytes tag.suffix ≡ []) }
-    {
-        let handle = spare.begin_handle(alloc)?;
-        match spare.begin_suffix(alloc) {
-            Ok(suffix) => Ok(TagParts { handle, suffix }),
-            Err(e) => {
-                drop(handle);
-                Err(e)
-            }
-        }
-    }
-}
-
 // The characters that may occur in a uri, or in the suffix of a tag.
 #[derive(Clone, Copy)]
 pub(crate) enum UriSet {
     Uri,
     Suffix,
-}
-
-impl UriSet {
-    // Whether the character is in the set.
-    #[inline]
-    fn has(self, c: char) -> bool
-        ensures { result ≡ spec.is_in_set self c }
-    {
-        match self {
-            UriSet::Uri => is_uri_char(c),
-            UriSet::Suffix => is_tag_char(c),
-        }
-    }
 }
 
 // The characters of a uri without `%`, which begins an escape.

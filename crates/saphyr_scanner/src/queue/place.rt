@@ -339,7 +339,7 @@ impl Place {
         let TagParts {
             mut handle,
             suffix: mut text,
-        } = TagParts::begin(spare, alloc)?;
+        } = spare.begin_tag(alloc)?;
         handle.push_str(texts.text_at(0, extent.handle))?;
         text.push_str(texts.text_at(extent.handle, extent.text))?;
         self.pass_texts(texts);

@@ -10,7 +10,7 @@ pub returns : goal.returns
 returns c style value indent s t behind (i, n, chomping, lines, body, others, scalar, same, follows, v) is dark =
     let here = subst (λ (x : List ℕ). IsBlockScalar indent i n chomping lines x body others) (sym is) scalar in
     let taken = c.reads_each_block_scalar.ensures style chomping indent i n lines s body others here in
-    let text = c.reads_block_texts.ensures style indent s taken.left taken.text taken.span dark
+    let text = c.reads_block_texts.ensures.text style indent s taken.left taken.text taken.span dark
     (some_character here.digit chomping body s.rest here.header) taken.read in (
       n,
       taken.span.start,

@@ -18,7 +18,7 @@ returns c limit marker forest text others yaml ends apart short small =
     let blocks : ReadsBlocks = record {
       reads = c.reads_each_block_scalar.ensures;
       passes = λ style indent s t text span e f g.
-          (c.places_each_block_scalar.ensures style indent s t text span e f g).0;
+          (c.reads_block_texts.ensures.placed style indent s t text span e f g).0;
       place = c.passes_to_one_place.ensures;
     } in
     let same = c.scans_breaks_alike.ensures limit limit (text ++ others) (omega (arith, short, small)) short

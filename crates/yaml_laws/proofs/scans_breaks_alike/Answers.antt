@@ -19,15 +19,15 @@ pub returns : goal.returns
 returns c limit other text small short short_too =
     let forward : Forwards = record {
       plain = λ in_flow indent s x e. forward_plain in_flow s x.3 x.0 x.1
-          (c.reads_plain_values.ensures in_flow indent s x.3 x.0 x.1 x.2 e);
+          (c.reads_plain_values.ensures.value in_flow indent s x.3 x.0 x.1 x.2 e);
       quoted = λ quote indent s x f e. forward_passed s x.1
-          (c.spells_each_quoted.ensures quote indent s x.1 x.0 f e).3;
+          (c.spells_each_quoted.ensures.spelled quote indent s x.1 x.0 f e).3;
       block_scalar = λ style indent s x f e. forward_passed s x.2
-          (c.places_each_block_scalar.ensures style indent s x.2 x.0 x.1 (ap is_break f ∙ indicator_no_break style)
+          (c.reads_block_texts.ensures.placed style indent s x.2 x.0 x.1 (ap is_break f ∙ indicator_no_break style)
           (some_indicator style s.rest f) e).0;
-      name = λ s x some e. let r = c.spells_each_anchor.ensures s x.1 x.0 some e in line_forward s x.1
+      name = λ s x some e. let r = c.spells_each_property.ensures.anchor s x.1 x.0 some e in line_forward s x.1
           (r.0 ∷ r.1) r.2 (r.5 ∙ at_one s.mark (length r.1) x.1.rest);
-      tag = λ in_flow s x f e. let r = c.spells_each_tag.ensures in_flow s x.2 x.0 x.1 f e in
+      tag = λ in_flow s x f e. let r = c.spells_each_property.ensures.tag in_flow s x.2 x.0 x.1 f e in
           line_forward s x.2 r.0 r.3 r.6;
       directive = λ s x f e. let r = c.spells_each_directive.ensures s x.2 x.0 x.1 f e in
           break_forward s x.2 r.0 r.1 r.2 r.3 r.8;

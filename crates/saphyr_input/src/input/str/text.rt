@@ -45,18 +45,6 @@ pub(super) fn first_char(text: &str) -> char
     }
 }
 
-// What follows the first `count` characters.
-#[inline]
-pub(super) fn behind(text: &str, count: usize) -> &str
-    ensures { chars result.now ≡ drop count (chars text.now) }
-{
-    let mut rest = text;
-    for _ in 0..count {
-        rest = split_first(rest).1;
-    }
-    rest
-}
-
 // The second character, or NUL past the end.
 #[inline]
 pub(super) fn second_char(text: &str) -> char
@@ -89,17 +77,6 @@ pub(super) fn behind_ascii(text: &str) -> &str
     ensures { chars result.now ≡ drop 1 (chars text.now) }
 {
     &text[1..]
-}
-
-// What follows two characters, both of them ASCII.
-#[inline(always)]
-pub(super) fn behind_two_ascii(text: &str) -> &str
-    requires some { 2 ≤ length (chars text.now) }
-    requires first { slice_index (chars text.now) 0 < 128 }
-    requires second { slice_index (chars text.now) 1 < 128 }
-    ensures { chars result.now ≡ drop 2 (chars text.now) }
-{
-    &text[2..]
 }
 
 // The character at place `n`, or NUL past the end.

@@ -64,11 +64,12 @@ impl<T: Input> Reader<T> {
         Ok(c as usize - '0' as usize)
     }
 
-    // Takes off the break of a header's line, behind which no tab may stand.
-    #[tactic(auto, unfolding(crate::specs::Steps::Block::header_break))]
-    fn skip_header_break(&mut self, start: Marker) -> Result<(), Refusal>
-        ensures { PassesBy (spec.header_break start) self.old result self.new }
+    // Takes off the end of a header's line with its break, behind which no tab may stand.
+    #[tactic(auto, unfolding(crate::specs::Steps::Block::header_end, crate::specs::Steps::Block::header_break))]
+    fn end_block_header(&mut self, start: Marker) -> Result<(), Refusal>
+        ensures { PassesBy (spec.header_end start) self.old result self.new }
     {
+        self.skip_ws_to_eol(SkipTabs::Yes)?;
         if !is_breakz(self.look()) {
             return Err(Refusal {
                 text: FaultText::BlockScalarHeaderEndExpected,
@@ -83,15 +84,6 @@ impl<T: Input> Reader<T> {
             });
         }
         Ok(())
-    }
-
-    // Takes off the end of a header's line.
-    #[tactic(auto, unfolding(crate::specs::Steps::Block::header_end))]
-    fn end_block_header(&mut self, start: Marker) -> Result<(), Refusal>
-        ensures { PassesBy (spec.header_end start) self.old result self.new }
-    {
-        self.skip_ws_to_eol(SkipTabs::Yes)?;
-        self.skip_header_break(start)
     }
 
     // The chomping, whose indicator may follow that of the indentation.

@@ -22,18 +22,6 @@ fn begins_any_word(c: char) -> bool
     c > '/' && c <= '\x7F' && is_in_plain_in_flow(c as u8)
 }
 
-// Whether a word always goes on with the byte, an ASCII character other than the colon.
-#[inline(always)]
-fn is_ascii_in_word(byte: u8, in_flow: bool) -> bool
-    ensures { result ≡ ascii_in (sets.in_plain in_flow) byte }
-{
-    if in_flow {
-        is_in_plain_in_flow(byte)
-    } else {
-        is_in_plain_outside(byte)
-    }
-}
-
 // Whether a word goes on with a colon before this character.
 #[inline(always)]
 fn is_colon_in_word(next: char, in_flow: bool) -> bool
@@ -51,7 +39,8 @@ fn joins_plain(byte: u8, next: u8, in_flow: bool) -> bool
     ensures ascii { IsTrue result → (0 < byte) × (byte < 128) }
 {
     match byte {
-        b' ' => next != b'#' && next != b'-' && is_ascii_in_word(next, in_flow),
+        b' ' if in_flow => next != b'#' && next != b'-' && is_in_plain_in_flow(next),
+        b' ' => next != b'#' && next != b'-' && is_in_plain_outside(next),
         b':' => is_colon_in_word(next as char, in_flow),
         _ => false,
     }

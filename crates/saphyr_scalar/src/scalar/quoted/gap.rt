@@ -177,40 +177,6 @@ impl<T: Input> Reader<T> {
         self.read_quoted_lines(true, indent, start, text)
     }
 
-    // Takes off blanks on a line, and a break behind them with what follows it. Refuses a NUL.
-    #[inline(always)]
-    fn read_blank_gap(
-        &mut self,
-        quote: Quote,
-        indent: usize,
-        start: Marker,
-        text: &mut String,
-    ) -> Result<char, Stop>
-        requires ended { IsTrue (spec.ends_word quote (cursor_of self.old).rest) }
-        requires open { (slice_index (cursor_of self.old).rest 0 == flow.mark quote) ≡ false }
-        requires plain { (slice_index (cursor_of self.old).rest 0 == backslash) ≡ false }
-        ensures same { ReadsOn result (spec.with_front (string_bytes text.old)
-            (spec.inner_text_at quote indent start spec.no_gap (cursor_of self.old)))
-            (spec.with_front (string_bytes text.new)
-            (spec.inner_text_at quote indent start spec.no_gap (cursor_of self.new))) }
-        ensures shorter { OnOk result (IsShorter self.old self.new) }
-        ensures next { IfOk result (λ c. c ≡ slice_index (cursor_of self.new).rest 0) }
-        ensures loaded { OnOk result (1 ≤ loaded self.new) }
-    {
-        let c = self.read_blanks(text)?;
-        if is_break(c) {
-            self.skip_seen_break(c);
-            return self.read_quoted_lines(false, indent, start, text);
-        }
-        if is_z(c) {
-            return Err(Stop::Refused(Refusal {
-                text: FaultText::EndInsideQuotes,
-                mark: start,
-            }));
-        }
-        Ok(c)
-    }
-
     // Takes off what is between two words, up to the next word or the closing quote. Appends what it
     // reads as to a text, and returns the character that comes next. `c` is its first character.
     #[inline(always)]
@@ -242,6 +208,17 @@ impl<T: Input> Reader<T> {
         if c == '\\' {
             return self.read_escaped_break(quote, indent, start, text);
         }
-        self.read_blank_gap(quote, indent, start, text)
+        let c = self.read_blanks(text)?;
+        if is_break(c) {
+            self.skip_seen_break(c);
+            return self.read_quoted_lines(false, indent, start, text);
+        }
+        if is_z(c) {
+            return Err(Stop::Refused(Refusal {
+                text: FaultText::EndInsideQuotes,
+                mark: start,
+            }));
+        }
+        Ok(c)
     }
 }

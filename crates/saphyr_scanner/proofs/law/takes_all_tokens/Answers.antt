@@ -1,9 +1,13 @@
-use Rattle.std.proofs.Common.{◌≡◌, ◌<◌, ℕ, List, [], ◌∷◌, length, slice_index, ap, ◌∙◌, refl, arith, false}
+use Rattle.std.proofs.Common.{Option, subst, ◌≡◌, ◌<◌, ℕ, List, [], ◌∷◌, length, slice_index, ap, ◌∙◌, refl, arith, false}
 use Rattle.saphyr_input.specs.Classes.{is_break}
 use Rattle.saphyr_scalar.specs.declared.values.BlockStyle.{BlockStyle}
 use Rattle.saphyr_scalar.specs.declared.values.BlockStyle.TheVariants as block_style
-use Rattle.saphyr_scanner.specs.TokensTaken.{block_indicator}
+use Rattle.saphyr_scalar.specs.declared.scalar.fault.Refusal.{Refusal}
+use Rattle.saphyr_scalar.specs.Views.Cursor.{start_cursor}
+use Rattle.saphyr_scanner.specs.Steps.Remaining.{scan}
+use Rattle.saphyr_scanner.specs.TokensTaken.{IsEndOf, block_indicator, no_collections, nothing}
 use Rattle.saphyr_scanner.proofs.Effects.Readers.{TextLaws, RefusalLaws}
+use Rattle.saphyr_scanner.proofs.Taken.Places.{tokens_at}
 use Rattle.saphyr_scanner.proofs.Taken.Run.{scan_taken}
 use Rattle.saphyr_scanner.proofs.law.takes_all_tokens.Goals as goal
 
@@ -19,17 +23,17 @@ some_indicator block_style.Folded [] e = absurd (omega (arith, e))
 pub returns : goal.returns
 returns c =
     let laws : TextLaws = record {
-      plain = c.indents_plain_lines.ensures;
-      quotes = c.spells_quoted_lines.ensures;
-      non_space = c.begins_plain_scalars_with_non_space.ensures;
-      block_text = λ style indent s t text span e r. c.reads_block_texts.ensures style indent s t text span
+      plain = c.reads_plain_values.ensures.lines;
+      quotes = c.spells_each_quoted.ensures.lines;
+      non_space = c.reads_plain_values.ensures.first;
+      block_text = λ style indent s t text span e r. c.reads_block_texts.ensures.text style indent s t text span
           (ap is_break e ∙ indicator_begins style) (some_indicator style s.rest e) r;
       block_place = λ style indent s t text span e r.
-          let p = c.places_each_block_scalar.ensures style indent s t text span (ap is_break e ∙ indicator_begins style)
+          let p = c.reads_block_texts.ensures.placed style indent s t text span (ap is_break e ∙ indicator_begins style)
           (some_indicator style s.rest e) r in
           record { passes = p.0; end = p.1; line = p.3 };
-      name = c.spells_each_anchor.ensures;
-      tag = c.spells_each_tag.ensures;
+      name = c.spells_each_property.ensures.anchor;
+      tag = c.spells_each_property.ensures.tag;
       directive = c.spells_each_directive.ensures;
     } in
     let refusals : RefusalLaws = record {
@@ -41,4 +45,15 @@ returns c =
       plain = c.refuses_inside.ensures.plain;
       block_scalar = c.refuses_inside.ensures.block_scalar;
     } in
-    scan_taken (record { texts = laws; readers = c.takes_characters_off.ensures; refusals = refusals })
+    let taken = scan_taken (record { texts = laws; readers = c.takes_characters_off.ensures; refusals = refusals }) in
+    record {
+      taken = taken;
+      places = λ limit text small.
+          let h = taken limit text small in
+          tokens_at text no_collections (scan limit text).pieces (start_cursor text) h.0
+          (nothing (start_cursor text).mark text) h.1;
+      refusal = λ limit text small e is.
+          let h = taken limit text small in
+          let P : Option Refusal → Type 0 = λ o. IsEndOf text o h.0 in
+          subst P is h.4;
+    }

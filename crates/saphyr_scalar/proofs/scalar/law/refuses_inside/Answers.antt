@@ -12,7 +12,7 @@ use Rattle.saphyr_scalar.proofs.Quoted.Refused.{quoted_refused}
 use Rattle.saphyr_scalar.specs.Steps.Quoted.{quoted}
 use Rattle.saphyr_scalar.specs.RefusedInside.{IsRefusedInside}
 use Rattle.saphyr_scalar.specs.Steps.Tag.{tag}
-use Rattle.saphyr_scalar.proofs.scalar.refusal_law.refuses_inside.Goals as goal
+use Rattle.saphyr_scalar.proofs.scalar.law.refuses_inside.Goals as goal
 
 pub returns-clause-anchor : goal.returns-clause-anchor
 returns-clause-anchor c = λ s e is. refused_of (λ d. d.mark ≡ s.mark) (anchor s) e (anchor_refused s) is

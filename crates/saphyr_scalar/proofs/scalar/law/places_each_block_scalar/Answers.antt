@@ -1,5 +1,0 @@
-use Rattle.saphyr_scalar.proofs.Block.Placed.{block_scalar_placed}
-use Rattle.saphyr_scalar.proofs.scalar.law.places_each_block_scalar.Goals as goal
-
-pub returns : goal.returns
-returns c = block_scalar_placed
