@@ -69,8 +69,8 @@ pub use Rattle.scalar_laws.proofs.Breaks.Results.{Both, and_known, and_then, bot
 pub use Rattle.scalar_laws.proofs.Breaks.Sides.{Normal, character, feed, first_in, no_feed, normal, normalized_is, nothing, pair, return, second_in}
 pub use Rattle.scalar_laws.specs.Alike.{AreAlike, AreMarksAlike, AreNoted, ReadsAlike}
 pub use Rattle.scalar_laws.specs.Spelling.Block.{IsBlockScalar, IsChomping, IsHeader, IsIndicator, IsTaken, chomping_first, digit_first}
-pub use Rattle.scalar_laws.specs.Spelling.Plain.{AreFurtherWords, ArePlainSafe, AreSafeBefore, EndsPlain, IsNoMarker, IsPlainGap, IsPlainText, IsWordBefore, IsWordIn, StopsPlain, behind_blanks, has_line_end, is_always_plain, is_plain_safe, is_tabbed, past_white, reaches_tabbed, stands_behind_tab, words_text}
-pub use Rattle.scalar_laws.specs.Spelling.QuotedLines.{AreOnLine, IsLine, LinesFit, space_count}
+pub use Rattle.scalar_laws.specs.Spelling.Plain.{AreFurtherWords, ArePlainSafe, AreSafeBefore, EndsPlain, IsNoMarker, IsPlainGap, IsPlainText, IsWordBefore, IsWordIn, StopsPlain, behind_blanks, has_line_end, is_plain_safe, is_tabbed, past_white, reaches_tabbed, stands_behind_tab, words_text}
+pub use Rattle.scalar_laws.specs.Spelling.QuotedLines.{IsLine, LinesFit, space_count}
 pub use Rattle.scalar_laws.specs.Spelling.Spaces.{AreEach, AreMany, AreSpaces, IsComment, IsCommentBehind, IsEol, IsFiller, IsFillerLine, IsFillerText, IsGap, IsLastFiller, IsLineEnd, IsLinePrefix, IsLineRest, IsNextLine, IsSeparation, IsSeparationLine, joined_pieces}
 pub use Rattle.std.proofs.Common.{Bool, Err, IsFalse, IsTrue, List, Ok, [], ap, append-nil, append_assoc, arith, codes, cond, drop, encode_utf8_all, false, inl, inr, length, refl, subst, suc, sym, true, ℕ, ◌*◌, ◌++◌, ◌+◌, ◌<◌, ◌∙◌, ◌∷◌, ◌≡◌, ◌≤◌, ◌⊎◌}
 pub use Rattle.std.proofs.Math.Bool.{or-false, or-true}

@@ -1,7 +1,7 @@
 -- Block scalars at block level, with what comes before them (YAML 1.2.2, 8.1).
 use Rattle.yaml_laws.proofs.Common.{List, [], append-nil, append_assoc, arith, inl, inr, refl, subst, sym, ℕ, ◌++◌, ◌<◌, ◌^◌, ◌∷◌, ◌≡◌, ◌≤◌, None, Option, is_blank, AreIn, Marker, IsGap, IsNextLine, Candidate, Properties, Scalar, Style, State, Kind, scalar_token, IsProperties, NoBreaks}
 use Rattle.saphyr_scanner.specs.Grammar.TokenGrammar as grammar
-use Rattle.yaml_laws.specs.Grammar.BlockNodes.{Position as Position, indent_at, is_start, IsGapAt, IsStyled, IsScalarFront, IsScalarInBlock}
+use Rattle.yaml_laws.specs.Grammar.BlockNodes.{Position as Position, indent_at, IsGapAt, IsStyled, IsScalarFront, IsScalarInBlock}
 use Rattle.yaml_laws.proofs.Flow.ContentStarts.{StartsContent}
 use Rattle.yaml_laws.proofs.Flow.Names.{unbroken_along}
 use Rattle.yaml_laws.proofs.Flow.Places.{moved_append}
