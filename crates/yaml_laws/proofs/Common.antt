@@ -36,12 +36,12 @@ pub use Rattle.saphyr_scalar.specs.declared.values.Quote.{Quote}
 pub use Rattle.saphyr_scalar.specs.declared.values.Quote.TheVariants.{Double, Single}
 pub use Rattle.saphyr_scanner.proofs.Effects.Readers.{Readers}
 pub use Rattle.saphyr_scanner.proofs.Gaps.{passes_no_feed, passes_no_return, separated, stop_here}
-pub use Rattle.saphyr_scanner.proofs.Lazy.{begins_so, free_block, handed_out, onto}
+pub use Rattle.saphyr_scanner.proofs.Handing.Lazy.{begins_so, free_block, handed_out, onto}
 pub use Rattle.saphyr_scanner.proofs.Leads.{LeadsTo, flat, leads_on, onward, stay}
 pub use Rattle.saphyr_scanner.proofs.Levels.{level_of, saved}
 pub use Rattle.saphyr_scanner.proofs.LineTexts.{name_no_break, tag_no_break, tail_no_break}
 pub use Rattle.saphyr_scanner.proofs.Queues.{holding, place_kinds, place_kinds_append, queue_of, token_place, with_opening_seam}
-pub use Rattle.saphyr_scanner.proofs.Root.{comes, core_at, drops_key, fetches_stream_end, fetches_stream_start, none_unrolls, state_at, stream_end_place, stream_start_place}
+pub use Rattle.saphyr_scanner.proofs.Handing.Root.{comes, core_at, drops_key, fetches_stream_end, fetches_stream_start, none_unrolls, state_at, stream_end_place, stream_start_place}
 pub use Rattle.saphyr_scanner.proofs.Steps.Choice.{begins_mapping, begins_sequence, both_cases, comma_begins}
 pub use Rattle.saphyr_scanner.specs.Grammar.Characters.{AreAll, IsSurrogate}
 pub use Rattle.saphyr_scanner.specs.Grammar.Forest.{Alias, AreCompatible, Directive, Document, DoubleQuoted, Folded, Forest, Handle, Literal, Map, MoreNodes, MorePairs, NoNode, NoPair, Node, Nodes, NonSpecific, Pairs, Plain, Properties, Reserved, Scalar, Seq, Shorthand, SingleQuoted, Style, Tag, TagPrefix, Verbatim, Version, bare, handle_text, left_out, no_properties, open_collections, open_in_forest, open_in_nodes, open_in_pairs}
