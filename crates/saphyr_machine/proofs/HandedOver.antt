@@ -9,11 +9,11 @@ use Rattle.saphyr_machine.specs.declared.receiver.Refused.{Refused}
 use Rattle.saphyr_machine.specs.Events.{Happening}
 use Rattle.saphyr_machine.specs.Answer as answer
 use Rattle.saphyr_machine.specs.Answer.{Answer, Ending, with_first_event, fault_alone}
-use Rattle.saphyr_machine.specs.Cursor.{EventCursor, Kept, IsKept, IsUnmoved, IsUnreported, Stays, count, finished_behind, inside_behind, to_come, kept_answer}
+use Rattle.saphyr_machine.specs.Cursor.{EventCursor, Kept, IsKept, IsUnmoved, Stays, count, finished_behind, inside_behind, to_come}
 use Rattle.saphyr_machine.specs.Calls.{Advances, AdvancesOver, Looks}
 use Rattle.saphyr_machine.specs.Loading.{Portion, is_last, with_event, portion, portion_to_send, inside_over, finished_over, Remembered, PassedOver, Keeps, ReportsFault, Sends, SendsOne, Stopped, Lost, Finished, Faulted, Loads}
 use Rattle.saphyr_machine.proofs.Calls.Handing.{advances, over_more, remembers}
-use Rattle.saphyr_machine.proofs.Calls.Looking.{looked, looked_over, looks_stays, unreported}
+use Rattle.saphyr_machine.proofs.Calls.Looking.{IsUnreported, kept_answer, looked, looked_over, looks_stays, unreported}
 
 -- ## Lists of events
 
@@ -133,9 +133,6 @@ module _ {R : Type 0} (receives : R → Happening × Span → Result (Unit {0}) 
     pub sends : Sends receives first sent last
     pub leaves : AdvancesOver sent old new
     pub kept : new.kept ≡ None
-
-  pub begins : (multi : Bool) (c : EventCursor) (r : R) → c.kept ≡ None → Going multi c r r c
-  begins multi c r none = grind arith
 
   pub goes_on : (multi : Bool) (old mid new : EventCursor) (first last next : R) (e : Happening × Span)
       → Going multi old first last mid → Advances e mid new × (new.kept ≡ None) → is_last multi e.0 ≡ false

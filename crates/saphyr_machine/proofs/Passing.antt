@@ -1,10 +1,9 @@
 -- Tokens that are passed, one at a time.
 use Rattle.std.proofs.Common.{◌≡◌, ℕ, ◌<◌, Bool, true, false, List, [], ◌∷◌, length, Result, Ok, Err, refl, sym, ap, ◌∙◌, arith}
-use Rattle.saphyr_scalar.specs.declared.scalar.position.Marker.{Marker}
 use Rattle.saphyr_scalar.specs.declared.scalar.position.Span.{Span}
 use Rattle.saphyr_scalar.specs.declared.scalar.fault.Refusal.{Refusal}
 use Rattle.saphyr_scalar.specs.declared.scalar.fault.FaultText.TheVariants as fault
-use Rattle.std.specs.Prelude.{IfOk, if◌then◌else◌, Some}
+use Rattle.std.specs.Prelude.{IfOk, Some}
 use Rattle.saphyr_scalar.specs.declared.scalar.fault.Stop.{Stop}
 use Rattle.saphyr_scalar.specs.declared.scalar.fault.Stop.TheVariants as stop
 use Rattle.saphyr_scalar.specs.Views.Reader.{Fails}
@@ -16,11 +15,8 @@ use Rattle.saphyr_scanner.specs.Views.Tokens.{Parts, Piece, Remaining, before, k
 use Rattle.saphyr_machine.specs.declared.state.State.{State}
 use Rattle.saphyr_machine.specs.declared.machine.Machine as declared
 use Rattle.saphyr_machine.specs.Views.Machines.{IsNext, machine_in}
-use Rattle.saphyr_machine.specs.Steps.Machine.{◌>>=◌, Machine, push, put_back, taken_token, taken_token_from, Names}
+use Rattle.saphyr_machine.specs.Steps.Machine.{Machine, push, put_back, taken_token, taken_token_from}
 use Rattle.saphyr_machine.specs.Steps.Documents.{unpassed_token, unpassed_token_from, Declared, is_directive, directive_at, directives, directives_from}
-
-ok_inside : {A : Type 0} (x y : A) → (let r : Result A Refusal = Ok x in r) ≡ Ok y → x ≡ y
-ok_inside x y e = cc
 
 shorter_from : (ts : List Piece) (m n : Machine) (t : Piece) → taken_token_from ts m ≡ Ok (t, n)
     → length n.tokens.pieces < length ts
@@ -76,10 +72,6 @@ fails_at passed first m stop.OutOfMemory i h = tt
 fails_at passed first m (stop.Refused f) i h = sym i ∙ fails passed m f h
 
 -- ## Directives
-
-later : (d e : Declared) (m n : Machine) → (let r : Result (Declared × Machine) Refusal = Ok (d, m) in r) ≡ Ok (e, n)
-    → m ≡ n
-later d e m n h = ap (λ (p : Declared × Machine). p.1) (ok_inside (d, m) (e, n) h)
 
 ends_from : (ts : List Piece) (d : Declared) (m n : Machine) (t : Piece) → taken_token_from ts m ≡ Ok (t, n)
     → is_directive t.kind ≡ false → directives_from ts d m ≡ Ok (t, n)

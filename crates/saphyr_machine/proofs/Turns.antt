@@ -1,4 +1,4 @@
--- What a reading that failed says of the events still to come.
+-- What a reading that failed says of the events still to come, and that something is, where that is refused.
 use Rattle.std.proofs.Common.{◌≢◌, ◌<◌, Result, Ok, Err, refl, ap, ◌∙◌, arith}
 use Rattle.saphyr_scalar.specs.declared.scalar.fault.Refusal.{Refusal}
 use Rattle.saphyr_scalar.specs.declared.scalar.fault.Stop.{Stop}
@@ -9,7 +9,7 @@ use Rattle.saphyr_machine.specs.declared.fault.Fault.{Fault}
 use Rattle.saphyr_machine.specs.declared.fault.Fault.TheVariants as fault
 use Rattle.saphyr_machine.specs.Steps.Machine.{Machine, Emitted}
 use Rattle.saphyr_machine.specs.Steps.Expected.{event_step}
-use Rattle.saphyr_machine.specs.Answer.{answer_of_step, remaining_answer}
+use Rattle.saphyr_machine.specs.Answer.{Answer, answer_of_step, remaining_answer}
 use Rattle.saphyr_machine.specs.Faults.{IsFaultOf}
 use Rattle.saphyr_machine.specs.Cursor.{Refuses, count}
 use Rattle.saphyr_machine.proofs.Unroll.{unroll}
@@ -26,3 +26,9 @@ refused m (stop.Refused r) (fault.Scan e) more h w =
     unroll m more ∙ ap (λ (q : Result Emitted Refusal). answer_of_step q remaining_answer) h ∙ rw (w.place, w.text) refl
 refused m s fault.Receiver more h w = absurd w
 refused m s fault.InsideDocument more h w = absurd w
+
+pub some_refused : (f : Fault) (a : Answer) → Refuses f a → 0 < count a
+some_refused (fault.Scan e) a h = omega (arith, ap count h)
+some_refused fault.OutOfMemory a h = h
+some_refused fault.Receiver a h = absurd h
+some_refused fault.InsideDocument a h = absurd h

@@ -90,10 +90,6 @@ StepGives w (Ok x) = w.Spans x.span.start x.span.end × HoldsBetween w x.machine
 StepGives w (Err f) = w.Fails f
 
 module _ (w : Walk) where
-  left : (what : Happening) (m : Machine) → Left (beside_itself w) what m m → HoldsBetween w m
-  left what m (inl h) = h
-  left what m (inr o) = absurd o.2.tokens
-
   given : (r : Result Emitted Refusal) → EmitsAlike (beside_itself w) r r → StepGives w r
   given u0 h = grind arith
 

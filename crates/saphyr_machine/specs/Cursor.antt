@@ -80,21 +80,10 @@ HandsOutNext (Some (Err f)) old new = Refuses f old × (new ≡ empty_answer)
 abbrev pub Stays : Answer → Answer → Type 0
 Stays old new = (new ≡ old) ⊎ ((0 < count old) × (new ≡ fault_alone OutOfMemory))
 
--- what remains where no event was read ahead and none can be
-abbrev pub kept_answer : Option Kept → Answer
-kept_answer None = empty_answer
-kept_answer (Some k) = if k.given then empty_answer else fault_alone k.fault
-
 -- a fault was kept
 abbrev pub IsKept : Option Kept → Type 0
 IsKept None = ⊥
 IsKept (Some k) = Unit {0}
-
--- a fault that is kept wasn't given yet, and no event comes before it
-abbrev pub IsUnreported : Option (Happening × Span) → Option Kept → Type 0
-IsUnreported current None = Unit {0}
-IsUnreported None (Some k) = k.given ≡ false
-IsUnreported (Some e) (Some k) = ⊥
 
 -- no event was handed out
 abbrev pub IsUnmoved : EventCursor → EventCursor → Type 0

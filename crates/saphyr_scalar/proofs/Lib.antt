@@ -1,5 +1,4 @@
 pub mod Common
-pub mod Readings
 pub mod Properties
 pub mod Directives
 pub mod ByteSets

@@ -21,7 +21,7 @@ digits_passed m (d ∷ ds) t n x h p = character m d (ds ++ t) n x (hex_no_break
 
 -- A place is determined by what is passed.
 
-drop_less : (t : List ℕ) → is_break (slice_index t 0) ≡ true → length (drop (break_len t) t) < length t
+pub drop_less : (t : List ℕ) → is_break (slice_index t 0) ≡ true → length (drop (break_len t) t) < length t
 drop_less t h = grind arith
 
 passed_shorter : (m : Marker) (t : List ℕ) (n : Marker) (u : List ℕ) → IsPassed m t n u → length u ≤ length t

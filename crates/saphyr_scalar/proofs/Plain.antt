@@ -3,6 +3,7 @@ pub mod Refused
 pub mod Gaps
 pub mod BehindGaps
 pub mod Lines
+pub mod Foldings
 pub mod Runs
 pub mod Pieces
 pub mod SingleSpaces

@@ -6,7 +6,6 @@ pub mod GapBytes
 pub mod Lines
 pub mod LineTurns
 pub mod Parts
-pub mod Pieces
 pub mod Inside
 pub mod SpelledEscapes
 pub mod SpelledGaps

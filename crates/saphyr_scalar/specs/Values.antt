@@ -1,6 +1,5 @@
 pub mod Folding
 pub mod Escapes
 pub mod Flow
-pub mod Items
 pub mod Lines
 pub mod Block

@@ -12,18 +12,18 @@ use Rattle.saphyr_input.specs.Separation.{blank_len, found_blanks}
 use Rattle.saphyr_input.specs.declared.input.SkipTabs.TheVariants.{Yes}
 use Rattle.saphyr_scalar.specs.declared.scalar.position.Marker.{Marker}
 use Rattle.saphyr_scalar.specs.Views.Cursor.{Cursor, along, pass_all_blanks, pass_blanks, pass_break, pass_comment, pass_spaces, behind_separation}
-use Rattle.saphyr_scanner.specs.Steps.Gap.{Gap, gap_here, is_gap_blank, stop, end_of_gap, end_of_gap_in_comment, behind_comment, gap_at, whole_gap, is_tab_indentation}
+use Rattle.saphyr_scanner.specs.Steps.Gap.{Gap, gap_here, is_passed_blank, stop, end_of_gap, end_of_gap_in_comment, behind_comment, gap_at, whole_gap, is_tab_indentation}
 use Rattle.saphyr_scalar.proofs.Moving.{along_none, along_more}
 use Rattle.saphyr_input.proofs.Basics.Booleans.{either, or_false_left, or_false_right, or_true_swap, and_false}
 
 along-along : (m : Marker) (a b : ℕ) → along (along m a) b ≡ along m (a + b)
 along-along m a b = grind arith
 
-pub break_is_no_gap_blank : (tabs : Bool) (c : ℕ) → is_yaml_non_break c ≡ false → is_gap_blank tabs c ≡ false
+pub break_is_no_gap_blank : (tabs : Bool) (c : ℕ) → is_yaml_non_break c ≡ false → is_passed_blank tabs c ≡ false
 break_is_no_gap_blank true c e = grind (arith, nat_tests)
 break_is_no_gap_blank false c e = grind (arith, nat_tests)
 
-pub gap_blank_is_blank : (tabs : Bool) (c : ℕ) → is_gap_blank tabs c ≡ true → is_blank c ≡ true
+pub gap_blank_is_blank : (tabs : Bool) (c : ℕ) → is_passed_blank tabs c ≡ true → is_blank c ≡ true
 gap_blank_is_blank true c e = e
 gap_blank_is_blank false c e = rw e refl
 
@@ -172,11 +172,11 @@ pub tab_passed : (l : ℕ) (broke tabbed now : Bool) (before read after : Cursor
 tab_passed l broke tabbed now before read after all c first same given passed tab known = grind (arith, behind_tab)
 
 -- no break is a blank
-pub passes_no_feed : (tabs : Bool) → is_gap_blank tabs 10 ≡ false
+pub passes_no_feed : (tabs : Bool) → is_passed_blank tabs 10 ≡ false
 passes_no_feed true = refl
 passes_no_feed false = refl
 
-pub passes_no_return : (tabs : Bool) → is_gap_blank tabs 13 ≡ false
+pub passes_no_return : (tabs : Bool) → is_passed_blank tabs 13 ≡ false
 passes_no_return true = refl
 passes_no_return false = refl
 

@@ -39,7 +39,7 @@ pub use Rattle.saphyr_scalar.specs.declared.values.Quote.TheVariants.{Double, Si
 pub use Rattle.scalar_laws.specs.Alike.{AreAlike, AreBlocksAlike, AreDirectivesAlike, AreMarksAlike, AreNoted, ArePlainAlike, AreSame, AreTagsAlike, GiveAlike, ReadsAlike}
 pub use Rattle.scalar_laws.specs.Spelling.Block.{AreEmptyLines, IsBehind, IsBlockScalar, IsBody, IsChomping, IsEmptyBody, IsHeader, IsHeaderEnd, IsIndentation, IsIndicator, IsTaken, chomping_first, clip, comment, comment_at_end, digit, digit_first, empty_line, empty_line_and_spaces, empty_lines, first, first_and_last, keep, leading, no_comment, no_comment_at_end, no_digit, no_empty_lines, spaces_alone, strip}
 pub use Rattle.scalar_laws.specs.Spelling.Plain.{AreFurtherWords, AreSafeBefore, EndsPlain, IsNoMarker, IsPlainGap, IsPlainText, IsWordBefore, StopsPlain, behind_blanks, has_line_end, is_plain_safe, is_tabbed, past_white, reaches_tabbed, stands_behind_tab, words_text}
-pub use Rattle.scalar_laws.specs.Spelling.QuotedLines.{AreOnLine, IsLine, LinesFit, space_count}
+pub use Rattle.scalar_laws.specs.Spelling.QuotedLines.{IsLine, LinesFit, space_count}
 pub use Rattle.std.proofs.Common.{Bool, Err, IsTrue, List, Ok, Result, [], add-zero, ap, append_assoc, arith, cond, drop, encode_utf8, encode_utf8_all, false, inl, inr, length, length-append, nat_eq, refl, slice_index, subst, suc, sym, take, true, zero, ℕ, ◌++◌, ◌+◌, ◌-◌, ◌<◌, ◌∙◌, ◌∷◌, ◌≡◌, ◌≢◌, ◌≤◌}
 pub use Rattle.std.proofs.Math.Bool.{or-false, or-true}
 pub use Rattle.std.proofs.Math.Seq.{drop-append-add, drop-append_seam, take-append_seam}

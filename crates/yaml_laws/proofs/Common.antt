@@ -36,12 +36,12 @@ pub use Rattle.saphyr_scalar.specs.declared.values.Quote.{Quote}
 pub use Rattle.saphyr_scalar.specs.declared.values.Quote.TheVariants.{Double, Single}
 pub use Rattle.saphyr_scanner.proofs.Effects.Readers.{Readers}
 pub use Rattle.saphyr_scanner.proofs.Gaps.{passes_no_feed, passes_no_return, separated, stop_here}
-pub use Rattle.saphyr_scanner.proofs.Lazy.{begins_so, free_block, handed_out, onto}
+pub use Rattle.saphyr_scanner.proofs.Handing.Lazy.{begins_so, free_block, handed_out, onto}
 pub use Rattle.saphyr_scanner.proofs.Leads.{LeadsTo, flat, leads_on, onward, stay}
 pub use Rattle.saphyr_scanner.proofs.Levels.{level_of, saved}
 pub use Rattle.saphyr_scanner.proofs.LineTexts.{name_no_break, tag_no_break, tail_no_break}
 pub use Rattle.saphyr_scanner.proofs.Queues.{holding, place_kinds, place_kinds_append, queue_of, token_place, with_opening_seam}
-pub use Rattle.saphyr_scanner.proofs.Root.{comes, core_at, drops_key, fetches_stream_end, fetches_stream_start, none_unrolls, state_at, stream_end_place, stream_start_place}
+pub use Rattle.saphyr_scanner.proofs.Handing.Root.{comes, core_at, drops_key, fetches_stream_end, fetches_stream_start, none_unrolls, state_at, stream_end_place, stream_start_place}
 pub use Rattle.saphyr_scanner.proofs.Steps.Choice.{begins_mapping, begins_sequence, both_cases, comma_begins}
 pub use Rattle.saphyr_scanner.specs.Grammar.Characters.{AreAll, IsSurrogate}
 pub use Rattle.saphyr_scanner.specs.Grammar.Forest.{Alias, AreCompatible, Directive, Document, DoubleQuoted, Folded, Forest, Handle, Literal, Map, MoreNodes, MorePairs, NoNode, NoPair, Node, Nodes, NonSpecific, Pairs, Plain, Properties, Reserved, Scalar, Seq, Shorthand, SingleQuoted, Style, Tag, TagPrefix, Verbatim, Version, bare, handle_text, left_out, no_properties, open_collections, open_in_forest, open_in_nodes, open_in_pairs}
@@ -69,8 +69,8 @@ pub use Rattle.scalar_laws.proofs.Breaks.Results.{Both, and_known, and_then, bot
 pub use Rattle.scalar_laws.proofs.Breaks.Sides.{Normal, character, feed, first_in, no_feed, normal, normalized_is, nothing, pair, return, second_in}
 pub use Rattle.scalar_laws.specs.Alike.{AreAlike, AreMarksAlike, AreNoted, ReadsAlike}
 pub use Rattle.scalar_laws.specs.Spelling.Block.{IsBlockScalar, IsChomping, IsHeader, IsIndicator, IsTaken, chomping_first, digit_first}
-pub use Rattle.scalar_laws.specs.Spelling.Plain.{AreFurtherWords, ArePlainSafe, AreSafeBefore, EndsPlain, IsNoMarker, IsPlainGap, IsPlainText, IsWordBefore, IsWordIn, StopsPlain, behind_blanks, has_line_end, is_always_plain, is_plain_safe, is_tabbed, past_white, reaches_tabbed, stands_behind_tab, words_text}
-pub use Rattle.scalar_laws.specs.Spelling.QuotedLines.{AreOnLine, IsLine, LinesFit, space_count}
+pub use Rattle.scalar_laws.specs.Spelling.Plain.{AreFurtherWords, ArePlainSafe, AreSafeBefore, EndsPlain, IsNoMarker, IsPlainGap, IsPlainText, IsWordBefore, IsWordIn, StopsPlain, behind_blanks, has_line_end, is_plain_safe, is_tabbed, past_white, reaches_tabbed, stands_behind_tab, words_text}
+pub use Rattle.scalar_laws.specs.Spelling.QuotedLines.{IsLine, LinesFit, space_count}
 pub use Rattle.scalar_laws.specs.Spelling.Spaces.{AreEach, AreMany, AreSpaces, IsComment, IsCommentBehind, IsEol, IsFiller, IsFillerLine, IsFillerText, IsGap, IsLastFiller, IsLineEnd, IsLinePrefix, IsLineRest, IsNextLine, IsSeparation, IsSeparationLine, joined_pieces}
 pub use Rattle.std.proofs.Common.{Bool, Err, IsFalse, IsTrue, List, Ok, [], ap, append-nil, append_assoc, arith, codes, cond, drop, encode_utf8_all, false, inl, inr, length, refl, subst, suc, sym, true, ℕ, ◌*◌, ◌++◌, ◌+◌, ◌<◌, ◌∙◌, ◌∷◌, ◌≡◌, ◌≤◌, ◌⊎◌}
 pub use Rattle.std.proofs.Math.Bool.{or-false, or-true}

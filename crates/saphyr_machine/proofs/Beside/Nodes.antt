@@ -4,13 +4,12 @@ use Rattle.saphyr_scalar.specs.declared.scalar.position.Marker.{Marker}
 use Rattle.saphyr_scalar.specs.declared.scalar.position.Span.{Span}
 use Rattle.saphyr_scalar.specs.declared.scalar.fault.Refusal.{Refusal}
 use Rattle.saphyr_scanner.specs.Grammar.Tokens as tokens
-use Rattle.saphyr_scanner.specs.Grammar.Tokens.{Kind}
 use Rattle.saphyr_scanner.specs.Views.Tokens.{Piece}
 use Rattle.saphyr_machine.specs.declared.context.NodeContext.{NodeContext}
 use Rattle.saphyr_machine.specs.declared.context.NodeContext.TheVariants.{Flow, Block, BlockMapping}
 use Rattle.saphyr_machine.specs.Events.{ResolvedTag}
 use Rattle.saphyr_machine.specs.Steps.Machine.{◌>>=◌, Names, meaning, Machine, Emitted, put_back, with_anchor, next_id}
-use Rattle.saphyr_machine.specs.Steps.Tags.{declared_prefix_or, declared_prefix, resolved_tag_at}
+use Rattle.saphyr_machine.specs.Steps.Tags.{declared_prefix, resolved_tag_at}
 use Rattle.saphyr_machine.specs.Steps.Contexts.{allows_block, allows_indentless}
 use Rattle.saphyr_machine.specs.Steps.Nodes.{NodeProperties, register, has_property, node_without_content, node_content_at, node_content, next_content, alias_of, alias_node, node_behind_anchor_at, node_behind_anchor, node_behind_tag_at, node_behind_tag, node_at, node}
 use Rattle.saphyr_machine.proofs.Beside.Machines.{Beside, SpansAlike, Near, GivesAlike, Alike, EmitsAlike, Both, AtBoth, AtBothBehind, either, of_kind, less, taken_behind, refuses, registers, emits_end, enters_emitted}

@@ -1,5 +1,5 @@
 -- What `next_event` hands out is the head of the events that are still to come.
-use Rattle.std.proofs.Common.{◌≡◌, ◌≢◌, ◌<◌, Bool, true, false, List, [], ◌∷◌, ◌++◌, Option, Result, Ok, refl, sym, ap, ◌∙◌, subst, arith}
+use Rattle.std.proofs.Common.{◌≡◌, ◌≢◌, ◌<◌, Bool, true, List, [], ◌∷◌, ◌++◌, Option, Result, Ok, refl, sym, ap, ◌∙◌, subst, arith}
 use Rattle.std.specs.Prelude.{if◌then◌else◌}
 use Rattle.saphyr_scalar.specs.declared.scalar.position.Span.{Span}
 use Rattle.saphyr_scalar.specs.declared.scalar.fault.Refusal.{Refusal}
@@ -11,7 +11,7 @@ use Rattle.saphyr_machine.specs.Steps.Machine.{Machine, Emitted, emit}
 use Rattle.saphyr_machine.specs.Steps.Expected.{event_step, event_step_at}
 use Rattle.saphyr_machine.specs.Answer.{Answer, Ending, empty_answer, fault_alone, with_first_event, answer_of_step, remaining_answer}
 use Rattle.saphyr_machine.specs.Cursor.{EventCursor, Kept, HandsOutNext, Refuses, count, finished_behind, inside_behind, to_come}
-use Rattle.saphyr_machine.specs.Calls.{Advances, AdvancesFrom, AdvancesOver, FailsWith, IsOver, IsOverFrom, IsReportedAs, GivesNext}
+use Rattle.saphyr_machine.specs.Calls.{Advances, AdvancesFrom, AdvancesOver, FailsWith, IsOver, IsOverFrom, GivesNext}
 use Rattle.saphyr_machine.proofs.Unroll.{unroll, over}
 
 -- a machine that makes a step isn't at its end

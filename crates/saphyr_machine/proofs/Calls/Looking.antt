@@ -1,4 +1,5 @@
 -- What reading ahead leaves is still to come, and what was read ahead is handed out.
+use Rattle.std.specs.Prelude.{if◌then◌else◌}
 use Rattle.std.proofs.Common.{◌≡◌, Bool, false, Option, Some, None, Result, refl, sym, inl, inr, arith}
 use Rattle.std.specs.Borrow.{Bor}
 use Rattle.saphyr_scalar.specs.declared.scalar.position.Span.{Span}
@@ -7,11 +8,22 @@ use Rattle.saphyr_machine.specs.declared.fault.Fault.{Fault}
 use Rattle.saphyr_machine.specs.Events.{Happening}
 use Rattle.saphyr_machine.specs.Steps.Machine.{Machine}
 use Rattle.saphyr_machine.specs.Answer as answer
-use Rattle.saphyr_machine.specs.Answer.{Answer, Ending, empty_answer, fault_alone, with_first_event, remaining_answer}
-use Rattle.saphyr_machine.specs.Cursor.{EventCursor, Kept, IsUnmoved, IsUnreported, Shows, Stays, answer_behind, with_event_handed, to_come, kept_answer}
+use Rattle.saphyr_machine.specs.Answer.{Answer, Ending, empty_answer, fault_alone, with_first_event}
+use Rattle.saphyr_machine.specs.Cursor.{EventCursor, Kept, IsUnmoved, Shows, Stays, answer_behind, with_event_handed, to_come}
 use Rattle.saphyr_machine.specs.Calls.{Advances, EndsEvents, IsGivenOrNone, IsShown, Looks, LooksFrom, ReadsAhead}
 use Rattle.saphyr_machine.proofs.Unroll.{over}
 use Rattle.saphyr_machine.proofs.Calls.Handing.{moves}
+
+-- what remains where no event was read ahead and none can be
+abbrev pub kept_answer : Option Kept → Answer
+kept_answer None = empty_answer
+kept_answer (Some k) = if k.given then empty_answer else fault_alone k.fault
+
+-- a fault that is kept wasn't given yet, and no event comes before it
+abbrev pub IsUnreported : Option (Happening × Span) → Option Kept → Type 0
+IsUnreported current None = Unit {0}
+IsUnreported None (Some k) = k.given ≡ false
+IsUnreported (Some e) (Some k) = ⊥
 
 ends_stays : (f : Ending) (a : Answer) → EndsEvents f a → Stays a (fault_alone f)
 ends_stays (answer.Refused mark text) a h = inl (sym h)

@@ -10,6 +10,7 @@ use Rattle.saphyr_scalar.specs.Steps.Block.{chomping, indicator, header_break, h
 use Rattle.saphyr_scalar.proofs.Moving.{along_none, along_more, drop_more}
 use Rattle.saphyr_scalar.proofs.Given.{Given, given_bind, given_of}
 
+-- the greatest number of a line
 abbrev pub top : ℕ
 top = 18446744073709551615
 

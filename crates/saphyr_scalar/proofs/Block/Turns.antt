@@ -2,7 +2,8 @@
 use Rattle.std.proofs.Common.{◌≡◌, ℕ, suc, ◌+◌, ◌<◌, ◌≤◌, Bool, true, false, List, [], ◌∷◌, ◌++◌, length, take, drop, length-drop, slice_index, Result, Ok, refl, sym, ap, ◌∙◌, arith, subst, encode_utf8_all, append_assoc, nat_eq, nat_lt, nat_le, ◌&&◌}
 use Rattle.saphyr_scalar.proofs.Common.{◌==◌, Option, Some, is_some, prefix_len, nat_tests, append-nil, prefix_len-le-length, encodes-append, is_blank, is_break, is_yaml_non_break, carriage_return, line_feed, BlockStyle, Chomping, Marker, Span, Refusal, EmptyLines, Cursor, along, next_line, pass_break, run_ends, and_false, by_test, non_break_no_break}
 use Rattle.saphyr_scalar.specs.declared.scalar.block.breaks.BlockEnd.{BlockEnd}
-use Rattle.saphyr_scalar.specs.Steps.Block.{line_cursor, is_indentation, is_cr_lf, inside_break, with_empty_line, pass_empty_lines, pass_empty_lines_at, line_starts, break_before, LinesRead, lines_behind_text, lines_ended, between, line, between_at, line_at, with_line, with_lines, tail, is_unfinished, chomped_lines, content, content_lines}
+use Rattle.saphyr_scalar.specs.Steps.Block.{line_cursor, is_indentation, is_cr_lf, inside_break, with_empty_line, pass_empty_lines, pass_empty_lines_at, line_starts, break_before, LinesRead, lines_behind_text, lines_ended, between, line, between_at, with_lines, tail, is_unfinished, chomped_lines, content, content_lines}
+use Rattle.saphyr_scalar.specs.Steps.Quoted.{with_front_run}
 use Rattle.saphyr_scalar.proofs.Moving.{along_none, along_more}
 use Rattle.saphyr_scalar.proofs.Quoted.Inside.{break_cases}
 use Rattle.saphyr_scalar.proofs.Block.Lines.{no_break, behind_cr}
@@ -199,6 +200,9 @@ unfolding line
 line_cut st i more b m [] h k = refl
 line_cut st i more b m (c ∷ cs) h k = rw (h, (no_break c k).1, (no_break c k).0) refl
 
+abbrev line_at : BlockStyle → ℕ → Bool → Cursor → LinesRead
+line_at style i more s = line style i more s.blank_so_far s.mark s.rest
+
 -- The line of a turn was read: from `here`, where it begins, to `end`, where its content ends; the text grew to
 -- `grown`.
 pub record LineRead (st : BlockStyle) (i : ℕ) (ab : Option Bool) (k : ℕ) (text grown : List ℕ) (here end : Cursor)
@@ -207,8 +211,10 @@ pub record LineRead (st : BlockStyle) (i : ℕ) (ab : Option Bool) (k : ℕ) (te
   pub ends : is_yaml_non_break (slice_index end.rest 0) ≡ false
   pub shorter : length end.rest < length here.rest
 
+-- the rest of the line is put after a text
 abbrev SameLine : List ℕ → Cursor → List ℕ → Cursor → Type 0
-SameLine text s grown t = let r : Result (List ℕ × Cursor) Refusal = Ok (with_line text s) in r ≡ Ok (grown, t)
+SameLine text s grown t =
+    let r : Result (List ℕ × Cursor) Refusal = Ok (with_front_run is_yaml_non_break text s) in r ≡ Ok (grown, t)
 
 some_content : (xs : List ℕ) → is_yaml_non_break (slice_index xs 0) ≡ true → 0 < prefix_len is_yaml_non_break xs
 some_content [] h = absurd (cc)

@@ -1,5 +1,5 @@
 -- What is read as a gap of a plain scalar is the reading of a piece of the text.
-use Rattle.saphyr_scalar.proofs.Common.{◌≡◌, ℕ, zero, suc, ◌+◌, Bool, true, false, List, [], ◌∷◌, ◌++◌, length, take, drop, slice_index, Result, Ok, refl, sym, ap, ◌∙◌, arith, subst, IsTrue, cond, append_assoc, encode_utf8_all, ◌||◌, ◌&&◌, ◌==◌, nat_lt, if◌then◌else◌, prefix_len, false≢true, nat_tests, append-nil, take-append-drop, length-take-le, encode_ascii, is_blank, is_break, tab, line_feed, carriage_return, is_blank_or_break, Marker, Refusal, Cursor, along, next_line, pass, pass_break, by_test, prefix_len-le-length, blank_no_break}
+use Rattle.saphyr_scalar.proofs.Common.{◌≡◌, ℕ, zero, suc, ◌+◌, Bool, true, false, List, [], ◌∷◌, ◌++◌, length, take, drop, slice_index, Result, Ok, refl, sym, ap, ◌∙◌, arith, subst, IsTrue, cond, append_assoc, encode_utf8_all, ◌||◌, ◌&&◌, ◌==◌, nat_lt, if◌then◌else◌, prefix_len, false≢true, nat_tests, append-nil, take-append-drop, length-take-le, encode_ascii, is_blank, is_break, tab, line_feed, carriage_return, is_blank_or_break, Marker, Refusal, Cursor, along, next_line, pass, pass_break, by_test, or_false_left, prefix_len-le-length, blank_no_break}
 use Rattle.saphyr_scalar.specs.Spelling.Tag.{AreIn}
 use Rattle.saphyr_scalar.specs.Steps.Quoted.{mid_line}
 use Rattle.saphyr_scalar.specs.Values.Folding.{folded, line_feeds, raw_break}
@@ -203,18 +203,12 @@ blanks_read i xs m other =
       are = all_white v blank;
       is = sym (take-append-drop n xs);
       place = passed_blanks m v blank ∙ ap (along m) (prefix_take xs);
-      stop = not_feed (slice_index (drop n xs) 0) other;
+      stop = or_false_left _ _ other;
       value = v;
       text = refl;
       reads = λ c cs non_space. folded_blanks v c cs blank non_space;
       later = all_on_line (IsLine i (mid_line (along m n) (drop n xs))) v (drop n xs) blank;
     }
-  where
-    not_feed : (c : ℕ) → is_break c ≡ false → (c == line_feed) ≡ false
-    not_feed c h = first_of (c == 10) (c == 13) h
-      where
-        first_of : (a b : Bool) → (a || b) ≡ false → a ≡ false
-        first_of a b e = grind arith
 
 -- breaks
 feeds_encode : (k : ℕ) → encode_utf8_all (line_feeds k) ≡ line_feeds k

@@ -1,7 +1,7 @@
 -- A plain scalar is refused where it begins, where a word of it would begin, or after the blanks of a line.
 use Rattle.std.proofs.Common.{◌≡◌, ℕ, zero, suc, Bool, true, false, List, [], ◌∷◌, ◌++◌, drop, slice_index, Result, Ok, Err, refl, sym, ap, ◌∙◌, subst, inl, inr, nat_lt, encode_utf8, arith}
 use Rattle.std.specs.Prelude.{◌⊎◌, ◌&&◌, ◌||◌, ◌==◌, not, pred, if◌then◌else◌}
-use Rattle.saphyr_scalar.proofs.Common.{prefix_len, is_blank, is_bom, is_break, is_z, tab, line_feed, is_blank_or_break, Marker, Refusal, Cursor, ◌>>=◌, along, pass, pass_break, or_left, by_test, blank_no_break}
+use Rattle.saphyr_scalar.proofs.Common.{prefix_len, is_blank, is_bom, is_break, is_z, tab, line_feed, is_blank_or_break, Marker, Refusal, Cursor, ◌>>=◌, along, pass, pass_break, or_left, or_false_right, by_test, blank_no_break}
 use Rattle.saphyr_scalar.specs.Passing.{IsPassed, nothing}
 use Rattle.saphyr_scalar.specs.Steps.Plain.{PlainGap, ends_line, is_in_word, word_starts, content_behind_tab, reached_gap, line_front, lines, next_lines, gap_from, gap, next_word_starts, PlainScalarRead, with_text, gap_len, word_behind_gap, word, plain}
 use Rattle.saphyr_scalar.specs.Steps.Quoted.{mid_line}
@@ -52,11 +52,7 @@ lines_pass indent start tabbed feeds m (c ∷ cs) =
     by_test (is_blank_or_break c) _ _ (PassesLines start m (c ∷ cs))
     (λ _. one_passes start m c cs (λ k. lines indent start tabs fed k cs)
     (λ k. lines_pass indent start tabs fed k cs))
-    (λ e. reached_passes start tabbed feeds m (c ∷ cs) (λ b. stop_here m c cs b (no_break (is_blank c) (is_break c) e)))
-  where
-    no_break : (a b : Bool) → (a || b) ≡ false → b ≡ false
-    no_break true b e = absurd (cc)
-    no_break false b e = e
+    (λ e. reached_passes start tabbed feeds m (c ∷ cs) (λ b. stop_here m c cs b (or_false_right _ _ e)))
 
 -- ## Gaps
 

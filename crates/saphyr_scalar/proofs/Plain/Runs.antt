@@ -1,11 +1,11 @@
 -- What is between the words of a plain scalar, and what it is read as.
 use Rattle.saphyr_scalar.proofs.Common.{◌≡◌, ℕ, zero, suc, ◌+◌, Bool, true, false, List, [], ◌∷◌, ◌++◌, length, map, slice_index, refl, sym, ap, ◌∙◌, arith, IsTrue, append_assoc, cond, ◌||◌, ◌&&◌, ◌==◌, not, if◌then◌else◌, map-append, normalized, normal_break, is_blank, is_break, line_feed, is_blank_or_break, Item, Blank, Raw, Marker, along, next_line, blank_cases}
 use Rattle.saphyr_scalar.specs.Spelling.Tag.{AreIn}
-use Rattle.saphyr_scalar.specs.Values.Folding.{folded, is_before_break, raw_break, AreBreaks}
+use Rattle.saphyr_scalar.specs.Values.Folding.{folded, is_before_break, raw_break}
 use Rattle.saphyr_scalar.specs.Values.Flow.{raw_item}
 use Rattle.saphyr_scalar.specs.Steps.Plain.{ends_line}
 use Rattle.saphyr_scalar.specs.Reading.Plain.{end_of_text}
-use Rattle.saphyr_scalar.proofs.Readings.Foldings.{folds_breaks}
+use Rattle.saphyr_scalar.proofs.Plain.Foldings.{AreBreaks, folds_breaks}
 use Rattle.saphyr_scalar.proofs.Moving.{along_none, along_more}
 use Rattle.saphyr_scalar.proofs.Quoted.Inside.{break_cases}
 

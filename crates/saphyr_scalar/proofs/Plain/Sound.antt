@@ -4,10 +4,10 @@ use Rattle.saphyr_scalar.proofs.Common.{if◌then◌else◌, is_blank_or_break, 
 use Rattle.std.proofs.lemmas.List.{length-drop}
 use Rattle.saphyr_scalar.specs.declared.scalar.fault.FaultText.TheVariants as fault
 use Rattle.saphyr_scalar.specs.Steps.Quoted.{mid_line}
-use Rattle.saphyr_scalar.specs.Steps.Plain.{is_in_word, word_len, word_starts, next_word_starts, PlainGap, gap, PlainScalarRead, with_text, scalar_end, word, plain}
+use Rattle.saphyr_scalar.specs.Steps.Plain.{is_in_word, word_starts, next_word_starts, PlainGap, gap, PlainScalarRead, with_text, scalar_end, word, plain}
 use Rattle.saphyr_scalar.specs.Reading.Plain.{IsPlainReading}
 use Rattle.saphyr_scalar.specs.Spelling.LaterLines.{ArePlainLines}
-use Rattle.saphyr_scalar.proofs.Plain.Words.{word_left, word_len_more}
+use Rattle.saphyr_scalar.proofs.Plain.Words.{word_left, word_len_more, word_len}
 use Rattle.saphyr_scalar.proofs.Plain.Pieces.{plain_behind_gap, all_word, word_stops, word_over, goes_says, starts_says}
 use Rattle.saphyr_scalar.proofs.Plain.Gaps.{gap_end}
 use Rattle.saphyr_scalar.proofs.Plain.Indented.{GoesOn, goes_on}
@@ -92,20 +92,28 @@ word_reads (suc n) f i a m xs short goes begins x is =
 
 -- the scalar
 
+-- where something is read a word begins, and what is read is read from there
+plain_begins : (f : Bool) (i : ℕ) (s : Cursor) (x : Read) → plain f i s ≡ Ok x
+    → (u : Cursor) × (word_starts f s ≡ Ok (true, u)) × (word f i s.mark u.mark u.rest ≡ Ok x)
+unfolding plain
+plain_begins f i s x is = by (word_starts f s) refl is
+  where
+    by : (r : Result (Bool × Cursor) Refusal) → word_starts f s ≡ r
+        → (r >>= λ b. if b.0 then word f i s.mark b.1.mark b.1.rest else refuse fault.PlainEnd s.mark) ≡ Ok x
+        → (u : Cursor) × (word_starts f s ≡ Ok (true, u)) × (word f i s.mark u.mark u.rest ≡ Ok x)
+    by (Ok (true, u)) q e = (u, q, e)
+    by (Ok (false, u)) q e = absurd (no_reading _ x e)
+    by (Err r) q e = absurd (no_reading r x e)
+
 pub plain_lines : (f : Bool) (i : ℕ) (s t : Cursor) (text : List ℕ) (end : Marker) (comment : Option Marker)
     → plain f i s ≡ Ok (text, end, comment, t)
     → (r : IsPlainReading f s text end t) × ArePlainLines f i r.piece (r.white ++ t.rest)
-unfolding plain
-plain_lines f i s t text end comment is = by_start (word_starts f s) refl is
-  where
-    x : Read
-    x = (text, end, comment, t)
-
-    Goal : Type 0
-    Goal = (r : IsPlainReading f s text end t) × ArePlainLines f i r.piece (r.white ++ t.rest)
-
-    from_word : WordReads f i s.mark s.rest x → Goal
-    from_word r = (
+plain_lines f i s t text end comment is =
+    let x : Read = (text, end, comment, t) in
+    let (u, q, e) = plain_begins f i s x is in
+    let says = starts_says f true s u q in
+    let r = word_reads (length s.rest) f i s.mark s.mark s.rest (omega arith) (says.goes refl) (starts_begins f s u q)
+    x (rw says.same at e) in (
       record {
         piece = r.first ∷ r.others;
         white = r.white;
@@ -125,19 +133,6 @@ plain_lines f i s t text end comment is = by_start (word_starts f s) refl is
       r.later,
     )
 
-    by_first : (b : Bool) (u : Cursor) → word_starts f s ≡ Ok (b, u)
-        → (if b then word f i s.mark u.mark u.rest else refuse fault.PlainEnd s.mark) ≡ Ok x → Goal
-    by_first false u q e = absurd (no_reading _ x e)
-    by_first true u q e =
-        let says = starts_says f true s u q in
-        from_word (word_reads (length s.rest) f i s.mark s.mark s.rest (omega arith) (says.goes refl)
-        (starts_begins f s u q) x (rw says.same at e))
-
-    by_start : (r : Result (Bool × Cursor) Refusal) → word_starts f s ≡ r
-        → (r >>= λ b. if b.0 then word f i s.mark b.1.mark b.1.rest else refuse fault.PlainEnd s.mark) ≡ Ok x → Goal
-    by_start (Ok b) q e = by_first b.0 b.1 q e
-    by_start (Err r) q e = absurd (no_reading r x e)
-
 pub plain_reads : (f : Bool) (i : ℕ) (s t : Cursor) (text : List ℕ) (end : Marker) (comment : Option Marker)
     → plain f i s ≡ Ok (text, end, comment, t) → IsPlainReading f s text end t
 plain_reads f i s t text end comment is = (plain_lines f i s t text end comment is).0
@@ -150,21 +145,6 @@ first_non_space f (c ∷ cs) h = in_word_non_space f c cs h
 
 pub plain_non_space : (f : Bool) (i : ℕ) (s t : Cursor) (text : List ℕ) (end : Marker) (comment : Option Marker)
     → plain f i s ≡ Ok (text, end, comment, t) → is_blank_or_break (slice_index s.rest 0) ≡ false
-unfolding plain
-plain_non_space f i s t text end comment is = by_start (word_starts f s) refl is
-  where
-    x : Read
-    x = (text, end, comment, t)
-
-    Goal : Type 0
-    Goal = is_blank_or_break (slice_index s.rest 0) ≡ false
-
-    by_first : (b : Bool) (u : Cursor) → word_starts f s ≡ Ok (b, u)
-        → (if b then word f i s.mark u.mark u.rest else refuse fault.PlainEnd s.mark) ≡ Ok x → Goal
-    by_first false u q e = absurd (no_reading _ x e)
-    by_first true u q e = first_non_space f s.rest ((starts_says f true s u q).goes refl)
-
-    by_start : (r : Result (Bool × Cursor) Refusal) → word_starts f s ≡ r
-        → (r >>= λ b. if b.0 then word f i s.mark b.1.mark b.1.rest else refuse fault.PlainEnd s.mark) ≡ Ok x → Goal
-    by_start (Ok b) q e = by_first b.0 b.1 q e
-    by_start (Err r) q e = absurd (no_reading r x e)
+plain_non_space f i s t text end comment is =
+    let (u, q, e) = plain_begins f i s (text, end, comment, t) is in
+    first_non_space f s.rest ((starts_says f true s u q).goes refl)

@@ -1,12 +1,12 @@
 -- How the pieces that plain scalars are read from are spelled.
 use Rattle.saphyr_scalar.proofs.Common.{◌≡◌, ◌≢◌, ℕ, suc, ◌+◌, ◌<◌, Bool, true, false, List, [], ◌∷◌, ◌++◌, take, drop, slice_index, Result, Ok, refl, sym, ap, ◌∙◌, arith, subst, IsTrue, append_assoc, ◌||◌, ◌&&◌, ◌==◌, if◌then◌else◌, IsFalse, nat_tests, take-append-drop, is_flow, is_blank_or_breakz, is_blank_or_break, is_document_indicator, Marker, Refusal, Cursor, along, next_line, false≢true, eqb-true, colon, number_sign, by_test, blank_cases}
 use Rattle.saphyr_scalar.specs.Spelling.Tag.{AreIn}
-use Rattle.saphyr_scalar.specs.Steps.Plain.{is_in_word, word_len, word_starts, next_word_starts, ends_line}
+use Rattle.saphyr_scalar.specs.Steps.Plain.{is_in_word, word_starts, next_word_starts, ends_line}
 use Rattle.saphyr_scalar.specs.Reading.Plain.{end_of_text, IsSpelledPlain, IsSafeInFlow, ends_piece}
 use Rattle.saphyr_scalar.proofs.Moving.{along_none, along_more}
 use Rattle.saphyr_scalar.proofs.Quoted.Inside.{break_cases}
 use Rattle.saphyr_scalar.proofs.Quoted.Words.{both_true}
-use Rattle.saphyr_scalar.proofs.Plain.Words.{word_left}
+use Rattle.saphyr_scalar.proofs.Plain.Words.{word_left, word_len}
 use Rattle.saphyr_scalar.proofs.Plain.Runs.{IsNonSpace, AreNonSpace, NoFeed, same_ends}
 
 -- a word's characters

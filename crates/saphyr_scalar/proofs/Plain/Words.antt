@@ -1,6 +1,11 @@
 -- The words of a plain scalar.
-use Rattle.saphyr_scalar.proofs.Common.{◌≡◌, ◌≢◌, ℕ, ◌+◌, ◌<◌, Bool, true, false, List, [], ◌∷◌, length, drop, slice_index, refl, sym, ◌∙◌, arith, ◌==◌, ◌&&◌, ◌||◌, not, nat_tests, is_blank_or_breakz, is_bom, is_flow, colon}
-use Rattle.saphyr_scalar.specs.Steps.Plain.{is_in_word, word_len}
+use Rattle.saphyr_scalar.proofs.Common.{◌≡◌, ◌≢◌, ℕ, ◌+◌, ◌<◌, Bool, true, false, List, [], ◌∷◌, length, drop, slice_index, refl, sym, ◌∙◌, arith, ◌==◌, ◌&&◌, ◌||◌, not, nat_tests, is_blank_or_breakz, is_bom, is_flow, colon, if◌then◌else◌}
+use Rattle.saphyr_scalar.specs.Steps.Plain.{is_in_word}
+
+-- how many characters a word has from here on
+abbrev pub word_len : Bool → List ℕ → ℕ
+word_len in_flow [] = 0
+word_len in_flow (c ∷ cs) = if is_in_word in_flow (c ∷ cs) then 1 + word_len in_flow cs else 0
 
 pub word_left : (f : Bool) (xs : List ℕ) → is_in_word f xs ≡ true → 0 < length xs
 unfolding is_in_word

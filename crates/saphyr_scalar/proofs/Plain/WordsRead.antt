@@ -3,9 +3,9 @@ use Rattle.std.proofs.Common.{◌≡◌, ℕ, suc, ◌+◌, ◌≤◌, Bool, tru
 use Rattle.saphyr_scalar.proofs.Common.{append-nil, take-append-drop, length-take-le, encodes-append, is_blank_or_break, Marker, Cursor, along, by_test}
 use Rattle.saphyr_scalar.specs.Spelling.Tag.{AreIn}
 use Rattle.saphyr_scalar.specs.Values.Folding.{folded}
-use Rattle.saphyr_scalar.specs.Steps.Plain.{is_in_word, word_len, comment_of, PlainGap}
+use Rattle.saphyr_scalar.specs.Steps.Plain.{is_in_word, comment_of, PlainGap}
 use Rattle.saphyr_scalar.specs.Reading.Plain.{end_of_text, IsSpelledPlain, IsSafeInFlow, ends_piece}
-use Rattle.saphyr_scalar.proofs.Plain.Words.{word_left}
+use Rattle.saphyr_scalar.proofs.Plain.Words.{word_left, word_len}
 use Rattle.saphyr_scalar.proofs.Plain.Pieces.{word_stops}
 use Rattle.saphyr_scalar.proofs.Plain.Spelled.{Begins, Closes, word_spelled, white_spelled, word_safe, white_safe, word_follows, word_closes}
 use Rattle.saphyr_scalar.proofs.Plain.Runs.{IsNonSpace, AreNonSpace, items_of, non_space_no_feed, folded_word, passed_append, passed_word}

@@ -17,7 +17,6 @@ use Rattle.saphyr_scalar.specs.declared.scalar.block.header.BlockHeader.{BlockHe
 use Rattle.saphyr_scalar.specs.declared.scalar.block.lines.EmptyLines.{EmptyLines}
 use Rattle.saphyr_scalar.specs.declared.scalar.block.breaks.BlockEnd.{BlockEnd}
 use Rattle.saphyr_scalar.specs.Views.Cursor.{Cursor, ◌>>=◌, refuse, along, next_line, pass, pass_break, separation}
-use Rattle.saphyr_scalar.specs.Steps.Quoted.{with_front_run}
 use Rattle.saphyr_scalar.specs.Values.Folding.{line_feeds, raw_break}
 
 -- 8.1.1.2: the chomping indicator at the front, if there is one, and what comes after it
@@ -154,13 +153,6 @@ unfoldable mutual
 
 abbrev pub between_at : BlockStyle → ℕ → Option Bool → ℕ → Cursor → LinesRead
 between_at style i above lines s = between style i above lines s.blank_so_far s.mark s.rest
-
-abbrev pub line_at : BlockStyle → ℕ → Bool → Cursor → LinesRead
-line_at style i more s = line style i more s.blank_so_far s.mark s.rest
-
--- the rest of the line is put after a text
-abbrev pub with_line : List ℕ → Cursor → List ℕ × Cursor
-with_line = with_front_run is_yaml_non_break
 
 -- the lines after a text
 abbrev pub with_lines : List ℕ → LinesRead → List ℕ × BlockEnd × Cursor

@@ -1,8 +1,6 @@
 -- The escapes of double quoted scalars (YAML 1.2.2, 5.7).
-use Rattle.std.specs.Prelude.{ℕ, ◌+◌, ◌*◌, ◌<◌, ◌≤◌, ◌⊎◌, Bool, ◌||◌, ◌==◌, nat_lt, nat_le, if◌then◌else◌, Option, Some, None, option_map, option_and_then, List, [], ◌∷◌, length, take}
-use Rattle.saphyr_input.specs.Classes.{line_feed, is_from, is_hex, hex_value}
-use Rattle.saphyr_scalar.specs.declared.values.Item.{Item}
-use Rattle.saphyr_scalar.specs.declared.values.Item.TheVariants.{Escaped, EscapedBreak}
+use Rattle.std.specs.Prelude.{ℕ, ◌<◌, ◌≤◌, ◌⊎◌, Bool, ◌||◌, ◌==◌, nat_lt, if◌then◌else◌, Option, Some, None}
+use Rattle.saphyr_input.specs.Classes.{is_from}
 
 -- what a character after a backslash stands for, where it is a whole escape
 unfoldable pub short_escape : ℕ → Option ℕ
@@ -41,24 +39,3 @@ is_scalar_value n = nat_lt n 0xD800 || is_from 0xE000 0x10FFFF n
 
 abbrev pub IsScalarValue : ℕ → Type 0
 IsScalarValue n = (n < 0xD800) ⊎ ((0xDFFF < n) × (n ≤ 0x10FFFF))
-
--- the character whose number hexadecimal digits spell, after those that spell `number`
-abbrev pub hex_character : ℕ → List ℕ → Option ℕ
-hex_character number [] = if is_scalar_value number then Some number else None
-hex_character number (d ∷ ds) = if is_hex d then hex_character (number * 16 + hex_value d) ds else None
-
--- the character that an escape by number stands for, and how many digits that takes
-abbrev pub long_escape : List ℕ → ℕ → Option (ℕ × ℕ)
-long_escape text count =
-    if nat_le count (length text) then option_map (λ c. (c, count)) (hex_character 0 (take count text)) else None
-
-abbrev pub escape_named : Option ℕ → Option (ℕ × ℕ) → Option (Item × ℕ)
-escape_named (Some c) long = Some (Escaped c, 1)
-escape_named None long = option_map (λ x. (Escaped x.0, x.1 + 1)) long
-
--- the item that a text spells after a backslash, and how many characters of the text that takes
-abbrev pub escape : List ℕ → Option (Item × ℕ)
-escape [] = None
-escape (name ∷ text) =
-    if name == line_feed then Some (EscapedBreak, 1)
-    else escape_named (short_escape name) (option_and_then (long_escape text) (digit_count name))

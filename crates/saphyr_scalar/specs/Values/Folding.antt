@@ -1,5 +1,5 @@
 -- Line folding in flow scalars (YAML 1.2.2, 6.5), over the items of a scalar.
-use Rattle.std.specs.Prelude.{◌≡◌, ℕ, zero, suc, Bool, true, false, ◌||◌, if◌then◌else◌, List, [], ◌∷◌, ◌++◌, replicate}
+use Rattle.std.specs.Prelude.{ℕ, zero, suc, Bool, true, false, ◌||◌, if◌then◌else◌, List, [], ◌∷◌, ◌++◌, replicate}
 use Rattle.saphyr_input.specs.Classes.{line_feed, space}
 use Rattle.saphyr_scalar.specs.declared.values.Item.{Item}
 use Rattle.saphyr_scalar.specs.declared.values.Item.TheVariants.{Blank, Raw, Escaped, Break, EscapedBreak}
@@ -9,18 +9,14 @@ abbrev pub is_before_break : List Item → Bool
 is_before_break [] = false
 is_before_break (Blank c ∷ items) = is_before_break items
 is_before_break (Break ∷ items) = true
-is_before_break (Raw c ∷ items) = false
-is_before_break (Escaped c ∷ items) = false
-is_before_break (EscapedBreak ∷ items) = false
+is_before_break _ = false
 
 -- How many empty lines follow a break that comes before the items: lines of blanks alone that a raw break ends.
 abbrev pub empty_lines : List Item → ℕ
 empty_lines [] = zero
 empty_lines (Blank c ∷ items) = empty_lines items
 empty_lines (Break ∷ items) = suc (empty_lines items)
-empty_lines (Raw c ∷ items) = zero
-empty_lines (Escaped c ∷ items) = zero
-empty_lines (EscapedBreak ∷ items) = zero
+empty_lines _ = zero
 
 abbrev pub line_feeds : ℕ → List ℕ
 line_feeds n = replicate n line_feed
@@ -45,24 +41,3 @@ folded_from at_start (EscapedBreak ∷ items) = line_feeds (empty_lines items) +
 -- what a flow scalar's items read as
 abbrev pub folded : List Item → List ℕ
 folded items = folded_from false items
-
-abbrev pub AreBlankItems : List Item → Type 0
-AreBlankItems [] = Unit {0}
-AreBlankItems (Blank c ∷ items) = AreBlankItems items
-AreBlankItems (Raw c ∷ items) = ⊥
-AreBlankItems (Escaped c ∷ items) = ⊥
-AreBlankItems (Break ∷ items) = ⊥
-AreBlankItems (EscapedBreak ∷ items) = ⊥
-
--- so many raw breaks, with any blanks before, between and after them
-abbrev pub AreBreaks : ℕ → List Item → Type 0
-AreBreaks zero items = AreBlankItems items
-AreBreaks (suc n) items =
-    (blanks others : List Item) × AreBlankItems blanks × AreBreaks n others × (items ≡ blanks ++ (Break ∷ others))
-
--- Line folding, told without a state: before a character, breaks of which n end empty lines read as one raw break
--- before n empty lines does, and an escaped break and n empty lines read as n line feeds. No blank of them stays.
-abbrev pub FoldsBreaks : ℕ → List Item → ℕ → List Item → Type 0
-FoldsBreaks n breaks c others =
-    (AreBreaks (suc n) breaks → folded (breaks ++ (Raw c ∷ others)) ≡ raw_break n ++ (c ∷ folded others))
-    × (AreBreaks n breaks → folded (EscapedBreak ∷ (breaks ++ (Raw c ∷ others))) ≡ line_feeds n ++ (c ∷ folded others))

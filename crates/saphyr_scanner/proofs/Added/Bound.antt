@@ -13,7 +13,7 @@ use Rattle.saphyr_scanner.specs.Steps.Fetch.{size, without_far_key, needs_token,
 use Rattle.saphyr_scanner.specs.Steps.Remaining.{before_place, hand_out, remaining_after, run, remaining, scan}
 use Rattle.saphyr_scanner.proofs.Effects.Readers.{Readers, ReaderEnds}
 use Rattle.saphyr_scanner.proofs.Effects.Fetch.{Fetched, read_fetched}
-use Rattle.saphyr_scanner.proofs.Unroll.{behind}
+use Rattle.saphyr_scanner.proofs.Handing.Unroll.{behind}
 use Rattle.saphyr_scanner.proofs.Ordered.Queue.{GrowsInOrder}
 use Rattle.saphyr_scanner.proofs.Added.Queue.{tokens_at, tokens_in, open_blocks, due}
 use Rattle.saphyr_input.proofs.Basics.Booleans.{by_test}

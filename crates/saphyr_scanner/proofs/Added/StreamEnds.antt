@@ -14,8 +14,8 @@ use Rattle.saphyr_scanner.specs.Steps.Remaining.{before_place, hand_out, remaini
 use Rattle.saphyr_scanner.specs.Ends.{EndsWithStream}
 use Rattle.saphyr_scanner.proofs.Effects.Readers.{Readers}
 use Rattle.saphyr_scanner.proofs.Effects.Fetch.{EndStands, Standing, Fetched, read_fetched}
-use Rattle.saphyr_scanner.proofs.Filling.{going}
-use Rattle.saphyr_scanner.proofs.Unroll.{behind}
+use Rattle.saphyr_scanner.proofs.Handing.Filling.{going}
+use Rattle.saphyr_scanner.proofs.Handing.Unroll.{behind}
 use Rattle.saphyr_scanner.proofs.Added.Queue.{IsNoEnd, PlacesGoOn}
 use Rattle.saphyr_input.proofs.Basics.Booleans.{by_test}
 use Rattle.saphyr_scalar.proofs.Given.{given_of}

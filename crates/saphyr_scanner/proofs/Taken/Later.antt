@@ -1,13 +1,10 @@
 -- What is reached moves the place on: its lines count up, and no more than its characters do.
 use Rattle.saphyr_scanner.proofs.Common.{◌≡◌, ℕ, Bool, ◌+◌, ◌≤◌, ◌<◌, true, false, List, [], ◌∷◌, ◌++◌, length, drop, refl, arith, subst, IsTrue, slice_index, is_blank, is_break, is_z, Marker, Cursor, along, next_line, IsPassed, end_of_text, IsPlainReading, break_len, by_test}
+pub use Rattle.saphyr_scalar.proofs.Block.PlacedHeaders.{top}
 use Rattle.saphyr_scalar.specs.Steps.Plain.{ends_line}
 use Rattle.saphyr_scanner.specs.TokensTaken as taken
 use Rattle.saphyr_scanner.specs.TokensTaken.{IsReached, IsPassedOver, past_mark, begins_text}
 use Rattle.saphyr_scanner.proofs.Reached.{apart_reached, passed_reached}
-
--- the greatest number of a line
-abbrev pub top : ℕ
-top = 18446744073709551615
 
 pub record Later (m : Marker) (t : List ℕ) (n : Marker) (u : List ℕ) : Type 0 where
   pub index : m.index ≤ n.index

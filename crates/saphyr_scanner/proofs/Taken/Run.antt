@@ -9,7 +9,7 @@ use Rattle.saphyr_scanner.specs.Steps.Remaining.{before_place, hand_out, remaini
 use Rattle.saphyr_scanner.specs.TokensTaken as taken
 use Rattle.saphyr_scanner.specs.TokensTaken.{no_collections, IsPlaceOf, AreTokens, IsEndOf, AreTakenFrom}
 use Rattle.saphyr_scanner.proofs.Effects.Fetch.{Fetched, read_fetched}
-use Rattle.saphyr_scanner.proofs.Filling.{going}
+use Rattle.saphyr_scanner.proofs.Handing.Filling.{going}
 use Rattle.saphyr_scanner.proofs.Leads.{flat, place_pieces}
 use Rattle.saphyr_scanner.proofs.Effects.Readers.{Readers, TextLaws, RefusalLaws}
 use Rattle.saphyr_scanner.proofs.Taken.Later.{LaterThan, later_here, later_later}

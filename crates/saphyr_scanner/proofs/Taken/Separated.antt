@@ -1,6 +1,6 @@
 -- What is passed between two tokens is separation.
 use Rattle.saphyr_scanner.proofs.Common.{◌≡◌, ℕ, ◌+◌, ◌≤◌, ◌<◌, ◌⊎◌, Bool, true, false, List, [], ◌∷◌, ◌++◌, length, drop, Result, Ok, Err, IsTrue, IsFalse, refl, sym, ap, ◌∙◌, arith, subst, inl, inr, ◌&&◌, ◌||◌, ◌==◌, slice_index, not, is_bom, is_blank, is_break, is_yaml_non_break, is_z, carriage_return, line_feed, Marker, Refusal, Cursor, along, next_line, break_len, AreIn, along_more, eqb-true, and_parts, or_cases, number_sign, by_test, or_false_left, or_false_right, Given}
-use Rattle.saphyr_scanner.specs.Steps.Gap.{Gap, GapEnd, end_of_gap, end_of_gap_in_comment, gap_here, gap_at, is_gap_blank, stop, whole_gap, spaces_at, is_tab_indentation}
+use Rattle.saphyr_scanner.specs.Steps.Gap.{Gap, GapEnd, end_of_gap, end_of_gap_in_comment, gap_here, gap_at, is_passed_blank, stop, whole_gap, spaces_at, is_tab_indentation}
 use Rattle.saphyr_scanner.specs.TokensTaken as taken
 use Rattle.saphyr_scanner.specs.TokensTaken.{IsPassedOver, IsReached, AreApart, begins_text}
 use Rattle.saphyr_scanner.proofs.Gaps.{break_is_no_gap_blank, break_is_no_sign, gap_blank_is_blank, passes_no_feed}
@@ -105,13 +105,13 @@ all_gaps tabs l (c ∷ cs) m blank met tabbed =
     let indented = is_tab_indentation l m blank c || tabbed in
     let here : P (gap_here m blank met tabbed (c ∷ cs)) = taken.nothing m (c ∷ cs) in
     record {
-      between = by_test (is_gap_blank tabs c || ((c == 13) && (slice_index cs 0 == 10))) _ _ P
-          (λ e. elim (or_cases (is_gap_blank tabs c) ((c == 13) && (slice_index cs 0 == 10)) e) [
+      between = by_test (is_passed_blank tabs c || ((c == 13) && (slice_index cs 0 == 10))) _ _ P
+          (λ e. elim (or_cases (is_passed_blank tabs c) ((c == 13) && (slice_index cs 0 == 10)) e) [
             | inl b ↦ taken.blank m c cs _ _ (gap_blank_is_blank tabs c b) (further indented).between
             | inr r ↦ return indented r
           ])
           (λ e. by_test (is_break c) _ _ P
-          (λ b. line (or_false_right (is_gap_blank tabs c) ((c == 13) && (slice_index cs 0 == 10)) e) b)
+          (λ b. line (or_false_right (is_passed_blank tabs c) ((c == 13) && (slice_index cs 0 == 10)) e) b)
           (λ _. by_test (c == 35) _ _ P (λ s. comment_whole _ m c cs (eqb-true c 35 s) on.inside) (λ _. here)));
       inside = by_test (is_yaml_non_break c) _ _ Q (λ e. comment_more _ m c cs e on.inside)
           (λ n. by_test ((c == 13) && (slice_index cs 0 == 10)) _ _ Q

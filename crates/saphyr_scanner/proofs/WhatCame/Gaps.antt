@@ -7,7 +7,7 @@ use Rattle.saphyr_scalar.specs.declared.scalar.position.Marker.{Marker}
 use Rattle.saphyr_scalar.specs.declared.scalar.fault.Refusal.{Refusal}
 use Rattle.saphyr_scalar.specs.Views.Cursor.{Cursor, along, next_line}
 use Rattle.saphyr_scanner.specs.Steps.Core.{Core, least_column}
-use Rattle.saphyr_scanner.specs.Steps.Gap.{Gap, GapEnd, SpacesEnd, stop, gap_here, is_gap_blank, is_tab_indentation, end_of_gap, end_of_gap_in_comment, spaces_at, spaces_of}
+use Rattle.saphyr_scanner.specs.Steps.Gap.{Gap, GapEnd, SpacesEnd, stop, gap_here, is_passed_blank, is_tab_indentation, end_of_gap, end_of_gap_in_comment, spaces_at, spaces_of}
 use Rattle.saphyr_scanner.specs.Steps.Passing.{goes_on_behind, check_comment_of, check_comment, behind_gap, pass_gap}
 use Rattle.saphyr_scalar.specs.Known.{is_open, longer}
 use Rattle.saphyr_scalar.proofs.WhatCame.Rests.{some, InText, later_than, known_before, shown, later_here, later_on, first_known, indicator_known, plain_known}
@@ -50,7 +50,7 @@ module _ {X : Type 0} {asks says : Bool} {at : Left X} (more : List ℕ) (k : Ga
           (k (end_of_gap tabs least m blank met tabbed (r ++ more)))
       gap_came text m blank met tabbed [] h =
           further h.0 (ended (nothing m blank met tabbed (k (gap_here m blank met tabbed []))))
-      gap_came text m blank met tabbed (c ∷ cs) h = at_break_in k (is_gap_blank tabs c) c cs h.0
+      gap_came text m blank met tabbed (c ∷ cs) h = at_break_in k (is_passed_blank tabs c) c cs h.0
           (gap_came text (along m 1) blank (not tabs || met) (is_tab_indentation least m blank c || tabbed) cs
           (tab_in text m blank tabbed c cs h))
           (gap_came cs (next_line m 1) true true false cs (fresh cs)) (choose_of k (c == 35) (c == 35) (λ _. refl)

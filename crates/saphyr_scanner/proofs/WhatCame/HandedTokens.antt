@@ -10,9 +10,9 @@ use Rattle.saphyr_scanner.specs.Steps.State.{State, start}
 use Rattle.saphyr_scanner.specs.Steps.Fetch.{size, needs_token, take_token}
 use Rattle.saphyr_scanner.specs.Steps.Remaining.{hand_out, remaining, scan}
 use Rattle.saphyr_scanner.proofs.Effects.Readers.{Readers}
-use Rattle.saphyr_scanner.proofs.Filling.{read, going, smaller_read, IsSettled, read_settles}
-use Rattle.saphyr_scanner.proofs.Turns.{TakesToken, first_taken}
-use Rattle.saphyr_scanner.proofs.Unroll.{behind, enough, rest, remaining_is, settled_is}
+use Rattle.saphyr_scanner.proofs.Handing.Filling.{read, going, smaller_read, IsSettled, read_settles}
+use Rattle.saphyr_scanner.proofs.Handing.Turns.{TakesToken, first_taken}
+use Rattle.saphyr_scanner.proofs.Handing.Unroll.{behind, enough, rest, remaining_is, settled_is}
 use Rattle.saphyr_scanner.specs.Longer.{ScansTo, starts, reads, takes, before_all}
 
 -- one token more before others

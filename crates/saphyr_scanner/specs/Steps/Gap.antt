@@ -1,6 +1,7 @@
 -- What is between two tokens: blanks, breaks and comments (YAML 1.2.2, 6.7).
 use Rattle.std.specs.Prelude.{ℕ, Bool, true, false, ◌||◌, ◌&&◌, ◌==◌, not, nat_lt, List, [], ◌∷◌, slice_index, Result, Ok, if◌then◌else◌}
-use Rattle.saphyr_input.specs.Classes.{is_blank, is_break, is_bom, is_z, is_yaml_non_break, carriage_return, line_feed, space, tab}
+use Rattle.saphyr_input.specs.Classes.{is_break, is_bom, is_z, is_yaml_non_break, carriage_return, line_feed, space, tab}
+pub use Rattle.saphyr_input.specs.Fronts.{is_passed_blank}
 use Rattle.saphyr_input.specs.Indicators.{number_sign}
 use Rattle.saphyr_scalar.specs.declared.scalar.position.Marker.{Marker}
 use Rattle.saphyr_scalar.specs.declared.scalar.fault.Refusal.{Refusal}
@@ -21,18 +22,13 @@ abbrev pub gap_here : Marker → Bool → Bool → Bool → List ℕ → Gap
 gap_here m blank met tabbed text =
     record { cursor = record { rest = text; mark = m; blank_so_far = blank }; met = met; tabbed = tabbed }
 
--- Between two tokens all blanks are passed, and a break is what is met. After `?` no tab is passed, and a space is
--- met too (8.2.2).
-abbrev pub is_gap_blank : Bool → ℕ → Bool
-is_gap_blank true c = is_blank c
-is_gap_blank false c = c == space
-
--- Told character by character. CR before LF counts as a character of its line, and the LF ends the line.
+-- Between two tokens all blanks are passed, and a break is what is met. After `?` no tab is passed, and a space is met
+-- too (8.2.2). Told character by character: CR before LF counts as a character of its line, and the LF ends the line.
 abbrev mutual
   pub end_of_gap : Bool → ℕ → Marker → Bool → Bool → Bool → List ℕ → Gap
   end_of_gap tabs least m blank met tabbed [] = gap_here m blank met tabbed []
   end_of_gap tabs least m blank met tabbed (c ∷ cs) =
-      if is_gap_blank tabs c || ((c == carriage_return) && (slice_index cs 0 == line_feed)) then
+      if is_passed_blank tabs c || ((c == carriage_return) && (slice_index cs 0 == line_feed)) then
       end_of_gap tabs least (along m 1) blank (not tabs || met) (is_tab_indentation least m blank c || tabbed) cs
       else if is_break c then end_of_gap tabs least (next_line m 1) true true false cs
       else if c == number_sign then end_of_gap_in_comment tabs least (along m 1) blank met tabbed cs

@@ -21,7 +21,7 @@ impl<T: Input> Engine<T> {
 
     // Passes what is between a quoted scalar and the next token. Often that is an indicator right here.
     #[inline(always)]
-    #[tactic(auto, using(crate::proofs::QuotedEnds::gap_at_indicator))]
+    #[tactic(auto, using(crate::proofs::Ahead::QuotedEnds::gap_at_indicator))]
     fn pass_gap_to(&mut self, is_at_indicator: bool) -> Result<(), Stopped>
         requires { IsTrue is_at_indicator
             → is_entry_end (slice_index (state self.old).core.cursor.rest 0) ≡ true }

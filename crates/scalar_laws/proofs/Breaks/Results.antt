@@ -42,13 +42,6 @@ module _ {X : Type 0} {R : X → X → Type 0} where
     choose_in a b e then else = choose_first (rw (a, b) refl) e (λ h. let safe = no_break_in p b a s.rest h in
         then (first_same safe (normal_of e)) (one_passed safe e)) (λ _. else)
 
-pub both_so : {X : Type 0} {R S : X → X → Type 0} {r q : Result X Refusal} → ((x y : X) → R x y → S x y) → Both R r q
-    → Both S r q
-both_so {r = Ok x} {q = Ok y} so h = gives (so x y h.are)
-both_so {r = Err d} {q = Err e} so h = both_of h.are
-both_so {r = Ok x} {q = Err e} so h = absurd h.are
-both_so {r = Err d} {q = Ok y} so h = absurd h.are
-
 -- ## One step after another
 
 pub and_known : {X Y : Type 0} {R : X → X → Type 0} {Q : Y → Y → Type 0} {r q : Result X Refusal}

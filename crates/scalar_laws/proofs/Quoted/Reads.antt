@@ -1,6 +1,6 @@
 -- A quoted scalar whose lines are indented as they should be is read, without a fault, and gives the reading of its
 -- items.
-use Rattle.scalar_laws.proofs.Common.{◌≡◌, ℕ, ◌+◌, true, List, [], ◌∷◌, ◌++◌, length, drop, Ok, refl, ◌∙◌, encode_utf8_all, Marker, Item, Blank, Raw, Escaped, Break, EscapedBreak, Quote, Single, Double, Cursor, along, next_line, folded, IsPassed, character, along_more, letter_passed, digits_passed, letter_read, number_read, no_break_simple, no_break_digits, no_gap_bytes, AreOnLine, LinesFit}
+use Rattle.scalar_laws.proofs.Common.{◌≡◌, arith, ℕ, ◌+◌, true, List, [], ◌∷◌, ◌++◌, length, drop, Ok, refl, ◌∙◌, encode_utf8_all, Marker, Item, Escaped, Break, EscapedBreak, Quote, Single, Double, Cursor, along, next_line, folded, IsPassed, character, along_more, letter_passed, digits_passed, letter_read, number_read, no_break_simple, no_break_digits, no_gap_bytes, LinesFit}
 use Rattle.saphyr_scalar.specs.Values.Flow as flow
 use Rattle.saphyr_scalar.specs.Steps.Quoted.{mid_line, over_lines, no_gap, break_len, escaped_character, quoted}
 use Rattle.saphyr_scalar.specs.Spelling.Quoted as quotes
@@ -52,12 +52,15 @@ quoted_read q indent s items x is fit =
       cc (no_gap_bytes items),
     )
 
+-- no line break is among the items
+abbrev pub AreOnLine : List Item → Type 0
+AreOnLine [] = Unit {0}
+AreOnLine (Break ∷ items) = ⊥
+AreOnLine (EscapedBreak ∷ items) = ⊥
+AreOnLine (_ ∷ items) = AreOnLine items
+
 pub on_line_behind : (i : Item) (items : List Item) → AreOnLine (i ∷ items) → AreOnLine items
-on_line_behind (Blank c) items h = h
-on_line_behind (Raw c) items h = h
-on_line_behind (Escaped c) items h = h
-on_line_behind Break items h = absurd h
-on_line_behind EscapedBreak items h = absurd h
+on_line_behind i items h = grind arith
 
 -- a scalar on one line has no later line
 pub line_fits : (indent : ℕ) (q : Quote) (t : List ℕ) (items : List Item) (x : List ℕ) (r : quotes.IsText q t items x)

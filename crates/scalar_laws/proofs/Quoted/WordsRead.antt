@@ -58,10 +58,6 @@ closed_read q indent start m x h = record {
   bytes = closed_bytes;
 }
 
-pub record ItselfRead (q : Quote) (c : ℕ) : Type 0 where
-  pub content : is_blank c ≡ false → IsQuotedContent c
-  pub literal : is_blank c ≡ false → is_literal q c ≡ true
-
 pub literal_read : (q : Quote) (indent : ℕ) (start m : Marker) (c : ℕ) (t : List ℕ) (items : List Item) (x : List ℕ)
     → IsQuotedContent c → is_literal q c ≡ true → Read q indent start no_gap (along m 1) t items x
     → WordRead q indent start m (c ∷ t) (Raw c ∷ items) x

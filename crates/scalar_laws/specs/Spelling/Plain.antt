@@ -11,10 +11,6 @@ use Rattle.saphyr_scalar.specs.Spelling.LineBreaks.{ends_line}
 use Rattle.saphyr_scalar.specs.Steps.Plain.{is_in_word}
 use Rattle.saphyr_scalar.specs.Reading.Plain.{end_of_text}
 
--- a character that goes on with a word whatever follows it, inside flow and outside
-abbrev pub is_always_plain : ℕ → Bool
-is_always_plain c = not (is_blank_or_breakz c) && not (c == colon) && not (is_bom c) && not (is_flow c)
-
 -- the characters after the blanks
 abbrev pub behind_blanks : List ℕ → List ℕ
 behind_blanks xs = drop (prefix_len is_blank xs) xs

@@ -1,12 +1,11 @@
 -- The lines of quoted scalars (YAML 1.2.2, 7.3.1, 7.3.2 and 6.5).
-use Rattle.std.specs.Prelude.{ℕ, ◌≤◌, ◌==◌, ◌⊎◌, List, [], ◌∷◌, drop, slice_index, IsTrue, IsFalse}
+use Rattle.std.specs.Prelude.{ℕ, ◌≤◌, ◌==◌, ◌⊎◌, List, drop, slice_index, IsTrue, IsFalse}
 use Rattle.std.specs.List.{prefix_len}
 use Rattle.saphyr_input.specs.Classes.{is_break, space}
 use Rattle.saphyr_input.specs.Places.{is_document_indicator}
 use Rattle.saphyr_scalar.specs.Spelling.LineBreaks.{break_len}
 use Rattle.saphyr_scalar.specs.Spelling.Quoted.{IsText, closed, itself, broken, two_quotes, escaped, numbered, escaped_break}
 use Rattle.saphyr_scalar.specs.declared.values.Item.{Item}
-use Rattle.saphyr_scalar.specs.declared.values.Item.TheVariants.{Blank, Raw, Escaped, Break, EscapedBreak}
 use Rattle.saphyr_scalar.specs.declared.values.Quote.{Quote}
 
 -- how many spaces come first
@@ -18,15 +17,6 @@ space_count t = prefix_len (λ c. c == space) t
 pub record IsLine (indent : ℕ) (t : List ℕ) : Type 0 where
   pub no_marker : IsFalse (is_document_indicator t)
   pub indented : (indent ≤ space_count t) ⊎ IsTrue (is_break (slice_index (drop (space_count t) t) 0))
-
--- no line break is among the items
-abbrev pub AreOnLine : List Item → Type 0
-AreOnLine [] = Unit {0}
-AreOnLine (Blank c ∷ items) = AreOnLine items
-AreOnLine (Raw c ∷ items) = AreOnLine items
-AreOnLine (Escaped c ∷ items) = AreOnLine items
-AreOnLine (Break ∷ items) = ⊥
-AreOnLine (EscapedBreak ∷ items) = ⊥
 
 -- each later line of a scalar is so
 abbrev pub LinesFit : ℕ → (q : Quote) (t : List ℕ) (items : List Item) (x : List ℕ) → IsText q t items x → Type 0

@@ -1,7 +1,7 @@
 -- What is between two tokens is passed alike in a text and in its normalized text.
 use Rattle.std.proofs.Common.{◌≡◌, ℕ, ◌+◌, ◌≤◌, Bool, true, false, List, ◌∷◌, length, refl, sym, ap, arith, Option, Some, None}
 use Rattle.yaml_laws.proofs.Common.{◌==◌, ◌^◌, ◌&&◌, ◌||◌, not, slice_index, normalized, is_break, is_yaml_non_break, is_bom, is_z, carriage_return, line_feed, Marker, Cursor, along, next_line, Normal, normalized_is, nothing, character, feed, return, pair, Both, gives, refused, choose_same, and_then, no_return, cursor_at, passes_no_feed, passes_no_return, Core, least_column}
-use Rattle.saphyr_scanner.specs.Steps.Gap.{Gap, GapEnd, stop, end_of_gap, end_of_gap_in_comment, gap_at, gap_here, is_gap_blank, is_tab_indentation}
+use Rattle.saphyr_scanner.specs.Steps.Gap.{Gap, GapEnd, stop, end_of_gap, end_of_gap_in_comment, gap_at, gap_here, is_passed_blank, is_tab_indentation}
 use Rattle.yaml_laws.proofs.Breaks.Normal.{beside, first_is, indicator_so, plain_so}
 use Rattle.yaml_laws.proofs.Breaks.Places.{reindexed, near, Ahead, Stand, Low, ahead_ahead, ahead_stands, stand_here, choose_by, line_from, character_ahead, two_ahead, single_ahead}
 use Rattle.saphyr_scanner.specs.Steps.Passing.{pass_gap, check_comment, goes_on_behind, behind_gap, check_comment_of}
@@ -47,9 +47,9 @@ module _ (text : List ℕ) (tabs : Bool) (least : ℕ) where
       (i, rw (content_is c unbroken w) refl, stand_here text (cursor_at (c ∷ t) m blank) i x, unbroken) in
       let cut = not_cut c t n e in
       record {
-        between = choose_by P (is_gap_blank tabs c || ((c == 13) && (slice_index t 0 == 10)))
-            (is_gap_blank tabs c || ((c == 13) && (slice_index n 0 == 10))) _ _ _ _
-            (ap (λ b. is_gap_blank tabs c || b) cut)
+        between = choose_by P (is_passed_blank tabs c || ((c == 13) && (slice_index t 0 == 10)))
+            (is_passed_blank tabs c || ((c == 13) && (slice_index n 0 == 10))) _ _ _ _
+            (ap (λ b. is_passed_blank tabs c || b) cut)
             (λ _. from_ahead on (more (not tabs || met) (is_tab_indentation least m blank c || tabbed)).between)
             (λ _. choose_by P (is_break c) (is_break c) _ _ _ _ refl (λ k. absurd (cc))
             (λ _. choose_by P (c == 35) (c == 35) _ _ _ _ refl (λ _. from_ahead on (more met tabbed).inside)

@@ -3,7 +3,7 @@ use Rattle.yaml_laws.proofs.Common.{Err, List, Ok, Result, Some, [], ap, arith, 
 use Rattle.saphyr_scanner.specs.Grammar.Tokens as tokens
 use Rattle.saphyr_scanner.specs.Steps.Fetch.{size, without_far_key, needs_token, any_holds, step, is_value_adjacent, state_behind_content, fetch_here, arrive, fetch, check_limit, fetch_within}
 use Rattle.saphyr_scanner.specs.Steps.Remaining.{before_place, hand_out, remaining_after, run, remaining, scan}
-use Rattle.saphyr_scanner.proofs.Filling.{read, less_read}
+use Rattle.saphyr_scanner.proofs.Handing.Filling.{read, less_read}
 use Rattle.yaml_laws.proofs.Breaks.Cores.{Indexes, near_core, near_key, near_levels, first, others, Anywhere, Twin, Laws, BeginsUnbroken, Unbroken, here, of_cores, and_core, drop_same, twin_alike}
 use Rattle.yaml_laws.proofs.Breaks.Places.{reindexed, even_here, choose_by}
 use Rattle.yaml_laws.proofs.Breaks.States.{SamePlaces, SameQueues, States, holding, same_next, put_same, SameSteps, Holds, AlikeStates, and_state, unroll_same, after_step_same, on_core_same}

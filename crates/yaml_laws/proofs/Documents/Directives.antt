@@ -1,5 +1,5 @@
 -- Directives are read.
-use Rattle.yaml_laws.proofs.Common.{Bool, List, Ok, [], ap, append-nil, append_assoc, arith, encode_utf8_all, false, inl, length, refl, slice_index, subst, sym, true, ℕ, ◌++◌, ◌+◌, ◌∙◌, ◌∷◌, ◌≡◌, ◌≤◌, None, Option, map, Marker, Cursor, along, next_line, Reserved, TagPrefix, Version, Kind, directive_token, Place, bare_place, Candidate, State, AreDirectives, IsDirective, cursor_at, eq-eqb, false≢true, percent_sign, line_feed, length-append, ReadDirective, version, tag_prefix, reserved, IsDirectiveText, IsLineTail, IsHandle, state_at}
+use Rattle.yaml_laws.proofs.Common.{Bool, List, Ok, [], ap, append-nil, append_assoc, arith, encode_utf8_all, false, inl, length, refl, slice_index, subst, sym, true, ℕ, ◌++◌, ◌+◌, ◌∙◌, ◌∷◌, ◌≡◌, ◌≤◌, map, Marker, Cursor, along, next_line, Reserved, TagPrefix, Version, Kind, directive_token, State, AreDirectives, IsDirective, cursor_at, eq-eqb, false≢true, percent_sign, line_feed, length-append, ReadDirective, version, tag_prefix, reserved, IsDirectiveText, IsLineTail, IsHandle}
 use Rattle.saphyr_scalar.specs.Steps.Directive as directives
 use Rattle.saphyr_scanner.specs.declared.engine.level.Context.TheVariants as context
 use Rattle.saphyr_scanner.specs.Grammar.Forest as forest
@@ -10,17 +10,15 @@ use Rattle.saphyr_scanner.specs.Steps.Document.{end_content, read_directive, dir
 use Rattle.saphyr_scanner.specs.Steps.Fetch.{fetch_here}
 use Rattle.yaml_laws.proofs.Flow.States.{past, ReaderPromises}
 use Rattle.yaml_laws.proofs.Documents.Lines.{passes_filler}
-use Rattle.yaml_laws.proofs.Documents.Stands.{StandsLined, lined_so, Lined, reads_token}
+use Rattle.yaml_laws.proofs.Documents.Stands.{Fetches, StandsLined, lined_so, Lined, reads_token}
 use Rattle.yaml_laws.proofs.InBlock.Lines.{one_lined}
 use Rattle.yaml_laws.proofs.Documents.Markers.{piece_of, at_line}
 
-directive_here : (m e : Marker) (blank : Bool) (r : List ℕ) (d : ReadDirective) (u : Cursor)
-    (k : Option Candidate) (a : Bool) (ad : ℕ) (ps : List Place) → m.col ≡ 0
-    → directives.directive (cursor_at (percent_sign ∷ r) m blank) ≡ Ok (d, e, u)
-    → fetch_here (state_at false (cursor_at (percent_sign ∷ r) m blank) context.Block k [] a ad ps)
-    ≡ Ok (state_at false u context.Block None [] false ad (ps ++ bare_place (piece_of m e (directive_kind d)) ∷ []))
+directive_here : (m e : Marker) (r : List ℕ) (d : ReadDirective) (u : Cursor) → m.col ≡ 0
+    → ((blank : Bool) → directives.directive (cursor_at (percent_sign ∷ r) m blank) ≡ Ok (d, e, u))
+    → Fetches m (percent_sign ∷ r) (λ _. u) false (piece_of m e (directive_kind d))
 unfolding fetch_here document.state_behind_directive end_content remove_key unroll read_directive
-directive_here m e blank r d u k a ad ps col is = rw (eq-eqb m.col 0 col, is) refl
+directive_here m e r d u col is blank k a ad ps = rw (eq-eqb m.col 0 col, is blank) refl
 
 -- ## How a directive is read
 
@@ -97,13 +95,12 @@ reads_directive {limit = limit} {start = start} {ts = ts} d t o h v =
     let n = next_line (along v.mark (length t)) 1 in
     let text : t ++ (10 ∷ o) ≡ 37 ∷ (b.0 ++ (10 ∷ o)) = ap (λ (x : List ℕ). x ++ (10 ∷ o)) b.1 in
     let here = ap (past 0 v.mark) text ∙ ap (λ (x : List ℕ). (v.mark, x)) (sym text) in
-    let fetched = λ (blank : Bool) (key : Option Candidate) (allowed : Bool) (ad : ℕ) (ps : List Place).
-    ap (λ (x : List ℕ). fetch_here (state_at false (cursor_at x v.mark blank) context.Block key [] allowed ad ps)) text
-    ∙ directive_here v.mark (h.end v.mark) blank (b.0 ++ (10 ∷ o)) h.said (cursor_at o n true) key allowed ad ps col
-    (cc (h.reads v.mark blank o)) in
+    let u = cursor_at o n true in
+    let piece = piece_of v.mark (h.end v.mark) (directive_kind h.said) in
+    let fetched : Fetches v.mark (t ++ (10 ∷ o)) (λ _. u) false piece = rw text
+    (directive_here v.mark (h.end v.mark) (b.0 ++ (10 ∷ o)) h.said u col (λ blank. cc (h.reads v.mark blank o))) in
     subst (λ (k : Kind). StandsLined limit start true false o (ts ++ k ∷ [])) h.kind
-    (reads_token v here (inl refl) (λ _. cursor_at o n true) false
-    (piece_of v.mark (h.end v.mark) (directive_kind h.said)) fetched (Lined false o) n o (λ _. refl)
+    (reads_token v here (inl refl) (λ _. u) false piece fetched (Lined false o) n o (λ _. refl)
     (line_count v.mark t o limit v.count) (λ _. (inl refl, λ e. absurd (false≢true e)))
     (index_behind_next v.mark.index (length t))
     (one_lined (along v.mark (length t)) 10 (wider v.mark.line v.mark.index (length t) v.lined)))

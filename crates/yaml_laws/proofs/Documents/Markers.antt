@@ -1,5 +1,5 @@
 -- Document markers, byte order marks and the text's end are read.
-use Rattle.yaml_laws.proofs.Common.{Bool, IsTrue, List, Ok, [], ap, arith, false, inl, inr, length, refl, slice_index, sym, true, ℕ, ◌++◌, ◌+◌, ◌∙◌, ◌∷◌, ◌≡◌, ◌≤◌, ◌⊎◌, None, Option, ◌==◌, ◌||◌, nat_tests, is_blank_or_breakz, is_breakz, is_document_indicator, SkipTabs, Yes, Marker, along, separation, cursor_at, IsEol, Kind, Piece, Place, bare_place, Candidate, State, LeadsTo, or-false, or-true, eq-eqb, full_stop, hyphen, place_kinds, place_kinds_append, length-append, cons_not_empty, state_at, fetches_stream_end, stream_end_place}
+use Rattle.yaml_laws.proofs.Common.{Bool, IsTrue, List, Ok, [], ap, arith, false, inl, inr, length, refl, slice_index, sym, true, ℕ, ◌++◌, ◌+◌, ◌∙◌, ◌∷◌, ◌≡◌, ◌≤◌, ◌⊎◌, ◌==◌, ◌||◌, nat_tests, is_blank_or_breakz, is_breakz, is_document_indicator, SkipTabs, Yes, Marker, along, separation, cursor_at, IsEol, Kind, Piece, State, LeadsTo, or-false, or-true, eq-eqb, full_stop, hyphen, place_kinds, place_kinds_append, length-append, cons_not_empty, state_at, fetches_stream_end, stream_end_place}
 use Rattle.saphyr_scanner.specs.declared.engine.level.Context.TheVariants as context
 use Rattle.saphyr_scanner.specs.Grammar.Tokens as tokens
 use Rattle.saphyr_scanner.specs.Steps.Core.{remove_key}
@@ -9,7 +9,7 @@ use Rattle.saphyr_scanner.specs.Steps.Fetch.{fetch_here}
 use Rattle.yaml_laws.proofs.Flow.GapSteps.{past_count}
 use Rattle.yaml_laws.proofs.Flow.Separates.{separates_rest}
 use Rattle.yaml_laws.proofs.Documents.Lines.{eol, eol_first, break_ends}
-use Rattle.yaml_laws.proofs.Documents.Stands.{StandsLined, reads_here, AtLine, Lined, BehindStart, StandsInStream, reads_token}
+use Rattle.yaml_laws.proofs.Documents.Stands.{Fetches, StandsLined, reads_here, AtLine, Lined, BehindStart, StandsInStream, reads_token}
 use Rattle.yaml_laws.proofs.InBlock.States.{crosses, moved, past}
 use Rattle.yaml_laws.proofs.InBlock.Follows.{comes_to_end}
 
@@ -26,13 +26,11 @@ at_line o m h k = grind arith
 along_lined : (m : Marker) (n : ℕ) → m.line ≤ m.index + 1 → m.line ≤ m.index + n + 1
 along_lined m n h = omega (arith, h)
 
-pub start_here : (m : Marker) (blank : Bool) (r : List ℕ) (k : Option Candidate) (a : Bool) (ad : ℕ) (ps : List Place)
-    → m.col ≡ 0 → is_blank_or_breakz (slice_index r 0) ≡ true
-    → fetch_here (state_at false (cursor_at (hyphen ∷ hyphen ∷ hyphen ∷ r) m blank) context.Block k [] a ad ps)
-    ≡ Ok (state_at false (cursor_at r (along m 3) false) context.Block None [] false ad
-    (ps ++ bare_place (piece_of m (along m 3) tokens.DocumentStart) ∷ []))
+pub start_here : (m : Marker) (r : List ℕ) → m.col ≡ 0 → is_blank_or_breakz (slice_index r 0) ≡ true
+    → Fetches m (hyphen ∷ hyphen ∷ hyphen ∷ r) (λ _. cursor_at r (along m 3) false) false
+    (piece_of m (along m 3) tokens.DocumentStart)
 unfolding fetch_here state_behind_marker end_content remove_key unroll
-start_here m blank r k a ad ps col h = rw (eq-eqb m.col 0 col, h) refl
+start_here m r col h blank k a ad ps = rw (eq-eqb m.col 0 col, h) refl
 
 off_line : (n : ℕ) → (n + 3 == 0) ≡ false
 off_line n = grind (arith, nat_tests)
@@ -57,7 +55,7 @@ reads_start {limit = limit} r v h =
     let col = at_line (45 ∷ 45 ∷ 45 ∷ r) v.mark v.line.0 (cons_not_empty 45 (45 ∷ 45 ∷ r)) in
     reads_token v refl (inr (inr (col, inl (start_ends r h)))) (λ _. cursor_at r (along v.mark 3) false) false
     (piece_of v.mark (along v.mark 3) tokens.DocumentStart)
-    (λ blank key allowed ad ps. start_here v.mark blank r key allowed ad ps col h) (BehindStart r) (along v.mark 3) r
+    (start_here v.mark r col h) (BehindStart r) (along v.mark 3) r
     (λ _. refl) (start_count v.mark r limit v.count) (λ _. (off_line v.mark.col, or-false (crosses r)))
     (index_behind v.mark.index 3) (along_lined v.mark 3 v.lined)
 
@@ -67,13 +65,11 @@ reads_start {limit = limit} r v h =
 abbrev pub beyond_byte_order_mark : Marker → Marker
 beyond_byte_order_mark m = record { index = m.index + 1; line = m.line; col = m.col }
 
-mark_here : (m : Marker) (blank : Bool) (r : List ℕ) (k : Option Candidate) (a : Bool) (ad : ℕ) (ps : List Place)
-    → m.col ≡ 0
-    → fetch_here (state_at false (cursor_at (65279 ∷ r) m blank) context.Block k [] a ad ps)
-    ≡ Ok (state_at false (cursor_at r (beyond_byte_order_mark m) blank) context.Block None [] true ad
-    (ps ++ bare_place (piece_of m (beyond_byte_order_mark m) tokens.ByteOrderMark) ∷ []))
+mark_here : (m : Marker) (r : List ℕ) → m.col ≡ 0
+    → Fetches m (65279 ∷ r) (λ blank. cursor_at r (beyond_byte_order_mark m) blank) true
+    (piece_of m (beyond_byte_order_mark m) tokens.ByteOrderMark)
 unfolding fetch_here state_behind_byte_order_mark end_content remove_key unroll
-mark_here m blank r k a ad ps col = grind (arith, nat_tests)
+mark_here m r col blank k a ad ps = grind (arith, nat_tests)
 
 mark_count : (m : Marker) (r : List ℕ) (limit : ℕ) → m.index + length (65279 ∷ r) ≤ limit
     → m.index + 1 + length r ≤ limit
@@ -86,22 +82,21 @@ reads_mark {limit = limit} r v =
     let col = at_line (65279 ∷ r) v.mark v.line.0 (cons_not_empty 65279 r) in
     reads_token v refl (inr (inr (col, inr refl))) (λ blank. cursor_at r (beyond_byte_order_mark v.mark) blank) true
     (piece_of v.mark (beyond_byte_order_mark v.mark) tokens.ByteOrderMark)
-    (λ blank key allowed ad ps. mark_here v.mark blank r key allowed ad ps col) (Lined true r)
+    (mark_here v.mark r col) (Lined true r)
     (beyond_byte_order_mark v.mark) r
     (λ _. refl) (mark_count v.mark r limit v.count) (λ _. (inl col, λ _. inl (or-true (crosses r))))
     (index_behind v.mark.index 1) (along_lined v.mark 1 v.lined)
 
 -- ## `...`
 
-pub end_here : (m n : Marker) (blank : Bool) (r more : List ℕ) (found : SkipTabs) (k : Option Candidate) (a : Bool)
-    (ad : ℕ) (ps : List Place) → m.col ≡ 0 → is_blank_or_breakz (slice_index r 0) ≡ true
+pub end_here : (m n : Marker) (r more : List ℕ) (found : SkipTabs) → m.col ≡ 0
+    → is_blank_or_breakz (slice_index r 0) ≡ true
     → separation Yes (cursor_at r (along m 3) false) ≡ Ok (found, cursor_at more n false)
     → is_breakz (slice_index more 0) ≡ true
-    → fetch_here (state_at false (cursor_at (full_stop ∷ full_stop ∷ full_stop ∷ r) m blank) context.Block k [] a ad ps)
-    ≡ Ok (state_at false (cursor_at more n false) context.Block None [] false ad
-    (ps ++ bare_place (piece_of m (along m 3) tokens.DocumentEnd) ∷ []))
+    → Fetches m (full_stop ∷ full_stop ∷ full_stop ∷ r) (λ _. cursor_at more n false) false
+    (piece_of m (along m 3) tokens.DocumentEnd)
 unfolding fetch_here state_behind_document_end state_behind_marker end_content remove_key unroll end_line
-end_here m n blank r more found k a ad ps col first is h = grind arith
+end_here m n r more found col first is h blank k a ad ps = grind arith
 
 pub end_ends : (r : List ℕ) → is_blank_or_breakz (slice_index r 0) ≡ true
     → IsTrue (is_document_indicator (full_stop ∷ full_stop ∷ full_stop ∷ r))
@@ -127,8 +122,7 @@ reads_end {limit = limit} end o v h =
     let n = moved (along v.mark 3) e.rest in
     reads_token v refl (inr (inr (col, inl (end_ends r first)))) (λ _. cursor_at e.more n false) false
     (piece_of v.mark (along v.mark 3) tokens.DocumentEnd)
-    (λ blank key allowed ad ps. end_here v.mark n blank r e.more sep.0 key allowed ad ps col first sep.1
-    (break_ends e.more e.break)) (Lined true o) e.mark o (λ _. e.behind 0)
+    (end_here v.mark n r e.more sep.0 col first sep.1 (break_ends e.more e.break)) (Lined true o) e.mark o (λ _. e.behind 0)
     (end_count v.mark e.mark r o limit v.count e.count) (λ _. (e.place, λ _. opens e.more o e.opens))
     (end_further v.mark e.mark end o e.count) (e.lined (along_lined v.mark 3 v.lined))
   where
@@ -161,7 +155,7 @@ reads_stream_end {limit = limit} {free = free} {o = o} {ts = ts} v m text =
     true (λ blank. cursor_at [] m blank) (λ key. key) false (v.places ++ stream_end_place m ∷ [])
     (λ blank key allowed. fetches_stream_end m blank key allowed v.adjacent v.places) (λ _. low) in
     record {
-      last = state_at true (cursor_at [] m r.0) context.Block r.1 [] false v.adjacent
+      last = state_at true (cursor_at [] m r.0) r.1 false v.adjacent
           (v.places ++ stream_end_place m ∷ []);
       leads = comes_to_end v.follows refl r.4 refl;
       over = refl;

@@ -38,8 +38,8 @@ record PassesNoted (co : Option Marker) (s : Cursor) (k : Option Candidate) (a :
     (y : List ℕ) : Type 0 where
   blank : Bool
   allowed : Bool
-  is : pass_gap (record (core_at false s context.Block k [] a ad) { comment = co })
-      ≡ Ok (core_at false (cursor_at y m blank) context.Block k [] allowed ad)
+  is : pass_gap (record (core_at false s k a ad) { comment = co })
+      ≡ Ok (core_at false (cursor_at y m blank) k allowed ad)
 
 passes_noted : (co : Option Marker) (s : Cursor) (k : Option Candidate) (a : Bool) (ad : ℕ) (m : Marker) (y : List ℕ)
     → past 0 s.mark s.rest ≡ (m, y) → (co ≡ None) ⊎ EndsDocument m y → PassesNoted co s k a ad m y
@@ -51,14 +51,14 @@ passes_noted None s k a ad m y here h =
 passes_noted (Some comment) s k a ad m y here (inl e) = absurd (cc)
 passes_noted (Some comment) s k a ad m y here (inr h) =
     let g = gap_past 0 s.mark s.blank_so_far s.rest in
-    let c : Core = record (core_at false s context.Block k [] a ad) { comment = Some comment } in
+    let c : Core = record (core_at false s k a ad) { comment = Some comment } in
     let there = g.is (past_no_blank s.mark s.rest) 0 none_less
     ∙ ap (λ (p : Marker × List ℕ). stop (gap_here p.0 g.still_blank (crosses s.rest) false p.1)) here in
     let b = (crosses s.rest && true) || a in
     let goes : check_comment
-    (record (core_at false (cursor_at y m g.still_blank) context.Block k [] b ad) { comment = Some comment })
-    ≡ Ok (core_at false (cursor_at y m g.still_blank) context.Block k [] b ad) =
-    rw (none_goes_on comment (core_at false (cursor_at y m g.still_blank) context.Block k [] b ad) h) refl in
+    (record (core_at false (cursor_at y m g.still_blank) k b ad) { comment = Some comment })
+    ≡ Ok (core_at false (cursor_at y m g.still_blank) k b ad) =
+    rw (none_goes_on comment (core_at false (cursor_at y m g.still_blank) k b ad) h) refl in
     record {
       blank = g.still_blank;
       allowed = b;
@@ -71,8 +71,8 @@ record Reaches (co : Option Marker) (s : Cursor) (k : Option Candidate) (a : Boo
   blank : Bool
   key : Option Candidate
   allowed : Bool
-  is : arrive (noted co (state_at false s context.Block k [] a ad ps))
-      ≡ Ok (state_at false (cursor_at y m blank) context.Block key [] allowed ad ps)
+  is : arrive (noted co (state_at false s k a ad ps))
+      ≡ Ok (state_at false (cursor_at y m blank) key allowed ad ps)
 
 reaches : (co : Option Marker) (s : Cursor) (k : Option Candidate) (a : Bool) (ad : ℕ) (ps : List Place) (m : Marker)
     (y : List ℕ) → past 0 s.mark s.rest ≡ (m, y) → (co ≡ None) ⊎ EndsDocument m y
@@ -81,7 +81,7 @@ unfolding arrive
 reaches co s k a ad ps m y text h =
     let g = passes_noted co s k a ad m y text h in
     let there = cursor_at y m g.blank in
-    let d = drops_key false there context.Block k [] g.allowed ad in
+    let d = drops_key false there k g.allowed ad in
     let reached = ap (λ r. r >>= drop_far_key) g.is ∙ d.is in
     record {
       blank = g.blank;
@@ -96,17 +96,17 @@ pub reads_here : (limit : ℕ) (co : Option Marker) (s : Cursor) (k : Option Can
     → past 0 s.mark s.rest ≡ (m, y) → (co ≡ None) ⊎ EndsDocument m y
     → (e : Bool) (t : Bool → Cursor) (j : Option Candidate → Option Candidate) (b : Bool) (qs : List Place)
     → ((blank : Bool) (key : Option Candidate) (allowed : Bool)
-    → fetch_here (state_at false (cursor_at y m blank) context.Block key [] allowed ad ps)
-    ≡ Ok (state_at e (t blank) context.Block (j key) [] b ad qs))
+    → fetch_here (state_at false (cursor_at y m blank) key allowed ad ps)
+    ≡ Ok (state_at e (t blank) (j key) b ad qs))
     → ((blank : Bool) → (t blank).mark.index ≤ limit)
     → (blank : Bool) × (key : Option Candidate) × (seen : Option Candidate) × (j seen ≡ None → key ≡ None)
-    × LeadsTo limit (state_at e (t blank) context.Block key [] b ad qs)
-    (noted co (state_at false s context.Block k [] a ad ps))
+    × LeadsTo limit (state_at e (t blank) key b ad qs)
+    (noted co (state_at false s k a ad ps))
 unfolding fetch
 reads_here limit co s k a ad ps m y text h e t j b qs is low =
     let v = reaches co s k a ad ps m y text h in
-    let came = comes limit (noted co (state_at false s context.Block k [] a ad ps)) e (t v.blank) context.Block
-    (j v.key) [] b ad qs refl (ap (λ r. r >>= fetch_here) v.is ∙ is v.blank v.key v.allowed) (low v.blank) in
+    let came = comes limit (noted co (state_at false s k a ad ps)) e (t v.blank)
+    (j v.key) b ad qs refl (ap (λ r. r >>= fetch_here) v.is ∙ is v.blank v.key v.allowed) (low v.blank) in
     (v.blank, came.key, v.key, came.none, came.leads)
 
 -- ## Places
@@ -140,7 +140,7 @@ pub record StandsInStream (limit : ℕ) (start : State) (free : Bool) (P : Marke
   pub places : List Place
   pub mark : Marker
   pub none : free ≡ true → key ≡ None
-  pub follows : GoesOnAs limit start (noted comment (state_at false there context.Block key [] allowed adjacent places))
+  pub follows : GoesOnAs limit start (noted comment (state_at false there key allowed adjacent places))
   pub fits : past 0 there.mark there.rest ≡ past 0 mark o
   pub line : P mark (crosses there.rest || allowed)
   pub count : mark.index + length o ≤ limit
@@ -163,14 +163,16 @@ pub passable : (free : Bool) (co : Option Marker) (m : Marker) (y : List ℕ) �
 passable free co m y quiet (inl e) = inl (quiet e)
 passable free co m y quiet (inr h) = inr h
 
+-- The piece is read where the text is y, at m, and the cursor is t after it. Whether a key may begin then is told too.
+abbrev pub Fetches : Marker → List ℕ → (Bool → Cursor) → Bool → Piece → Type 0
+Fetches m y t b piece = (blank : Bool) (key : Option Candidate) (allowed : Bool) (ad : ℕ) (ps : List Place)
+    → fetch_here (state_at false (cursor_at y m blank) key allowed ad ps)
+    ≡ Ok (state_at false (t blank) None b ad (ps ++ bare_place piece ∷ []))
+
 -- a token that is right here is read
 pub reads_token : {limit : ℕ} {start : State} {free : Bool} {P : Marker → Bool → Type 0} {y : List ℕ} {ts : List Kind}
     (v : StandsInStream limit start free P y ts) → past 0 v.mark y ≡ (v.mark, y) → (free ≡ true) ⊎ EndsDocument v.mark y
-    → (t : Bool → Cursor) (b : Bool) (piece : Piece)
-    → ((blank : Bool) (key : Option Candidate) (allowed : Bool) (ad : ℕ) (ps : List Place)
-    → fetch_here (state_at false (cursor_at y v.mark blank) context.Block key [] allowed ad ps)
-    ≡ Ok (state_at false (t blank) context.Block None [] b ad (ps ++ bare_place piece ∷ [])))
-    → (Q : Marker → Bool → Type 0) (n : Marker) (o : List ℕ)
+    → (t : Bool → Cursor) (b : Bool) (piece : Piece) → Fetches v.mark y t b piece → (Q : Marker → Bool → Type 0) (n : Marker) (o : List ℕ)
     → ((blank : Bool) → past 0 (t blank).mark (t blank).rest ≡ past 0 n o) → n.index + length o ≤ limit
     → ((blank : Bool) → Q n (crosses (t blank).rest || b))
     → v.mark.index ≤ n.index → IsLined n

@@ -1,5 +1,5 @@
 -- What is ahead after an indicator: no tab among the blanks before the next token, or the `:` of a value.
-use Rattle.yaml_laws.proofs.Common.{Bool, List, [], append_assoc, arith, false, inl, inr, refl, slice_index, true, ℕ, ◌++◌, ◌+◌, ◌∷◌, ◌≡◌, ◌⊎◌, ◌&&◌, ◌==◌, ◌||◌, is_blank, is_blank_or_breakz, is_break, is_yaml_non_break, line_feed, Marker, has_tab_ahead, is_value_ahead, colon, number_sign, AreIn, along, next_line, IsComment}
+use Rattle.yaml_laws.proofs.Common.{List, [], append_assoc, arith, false, inl, inr, refl, slice_index, true, ℕ, ◌++◌, ◌+◌, ◌∷◌, ◌≡◌, ◌⊎◌, is_blank, is_blank_or_breakz, is_yaml_non_break, line_feed, Marker, has_tab_ahead, is_value_ahead, colon, AreIn, along, next_line, IsComment}
 use Rattle.yaml_laws.proofs.InBlock.Skips.{has_tab, comment_has_tab, IsSkipped, nothing, one_space, one_break, one_rest}
 use Rattle.yaml_laws.proofs.Flow.GapWalks.{OverGap, over_gap}
 use Rattle.yaml_laws.proofs.Flow.States.{moved}
@@ -9,18 +9,6 @@ use Rattle.yaml_laws.proofs.Flow.Places.{moved_append}
 
 abbrev text_start : Marker
 text_start = record { index = 0; line = 1; col = 0 }
-
--- whether a character leads on to the next token
-abbrev leads_on : ℕ → Bool
-leads_on c = (c == 32) || is_break c || (c == 35)
-
-and_then : (a b : Bool) → a ≡ true → (a && b) ≡ false → b ≡ false
-and_then a b e h = grind arith
-
--- the rest after a character that leads on
-ahead : (c : ℕ) (cs : List ℕ) (sign : Bool) → (c == number_sign) ≡ sign → leads_on c ≡ true
-    → (leads_on c && has_tab_ahead (c == number_sign) cs) ≡ false → has_tab_ahead sign cs ≡ false
-ahead c cs sign e f h = cc (and_then (leads_on c) (has_tab_ahead (c == 35) cs) f h)
 
 over_ahead : OverGap 0 (λ m t. has_tab_ahead false t ≡ false → has_tab t ≡ false)
     (λ m t. has_tab_ahead true t ≡ false → comment_has_tab t ≡ false)

@@ -3,7 +3,7 @@
 use Rattle.std.proofs.Common.{◌≡◌, ℕ, ◌≤◌, ◌<◌, ◌^◌, true, false, List, [], ◌∷◌, ◌++◌, length, length-append, slice_index, Ok, refl, sym, ap, ◌∙◌, subst, append_assoc, inl, inr, arith, IsTrue}
 use Rattle.yaml_laws.proofs.Common.{map, normalized, is_blank_or_breakz, line_feed, is_document_indicator, ◌>>=◌, bind_ok, AreEach, IsLineRest, joined_pieces, Forest, most_open, fetch_within, without_far_key, Piece, Remaining, State, start, Kind, LeadsTo, flat, onward, stay, holding, IsMarkBehindFiller, IsYaml, IsYamlText, IsRestOfText, is_open, later_here, later_than, known_before, scan, Yields, onto, free_block, begins_so, Readers, DocumentMarker, Starts, Ends, marker_text, marker_token, IsBeforeLine, IsBeforeMarker, EndsWithMarker, HandsOut, HaveSameKinds}
 use Rattle.saphyr_scanner.specs.Grammar.Tokens as tokens
-use Rattle.saphyr_scanner.proofs.Unroll.{rest}
+use Rattle.saphyr_scanner.proofs.Handing.Unroll.{rest}
 use Rattle.saphyr_scanner.specs.Longer.{extended_by, state_behind_token}
 use Rattle.yaml_laws.proofs.Breaks.Normal.{no_return_left, beside, normal_shorter}
 use Rattle.yaml_laws.proofs.Documents.Lines.{passes_filler, rest_first}

@@ -1,13 +1,13 @@
 -- After the document marker of the last line nothing that was read may yet be a key, so all tokens up to its own are
 -- handed out.
-use Rattle.yaml_laws.proofs.Common.{Bool, List, Ok, [], ap, append-nil, arith, false, inl, inr, length, refl, sym, ℕ, ◌++◌, ◌∙◌, ◌∷◌, ◌≡◌, ◌≤◌, None, Option, line_feed, full_stop, hyphen, Marker, Cursor, along, next_line, cursor_at, IsLineRest, Kind, Piece, Place, bare_place, Candidate, State, fetch_here, LeadsTo, leads_on, onward, stay, place_kinds, place_kinds_append, length-append, is_open, known_before, DocumentMarker, Starts, Ends, marker_text, marker_token, cons_not_empty, state_at}
+use Rattle.yaml_laws.proofs.Common.{Bool, List, [], ap, append-nil, arith, false, inl, inr, length, refl, sym, ℕ, ◌++◌, ◌∙◌, ◌∷◌, ◌≡◌, ◌≤◌, None, line_feed, full_stop, hyphen, Marker, Cursor, along, next_line, cursor_at, IsLineRest, Kind, Piece, Place, bare_place, State, LeadsTo, leads_on, onward, stay, place_kinds, place_kinds_append, length-append, is_open, known_before, DocumentMarker, Starts, Ends, marker_text, marker_token, cons_not_empty, state_at}
 use Rattle.saphyr_scanner.specs.declared.engine.level.Context.TheVariants as context
 use Rattle.saphyr_scanner.specs.Grammar.Tokens as tokens
 use Rattle.yaml_laws.proofs.Flow.Fillers.{rest_past}
 use Rattle.yaml_laws.proofs.Flow.Places.{moved_count}
 use Rattle.yaml_laws.proofs.Flow.Separates.{separates_rest}
 use Rattle.yaml_laws.proofs.Documents.Lines.{rest_first}
-use Rattle.yaml_laws.proofs.Documents.Stands.{StandsLined, StandsInStream, lined_so, reads_here}
+use Rattle.yaml_laws.proofs.Documents.Stands.{Fetches, StandsLined, StandsInStream, lined_so, reads_here}
 use Rattle.yaml_laws.proofs.Documents.Markers.{piece_of, at_line, start_here, start_ends, start_count, end_here, end_ends, end_count, reads_start, reads_end, FinishesStream, reads_stream_end}
 use Rattle.yaml_laws.proofs.InBlock.States.{GoesOnAs, EndsDocument, moved, past}
 use Rattle.yaml_laws.proofs.InBlock.Follows.{first_step}
@@ -33,17 +33,13 @@ longer_by_one ps p e = let l = length-append ps (p ∷ []) in let same = ap leng
 
 hands_token : {limit : ℕ} {start : State} {free : Bool} {P : Marker → Bool → Type 0} {y : List ℕ} {ts : List Kind}
     (v : StandsInStream limit start free P y ts) → past 0 v.mark y ≡ (v.mark, y) → EndsDocument v.mark y
-    → (t : Cursor) (piece : Piece)
-    → ((blank : Bool) (key : Option Candidate) (allowed : Bool) (ad : ℕ) (ps : List Place)
-    → fetch_here (state_at false (cursor_at y v.mark blank) context.Block key [] allowed ad ps)
-    ≡ Ok (state_at false t context.Block None [] false ad (ps ++ bare_place piece ∷ [])))
-    → t.mark.index ≤ limit → is_open t.rest ≡ false → Handed limit start (ts ++ piece.kind ∷ [])
+    → (t : Cursor) (piece : Piece) → Fetches v.mark y (λ _. t) false piece → t.mark.index ≤ limit → is_open t.rest ≡ false → Handed limit start (ts ++ piece.kind ∷ [])
 hands_token {limit = limit} {y = y} {ts = ts} v here ends t piece is low known =
     let r = reads_here limit v.comment v.there v.key v.allowed v.adjacent v.places v.mark y (v.fits ∙ here) (inr ends)
     false (λ _. t) (λ _. None) false (v.places ++ bare_place piece ∷ [])
     (λ blank key allowed. is blank key allowed v.adjacent v.places) (λ _. low) in
     record {
-      last = state_at false t context.Block r.1 [] false v.adjacent (v.places ++ bare_place piece ∷ []);
+      last = state_at false t r.1 false v.adjacent (v.places ++ bare_place piece ∷ []);
       leads = comes_there v.follows refl r.4
           (λ e. longer_by_one v.places (bare_place piece) (ap (λ (s : State). s.queue.places) e));
       none = r.3 refl;
@@ -72,7 +68,7 @@ hands_start {limit = limit} tail tail_is v =
     let count = start_count v.mark r limit v.count in
     hands_token v refl (inr (col, inl (start_ends r first))) (cursor_at r (along v.mark 3) false)
     (piece_of v.mark (along v.mark 3) tokens.DocumentStart)
-    (λ blank key allowed ad ps. start_here v.mark blank r key allowed ad ps col first)
+    (start_here v.mark r col first)
     (omega (arith, count)) (rest_known tail)
 
 hands_end : {limit : ℕ} {start : State} {free opened : Bool} {ts : List Kind} (tail : List ℕ) → IsLineRest tail
@@ -87,7 +83,7 @@ hands_end {limit = limit} tail tail_is v =
     let count = end_count v.mark n r (10 ∷ []) limit v.count (moved_count (along v.mark 3) tail (10 ∷ [])) in
     hands_token v refl (inr (col, inl (end_ends r first))) (cursor_at (10 ∷ []) n false)
     (piece_of v.mark (along v.mark 3) tokens.DocumentEnd)
-    (λ blank key allowed ad ps. end_here v.mark n blank r (10 ∷ []) sep.0 key allowed ad ps col first sep.1 refl)
+    (end_here v.mark n r (10 ∷ []) sep.0 col first sep.1 refl)
     (omega (arith, count)) refl
 
 -- The scanner reads a marker of this kind and holds nothing back. It then comes to the stream's end.

@@ -1,7 +1,6 @@
 -- A quoted scalar ends right of a column that its lines reach.
-use Rattle.yaml_laws.proofs.Common.{Bool, IsTrue, List, [], ap, arith, drop, false, inl, refl, slice_index, true, ℕ, ◌++◌, ◌+◌, ◌∷◌, ◌≡◌, ◌≤◌, ◌⊎◌, not, ◌==◌, false≢true, nat_tests, carriage_return, is_break, is_hex, line_feed, space, Marker, Quote, Double, Single, along, next_line, apostrophe, backslash, break_len, AreIn, le_next, back_in, no_feed, Item, IsText, closed, itself, broken, two_quotes, escaped, numbered, escaped_break, space_count, IsLine, LinesFit}
-use Rattle.saphyr_scalar.proofs.Readings.ItemsRead.{short_escape_no_feed}
-use Rattle.saphyr_scalar.specs.Spelling.OneLine.{IsNumber}
+use Rattle.yaml_laws.proofs.Common.{Bool, IsTrue, List, [], ap, arith, drop, false, inl, refl, slice_index, true, ℕ, ◌++◌, ◌+◌, ◌∷◌, ◌≡◌, ◌≤◌, ◌⊎◌, not, ◌==◌, false≢true, nat_tests, carriage_return, is_break, is_hex, line_feed, space, Marker, Quote, Double, Single, along, next_line, apostrophe, backslash, break_len, length, AreIn, le_next, back_in, no_feed, Item, IsText, closed, itself, broken, two_quotes, escaped, numbered, escaped_break, space_count, IsLine, LinesFit}
+use Rattle.saphyr_scalar.proofs.Quoted.Spellings.{no_break_simple, no_break_digits}
 use Rattle.saphyr_scanner.proofs.Taken.OnLine.{stands_unbroken}
 use Rattle.yaml_laws.proofs.Flow.States.{moved}
 use Rattle.yaml_laws.proofs.Flow.Places.{moved_append, right_along}
@@ -31,9 +30,6 @@ feed_first (c ∷ cs) h k = (cs, ap (λ (z : ℕ). z ∷ cs) (is_feed c h k.0))
 
 line_reaches : (column : ℕ) (m : Marker) (t : List ℕ) → m.col ≡ 0 → IsLine column t → Reaches column m t
 line_reaches column m t e h = grind (arith, drop)
-
-no_feed_letter : (e : ℕ) (ds : List ℕ) (c : ℕ) → IsNumber e c ds → (e == line_feed) ≡ false
-no_feed_letter e ds c h = grind arith
 
 hex_line : (ds : List ℕ) → AreIn is_hex ds → AreIn (λ c. not (c == line_feed)) ds
 hex_line [] h = tt
@@ -71,7 +67,7 @@ text_right column _ _ _ _ (two_quotes t items x r) fit e m reach clean =
     (right_reaches column (along (along m 1) 1) t (le_next column (m.col + 1) (le_next column m.col here))) clean.1.1
 text_right column _ _ _ _ (escaped d c t items x h r) fit e m reach clean =
     let here = from_content column m backslash (d ∷ t) refl refl reach in
-    let same : moved m (backslash ∷ d ∷ t) ≡ moved (along (along m 1) 1) t = rw (short_escape_no_feed d c h) refl in
+    let same : moved m (backslash ∷ d ∷ t) ≡ moved (along (along m 1) 1) t = rw (no_feed d (no_break_simple d c h)) refl in
     rw same (text_right column Double t items x r fit e (along (along m 1) 1)
     (right_reaches column (along (along m 1) 1) t (le_next column (m.col + 1) (le_next column m.col here))) clean.1.1)
 text_right column _ _ _ _ (numbered d c ds t items x h r) fit e m reach clean =
@@ -79,7 +75,7 @@ text_right column _ _ _ _ (numbered d c ds t items x h r) fit e m reach clean =
     let front = backslash ∷ d ∷ ds in
     rw (moved_append m front t) (text_right column Double t items x r fit e (moved m front)
     (right_reaches column (moved m front) t (right_along column m front
-    ((refl, (ap not (no_feed_letter d ds c h), hex_line ds h.hex))) here))
+    ((refl, (ap not (no_feed d (no_break_digits d (length ds) h.count)), hex_line ds h.hex))) here))
     (back_in (λ c. not (c == carriage_return)) ds t clean.1.1))
 text_right column _ _ _ _ (escaped_break t items x h r) fit e m reach clean =
     let n = along m 1 in

@@ -1,7 +1,7 @@
 -- The strings of JSON are double quoted scalars of YAML's grammar, on one line.
-use Rattle.yaml_laws.proofs.Common.{List, [], ap, append_assoc, arith, codes, false, inl, inr, refl, true, ℕ, ◌++◌, ◌∷◌, ◌≡◌, ◌==◌, nat_tests, IsHex, AreIn, Double, raw_item, both_in, IsQuoted, stands_for_itself, IsText, closed, itself, escaped, numbered, Item, folded, is_before_break, AreOnLine, IsUnescaped, IsJsonEscape, IsJsonSpelling, AreSpellings, IsString}
+use Rattle.yaml_laws.proofs.Common.{List, [], ap, append_assoc, arith, codes, false, inl, inr, refl, true, ℕ, ◌++◌, ◌∷◌, ◌≡◌, ◌==◌, nat_tests, IsHex, AreIn, Double, raw_item, both_in, IsQuoted, stands_for_itself, IsText, closed, itself, escaped, numbered, Item, folded, is_before_break, IsUnescaped, IsJsonEscape, IsJsonSpelling, AreSpellings, IsString}
 use Rattle.saphyr_scalar.specs.declared.values.Item.TheVariants.{Blank, Raw, Escaped, Break, EscapedBreak}
-use Rattle.scalar_laws.proofs.Quoted.Reads.{line_fits}
+use Rattle.scalar_laws.proofs.Quoted.Reads.{AreOnLine, line_fits}
 use Rattle.yaml_laws.proofs.Json.Escapes.{short_fits, code_fits}
 use Rattle.yaml_laws.proofs.Json.Calm.{IsCalm, is_no_break, calm_line}
 

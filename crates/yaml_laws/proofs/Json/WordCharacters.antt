@@ -1,7 +1,11 @@
 -- The characters of a word of JSON: each goes on with a plain scalar, and the first may begin one.
-use Rattle.yaml_laws.proofs.Common.{IsTrue, List, [], arith, codes, inl, inr, refl, ℕ, ◌++◌, ◌∷◌, ◌≡◌, ◌⊎◌, nat_tests, hyphen, IsDigit, AreIn, is_always_plain, AreAll, IsInteger, IsFraction, IsExponent, IsJsonNumber, IsWord}
+use Rattle.yaml_laws.proofs.Common.{Bool, not, ◌&&◌, ◌==◌, is_blank_or_breakz, is_bom, is_flow, colon, IsTrue, List, [], arith, codes, inl, inr, refl, ℕ, ◌++◌, ◌∷◌, ◌≡◌, ◌⊎◌, nat_tests, hyphen, IsDigit, AreIn, AreAll, IsInteger, IsFraction, IsExponent, IsJsonNumber, IsWord}
 
 -- ## A word's characters
+
+-- a character that goes on with a word whatever follows it, inside flow and outside
+abbrev pub is_always_plain : ℕ → Bool
+is_always_plain c = not (is_blank_or_breakz c) && not (c == colon) && not (is_bom c) && not (is_flow c)
 
 digit_safe : (c : ℕ) → IsDigit c → IsTrue (is_always_plain c)
 digit_safe c h = grind (arith, nat_tests)

@@ -1,6 +1,6 @@
 -- The words of JSON are plain scalars of YAML's grammar, of one word.
-use Rattle.yaml_laws.proofs.Common.{Bool, List, [], ap, append-nil, arith, codes, false, inl, inr, refl, slice_index, subst, sym, true, ℕ, ◌++◌, ◌∙◌, ◌∷◌, ◌≡◌, ◌≢◌, ◌⊎◌, not, ◌&&◌, ◌==◌, nat_tests, IsDigit, is_blank, is_blank_or_breakz, is_bom, is_flow, colon, hyphen, number_sign, is_document_indicator, AreIn, plain_value, ArePlainSafe, IsWordIn, is_always_plain, is_plain_safe, IsFirstWord, IsFlowScalar, begins_plain, Plain, IsWord}
-use Rattle.yaml_laws.proofs.Json.WordCharacters.{BeginsWithDigit, word_safe, word_begins}
+use Rattle.yaml_laws.proofs.Common.{Bool, List, [], ap, append-nil, arith, codes, false, inl, inr, refl, slice_index, subst, sym, true, ℕ, ◌++◌, ◌∙◌, ◌∷◌, ◌≡◌, ◌≢◌, ◌⊎◌, not, ◌&&◌, ◌==◌, nat_tests, IsDigit, is_blank, is_blank_or_breakz, is_bom, is_flow, colon, hyphen, number_sign, is_document_indicator, AreIn, plain_value, ArePlainSafe, IsWordIn, is_plain_safe, IsFirstWord, IsFlowScalar, begins_plain, Plain, IsWord}
+use Rattle.yaml_laws.proofs.Json.WordCharacters.{BeginsWithDigit, is_always_plain, word_safe, word_begins}
 use Rattle.yaml_laws.proofs.Json.Calm.{IsCalm, is_no_break, calm_line}
 
 -- ## Words

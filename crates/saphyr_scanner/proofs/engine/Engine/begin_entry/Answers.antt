@@ -1,7 +1,7 @@
 -- A space before content, or a line feed.
 use Rattle.std.proofs.Common.{◌≡◌, rules, slice_index, sym, ◌∙◌}
 use Rattle.saphyr_scanner.specs.Views.Engine.{core, state}
-use Rattle.saphyr_scanner.proofs.Dashes.{entry_fed, entered_spaced}
+use Rattle.saphyr_scanner.proofs.Ahead.Dashes.{entry_fed, entered_spaced}
 use Rattle.saphyr_scanner.proofs.engine.Engine.begin_entry.Goals as goal
 
 pub returns-then-passes_dash_and_space : goal.returns-then-passes_dash_and_space

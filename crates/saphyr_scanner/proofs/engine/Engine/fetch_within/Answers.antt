@@ -5,7 +5,7 @@ use Rattle.saphyr_scalar.specs.declared.scalar.fault.Stop.TheVariants.{Refused}
 use Rattle.saphyr_scalar.specs.declared.scalar.position.Marker.{Marker}
 use Rattle.saphyr_scanner.specs.Steps.State.{State}
 use Rattle.saphyr_scanner.specs.Views.Engine.{state}
-use Rattle.saphyr_scanner.proofs.Grown.{long_always, over_limit}
+use Rattle.saphyr_scanner.proofs.Handing.Grown.{long_always, over_limit}
 use Rattle.saphyr_scanner.proofs.engine.Engine.fetch_within.Goals as goal
 
 pub returns-then-mark-limit-clause-long : goal.returns-then-mark-limit-clause-long

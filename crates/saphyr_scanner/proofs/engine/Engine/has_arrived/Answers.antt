@@ -3,7 +3,7 @@ use Rattle.std.specs.Prelude.{◌&&◌}
 use Rattle.saphyr_scanner.specs.Steps.Core.{in_block, is_too_far, least_column}
 use Rattle.saphyr_scanner.specs.Views.Ahead.{may_begin}
 use Rattle.saphyr_scanner.specs.Views.Engine.{state}
-use Rattle.saphyr_scanner.proofs.RightHere.{arrived}
+use Rattle.saphyr_scanner.proofs.Ahead.RightHere.{arrived}
 use Rattle.saphyr_scanner.proofs.engine.Engine.has_arrived.Goals as goal
 
 pub returns : goal.returns

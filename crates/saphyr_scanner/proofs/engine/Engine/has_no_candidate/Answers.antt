@@ -1,6 +1,6 @@
 use Rattle.std.proofs.Common.{◌≡◌, None, rules}
 use Rattle.saphyr_scanner.specs.Views.Engine.{state}
-use Rattle.saphyr_scanner.proofs.Filling.{no_key_settles}
+use Rattle.saphyr_scanner.proofs.Handing.Filling.{no_key_settles}
 use Rattle.saphyr_scanner.proofs.engine.Engine.has_no_candidate.Goals as goal
 
 pub returns-then-not-self-clause-settled : goal.returns-then-not-self-clause-settled

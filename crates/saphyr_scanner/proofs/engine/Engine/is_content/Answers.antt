@@ -6,7 +6,7 @@ use Rattle.saphyr_scanner.specs.Steps.Core.{least_column}
 use Rattle.saphyr_scanner.specs.Views.Ahead.{may_begin_mark}
 use Rattle.saphyr_scanner.specs.Views.Engine.{state}
 use Rattle.saphyr_input.proofs.Basics.Lists.{shows_character}
-use Rattle.saphyr_scanner.proofs.RightHere.{neither, holds_here}
+use Rattle.saphyr_scanner.proofs.Ahead.RightHere.{neither, holds_here}
 use Rattle.saphyr_scanner.proofs.engine.Engine.is_content.Goals as goal
 
 pub returns-then-column-gt0 : goal.returns-then-column-gt0

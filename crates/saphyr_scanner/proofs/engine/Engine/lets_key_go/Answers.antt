@@ -4,7 +4,7 @@ use Rattle.std.specs.Prelude.{◌&&◌}
 use Rattle.saphyr_scanner.specs.Steps.Core.{in_block, is_too_far}
 use Rattle.saphyr_scanner.specs.Views.Ahead.{may_begin}
 use Rattle.saphyr_scanner.specs.Views.Engine.{state}
-use Rattle.saphyr_scanner.proofs.Feeds.{dropped_ahead}
+use Rattle.saphyr_scanner.proofs.Ahead.Feeds.{dropped_ahead}
 use Rattle.saphyr_scanner.proofs.engine.Engine.lets_key_go.Goals as goal
 
 pub returns-then-not-self-clause-ahead : goal.returns-then-not-self-clause-ahead

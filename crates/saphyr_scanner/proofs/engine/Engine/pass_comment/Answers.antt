@@ -2,7 +2,7 @@ use Rattle.std.proofs.Common.{◌≡◌, rules, slice_index, ap, ◌∙◌}
 use Rattle.saphyr_input.specs.Classes.{is_z}
 use Rattle.saphyr_scalar.specs.Views.Reader.{cursor_of}
 use Rattle.saphyr_scanner.specs.Views.Engine.{state}
-use Rattle.saphyr_scanner.proofs.LinesPassed.{comment_to, spaces_to}
+use Rattle.saphyr_scanner.proofs.Ahead.LinesPassed.{comment_to, spaces_to}
 use Rattle.saphyr_scanner.proofs.engine.Engine.pass_comment.Goals as goal
 
 pub returns-then-c-ne35-clause-passed : goal.returns-then-c-ne35-clause-passed

@@ -3,7 +3,7 @@ use Rattle.std.specs.Prelude.{◌||◌}
 use Rattle.saphyr_scalar.specs.Views.Reader.{cursor_of}
 use Rattle.saphyr_scanner.specs.Steps.Core.{in_block}
 use Rattle.saphyr_scanner.specs.Views.Engine.{state}
-use Rattle.saphyr_scanner.proofs.LinesPassed.{line_to}
+use Rattle.saphyr_scanner.proofs.Ahead.LinesPassed.{line_to}
 use Rattle.saphyr_scanner.proofs.engine.Engine.pass_line_feed.Goals as goal
 
 allowed : (block k : Bool) → block ≡ true → true ≡ (block || k)

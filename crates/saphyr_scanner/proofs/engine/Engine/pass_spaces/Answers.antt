@@ -5,7 +5,7 @@ use Rattle.saphyr_scanner.specs.Steps.Passing.{with_cursor}
 use Rattle.saphyr_scanner.specs.Steps.State.{with_core}
 use Rattle.saphyr_scanner.specs.Views.Ahead.{fetched}
 use Rattle.saphyr_scanner.specs.Views.Engine.{state}
-use Rattle.saphyr_scanner.proofs.Feeds.{fed_ahead, spaced_ahead}
+use Rattle.saphyr_scanner.proofs.Ahead.Feeds.{fed_ahead, spaced_ahead}
 use Rattle.saphyr_scanner.proofs.engine.Engine.pass_spaces.Goals as goal
 
 pub returns-then-c-eq10-clause-ahead : goal.returns-then-c-eq10-clause-ahead

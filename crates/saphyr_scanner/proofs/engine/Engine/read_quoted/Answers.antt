@@ -4,7 +4,7 @@ use Rattle.saphyr_scalar.specs.Views.Reader.{cursor_of}
 use Rattle.saphyr_scanner.specs.Steps.Core.{in_block}
 use Rattle.saphyr_scanner.specs.Views.Engine.{core}
 use Rattle.saphyr_scanner.specs.Views.Queue.{queue}
-use Rattle.saphyr_scanner.proofs.QuotedEnds.{quoted_read, found_end}
+use Rattle.saphyr_scanner.proofs.Ahead.QuotedEnds.{quoted_read, found_end}
 use Rattle.saphyr_scanner.proofs.engine.Engine.read_quoted.Goals as goal
 
 pub pass_gap_to-requires : goal.pass_gap_to-requires

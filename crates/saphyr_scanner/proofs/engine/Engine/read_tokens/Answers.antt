@@ -5,8 +5,8 @@ use Rattle.saphyr_scanner.specs.Steps.Fetch.{fetch_within, fill, needs_token}
 use Rattle.saphyr_scanner.specs.Steps.State.{State}
 use Rattle.saphyr_scanner.specs.Views.Engine.{state, stopped_by}
 use Rattle.saphyr_scanner.specs.Views.TooLong.{TurnsTooLong, within}
-use Rattle.saphyr_scanner.proofs.Filling.{read_is, smaller_read, fetched_is_one_more, settled_fill, filled_in_at_once}
-use Rattle.saphyr_scanner.proofs.Grown.{GoesOn, goes_on_here, goes_on_further, long_from}
+use Rattle.saphyr_scanner.proofs.Handing.Filling.{read_is, smaller_read, fetched_is_one_more, settled_fill, filled_in_at_once}
+use Rattle.saphyr_scanner.proofs.Handing.Grown.{GoesOn, goes_on_here, goes_on_further, long_from}
 use Rattle.saphyr_scanner.proofs.engine.Engine.read_tokens.Goals as goal
 
 -- the limit was not passed

@@ -1,7 +1,7 @@
 use Rattle.std.proofs.Common.{◌≡◌, suc, true}
 use Rattle.saphyr_scanner.specs.Steps.Fetch.{fill, fill_in, needs_token, size}
 use Rattle.saphyr_scanner.specs.Views.Engine.{state}
-use Rattle.saphyr_scanner.proofs.Grown.{GoesOn}
+use Rattle.saphyr_scanner.proofs.Handing.Grown.{GoesOn}
 use Rattle.saphyr_scanner.proofs.engine.Engine.read_tokens.Given as goal
 
 abbrev pub invariant-loop-self : goal.invariant-loop-self

@@ -1,8 +1,8 @@
 -- Where the first token can be handed out, none is read.
 use Rattle.std.proofs.Common.{◌≡◌, Ok, false, rules, refl}
 use Rattle.saphyr_scanner.specs.Steps.Fetch.{needs_token, without_far_key}
-use Rattle.saphyr_scanner.proofs.Filling.{settled_once}
-use Rattle.saphyr_scanner.proofs.Turns.{filled_ready}
+use Rattle.saphyr_scanner.proofs.Handing.Filling.{settled_once}
+use Rattle.saphyr_scanner.proofs.Handing.Turns.{filled_ready}
 use Rattle.saphyr_scanner.proofs.scanner.Scanner.fill.Goals as goal
 
 pub returns : goal.returns

@@ -5,8 +5,8 @@ use Rattle.saphyr_scanner.specs.Steps.Fetch.{needs_token, without_far_key}
 use Rattle.saphyr_scanner.specs.Steps.State.{State}
 use Rattle.saphyr_scanner.specs.Views.Engine.{state}
 use Rattle.saphyr_scanner.specs.Views.Scanning.{EndsTokens, Scanning, tokens_in, tokens_over}
-use Rattle.saphyr_scanner.proofs.Filling.{settled_once, still_settled}
-use Rattle.saphyr_scanner.proofs.Turns.{filled_ready, readies_from, refuses_far, tokens_stay}
+use Rattle.saphyr_scanner.proofs.Handing.Filling.{settled_once, still_settled}
+use Rattle.saphyr_scanner.proofs.Handing.Turns.{filled_ready, readies_from, refuses_far, tokens_stay}
 use Rattle.saphyr_scanner.proofs.scanner.Scanner.fill_past_candidate.Goals as goal
 
 pub returns-in_err-drop_far_key : goal.returns-in_err-drop_far_key

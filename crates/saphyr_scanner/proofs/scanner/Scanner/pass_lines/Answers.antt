@@ -1,7 +1,7 @@
 use Rattle.std.proofs.Common.{◌≡◌, true, rules, refl, ap, ◌∙◌}
 use Rattle.saphyr_scanner.specs.Views.Engine.{state}
 use Rattle.saphyr_scanner.specs.Views.Scanning.{Scanning, is_growing, tokens_in}
-use Rattle.saphyr_scanner.proofs.LinesPassed.{lines_passed}
+use Rattle.saphyr_scanner.proofs.Ahead.LinesPassed.{lines_passed}
 use Rattle.saphyr_scanner.proofs.scanner.Scanner.pass_lines.Goals as goal
 
 pub returns : goal.returns

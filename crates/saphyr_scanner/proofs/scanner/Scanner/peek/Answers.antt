@@ -3,7 +3,7 @@ use Rattle.std.proofs.Common.{◌≡◌, ◌∙◌, true, rules, ap}
 use Rattle.saphyr_scanner.specs.Steps.Fetch.{is_ready}
 use Rattle.saphyr_scanner.specs.Views.Engine.{state}
 use Rattle.saphyr_scanner.specs.Views.Scanning.{Scanning, tokens_in, tokens_over}
-use Rattle.saphyr_scanner.proofs.Turns.{shows}
+use Rattle.saphyr_scanner.proofs.Handing.Turns.{shows}
 use Rattle.saphyr_scanner.proofs.scanner.Scanner.peek.Goals as goal
 
 pub returns : goal.returns

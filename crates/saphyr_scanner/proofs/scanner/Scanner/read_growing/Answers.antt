@@ -4,8 +4,8 @@ use Rattle.saphyr_scanner.specs.Steps.Fetch.{is_at_start, needs_token}
 use Rattle.saphyr_scanner.specs.Views.Engine.{state}
 use Rattle.saphyr_scanner.specs.Views.Scanning.{Readies, Scanning, is_decided, is_growing}
 use Rattle.saphyr_scanner.specs.Views.TooLong.{as_read}
-use Rattle.saphyr_scanner.proofs.Grown.{fills_as, fills_at_start, fills_growing}
-use Rattle.saphyr_scanner.proofs.Turns.{readies}
+use Rattle.saphyr_scanner.proofs.Handing.Grown.{fills_as, fills_at_start, fills_growing}
+use Rattle.saphyr_scanner.proofs.Handing.Turns.{readies}
 use Rattle.saphyr_scanner.proofs.scanner.Scanner.read_growing.Goals as goal
 
 pub returns-then-starts-clause-read : goal.returns-then-starts-clause-read

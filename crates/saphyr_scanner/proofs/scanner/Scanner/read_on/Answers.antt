@@ -1,8 +1,8 @@
 -- What is read of a whole text is so.
 use Rattle.std.proofs.Common.{◌≡◌, false, rules, refl}
 use Rattle.saphyr_scanner.specs.Views.Scanning.{is_growing}
-use Rattle.saphyr_scanner.proofs.Grown.{fills_as, fills_whole}
-use Rattle.saphyr_scanner.proofs.Turns.{readies}
+use Rattle.saphyr_scanner.proofs.Handing.Grown.{fills_as, fills_whole}
+use Rattle.saphyr_scanner.proofs.Handing.Turns.{readies}
 use Rattle.saphyr_scanner.proofs.scanner.Scanner.read_on.Goals as goal
 
 pub returns-clause-read : goal.returns-clause-read

@@ -1,6 +1,6 @@
 -- The first token is taken.
 use Rattle.saphyr_scanner.specs.Views.Engine.{state}
-use Rattle.saphyr_scanner.proofs.Turns.{first_in}
+use Rattle.saphyr_scanner.proofs.Handing.Turns.{first_in}
 use Rattle.saphyr_scanner.proofs.scanner.Scanner.skip_into.Goals as goal
 
 pub returns-clause-span : goal.returns-clause-span

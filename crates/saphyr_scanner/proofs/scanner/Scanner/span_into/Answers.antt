@@ -1,5 +1,5 @@
 -- The span of the first token.
-use Rattle.saphyr_scanner.proofs.Turns.{first_in}
+use Rattle.saphyr_scanner.proofs.Handing.Turns.{first_in}
 use Rattle.saphyr_scanner.proofs.scanner.Scanner.span_into.Goals as goal
 
 pub returns : goal.returns

@@ -1,7 +1,7 @@
 -- The parts of the first token are taken.
 use Rattle.std.proofs.Common.{rules}
 use Rattle.saphyr_scanner.specs.Views.Engine.{state}
-use Rattle.saphyr_scanner.proofs.Turns.{first_in}
+use Rattle.saphyr_scanner.proofs.Handing.Turns.{first_in}
 use Rattle.saphyr_scanner.proofs.scanner.Scanner.take_parts.Goals as goal
 
 pub returns-clause-parts : goal.returns-clause-parts

@@ -1,7 +1,7 @@
 -- The text of the first token is taken.
 use Rattle.std.proofs.Common.{rules}
 use Rattle.saphyr_scanner.specs.Views.Engine.{state}
-use Rattle.saphyr_scanner.proofs.Turns.{first_in}
+use Rattle.saphyr_scanner.proofs.Handing.Turns.{first_in}
 use Rattle.saphyr_scanner.proofs.scanner.Scanner.take_text_into.Goals as goal
 
 pub returns-clause-text : goal.returns-clause-text

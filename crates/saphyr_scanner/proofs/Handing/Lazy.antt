@@ -12,11 +12,11 @@ use Rattle.saphyr_scanner.specs.Steps.State.{State, start}
 use Rattle.saphyr_scanner.specs.Steps.Fetch.{size, needs_token, is_held, any_holds}
 use Rattle.saphyr_scanner.specs.Steps.Remaining.{before_place, hand_out, remaining_after, run, remaining}
 use Rattle.saphyr_scanner.proofs.Effects.Readers.{Readers}
-use Rattle.saphyr_scanner.proofs.Filling.{read, read_is, less_read}
+use Rattle.saphyr_scanner.proofs.Handing.Filling.{read, read_is, less_read}
 use Rattle.saphyr_scanner.proofs.Leads.{LeadsTo, stay, onward, flat, place_pieces}
-use Rattle.saphyr_scanner.proofs.Unroll.{behind, rest, enough}
+use Rattle.saphyr_scanner.proofs.Handing.Unroll.{behind, rest, enough}
 use Rattle.saphyr_scanner.proofs.Taken.Candidates.{KeyAbove, LevelsAbove, Above}
-use Rattle.saphyr_scanner.proofs.HandedOut.{Behind, Goes, Same, at, read_agrees, agreed}
+use Rattle.saphyr_scanner.proofs.Handing.HandedOut.{Behind, Goes, Same, at, read_agrees, agreed}
 use Rattle.std.proofs.lemmas.Bool.{or_parts, cond-true, cond-false}
 use Rattle.saphyr_scanner.proofs.Queues.{holding}
 

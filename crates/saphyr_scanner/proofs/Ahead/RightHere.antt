@@ -1,23 +1,18 @@
 -- Where the next token begins right here, nothing is passed and nothing ends before it.
-use Rattle.std.proofs.Common.{◌≡◌, ℕ, Bool, true, false, List, Some, None, Ok, refl, ap, arith, nat_lt, slice_index}
-use Rattle.std.specs.Prelude.{◌-◌, ◌&&◌, ◌||◌, ◌==◌, nat_le, if◌then◌else◌}
+use Rattle.std.proofs.Common.{◌≡◌, ℕ, Bool, true, false, List, Some, None, Ok, refl, arith, nat_lt, slice_index}
+use Rattle.std.specs.Prelude.{◌-◌, ◌&&◌, ◌||◌, ◌==◌, if◌then◌else◌}
 use Rattle.std.proofs.lemmas.Bool.Decides.{nat_tests}
-use Rattle.saphyr_input.proofs.Basics.Booleans.{by_test}
 use Rattle.saphyr_input.specs.Classes.{is_blank, is_bom, is_break, is_z}
 use Rattle.saphyr_input.specs.Indicators.{full_stop, hyphen, number_sign, percent_sign}
 use Rattle.saphyr_input.specs.Places.{is_document_end, is_document_start}
 use Rattle.saphyr_scanner.specs.Steps.Core.{Core, in_block, is_too_far, least_column, drop_far_key}
 use Rattle.saphyr_scanner.specs.Steps.Fetch.{arrive, fetch_here}
 use Rattle.saphyr_scanner.specs.Steps.Passing.{check_comment, pass_gap}
-use Rattle.saphyr_scanner.specs.Steps.State.{State, with_core}
+use Rattle.saphyr_scanner.specs.Steps.State.{State}
 use Rattle.saphyr_scanner.specs.Steps.Unrolling.{unroll}
 use Rattle.saphyr_scanner.specs.Views.Ahead.{may_begin, may_begin_mark, with_content}
 use Rattle.saphyr_scanner.proofs.Blocks.{none_ends}
 use Rattle.saphyr_scanner.proofs.Gaps.{nothing_passed}
-
-first_character : (x : ℕ) → may_begin x ≡ true
-    → (is_blank x ≡ false) × (is_break x ≡ false) × ((x == number_sign) ≡ false)
-first_character x e = grind (arith, nat_tests)
 
 pub no_gap : (c : Core) → may_begin (slice_index c.cursor.rest 0) ≡ true → c.comment ≡ None → pass_gap c ≡ Ok c
 unfolding pass_gap check_comment
@@ -26,9 +21,6 @@ no_gap c begins none = grind (arith, nothing_passed)
 kept_key : (c : Core) → (in_block c && is_too_far c.level.key c.cursor.mark) ≡ false → drop_far_key c ≡ Ok c
 unfolding drop_far_key
 kept_key c near = rw near refl
-
-not_right : (deeper : Bool) (i k : ℕ) → nat_lt k (if deeper then i else i - 1) ≡ false → nat_lt k (i - 1) ≡ false
-not_right deeper i k e = grind arith
 
 -- no block collection is right of the column
 none_unrolled : (s : State) → nat_lt s.core.cursor.mark.col (least_column s.core) ≡ false

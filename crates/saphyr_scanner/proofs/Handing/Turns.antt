@@ -20,9 +20,9 @@ use Rattle.saphyr_scanner.specs.Steps.State.{State, with_rest}
 use Rattle.saphyr_scanner.specs.Steps.Fetch.{size, without_far_key, is_ready, needs_token, fill, take_token}
 use Rattle.saphyr_scanner.specs.Steps.Remaining.{before_place, remaining}
 use Rattle.saphyr_scanner.proofs.Effects.Readers.{Readers}
-use Rattle.saphyr_scanner.proofs.Filling.{IsSettled, settled_once}
-use Rattle.saphyr_scanner.proofs.Grown.{FillsOver, FillsAlways, far_dropped, far_refused, far_rest}
-use Rattle.saphyr_scanner.proofs.Unroll.{refused_first, rest, remaining_is, settled_is, filled_in}
+use Rattle.saphyr_scanner.proofs.Handing.Filling.{IsSettled, settled_once}
+use Rattle.saphyr_scanner.proofs.Handing.Grown.{FillsOver, FillsAlways, far_dropped, far_refused, far_rest}
+use Rattle.saphyr_scanner.proofs.Handing.Unroll.{refused_first, rest, remaining_is, settled_is, filled_in}
 use Rattle.saphyr_scalar.proofs.Given.{bind_ok}
 use Rattle.std.proofs.lemmas.Bool.{cond-true, cond-false}
 use Rattle.saphyr_scanner.proofs.Queues.{holding, place_with_front}

@@ -1,6 +1,17 @@
--- Breaks with blanks round them, before a character.
+-- Breaks with blanks round them, before a character: what they are folded to (YAML 1.2.2, 6.5).
 use Rattle.saphyr_scalar.proofs.Common.{◌≡◌, ℕ, zero, suc, Bool, true, false, List, [], ◌∷◌, ◌++◌, refl, ◌∙◌, ap, cond, append_assoc, Item, Blank, Raw, Escaped, Break, EscapedBreak}
-use Rattle.saphyr_scalar.specs.Values.Folding.{is_before_break, empty_lines, line_feeds, raw_break, folded_from, folded, AreBlankItems, AreBreaks, FoldsBreaks}
+use Rattle.saphyr_scalar.specs.Values.Folding.{is_before_break, empty_lines, raw_break, folded_from, folded}
+
+abbrev AreBlankItems : List Item → Type 0
+AreBlankItems [] = Unit {0}
+AreBlankItems (Blank c ∷ items) = AreBlankItems items
+AreBlankItems _ = ⊥
+
+-- so many raw breaks, with any blanks before, between and after them
+abbrev pub AreBreaks : ℕ → List Item → Type 0
+AreBreaks zero items = AreBlankItems items
+AreBreaks (suc n) items =
+    (blanks others : List Item) × AreBlankItems blanks × AreBreaks n others × (items ≡ blanks ++ (Break ∷ others))
 
 -- blanks at a line's start
 blanks_at_start : (blanks items : List Item) → AreBlankItems blanks
@@ -49,16 +60,12 @@ breaks_at_start (suc n) breaks c rest (blanks, others, h, hs, e) =
     let more = breaks_at_start n others c rest hs in
     (ap (folded_from true) cut ∙ gone.0 ∙ more.0, ap empty_lines cut ∙ gone.1 ∙ ap suc more.1)
 
-pub folds_breaks : (n : ℕ) (breaks : List Item) (c : ℕ) (others : List Item) → FoldsBreaks n breaks c others
-folds_breaks n breaks c rest = (
-  λ (blanks, others, h, hs, e).
-      let more = breaks_at_start n others c rest hs in
-      ap folded (regrouped breaks blanks others (Raw c ∷ rest) e)
-      ∙ blanks_before_break blanks (others ++ (Raw c ∷ rest)) h
-      ∙ ap (λ (k : ℕ). raw_break k ++ folded_from true (others ++ (Raw c ∷ rest))) more.1
-      ∙ ap (λ (t : List ℕ). raw_break n ++ t) more.0,
-  λ h.
-      let more = breaks_at_start n breaks c rest h in
-      ap (λ (k : ℕ). line_feeds k ++ folded_from true (breaks ++ (Raw c ∷ rest))) more.1
-      ∙ ap (λ (t : List ℕ). line_feeds n ++ t) more.0,
-)
+-- breaks of which n end empty lines read as one raw break before n empty lines does, and no blank of them stays
+pub folds_breaks : (n : ℕ) (breaks : List Item) (c : ℕ) (others : List Item) → AreBreaks (suc n) breaks
+    → folded (breaks ++ (Raw c ∷ others)) ≡ raw_break n ++ (c ∷ folded others)
+folds_breaks n breaks c rest (blanks, others, h, hs, e) =
+    let more = breaks_at_start n others c rest hs in
+    ap folded (regrouped breaks blanks others (Raw c ∷ rest) e)
+    ∙ blanks_before_break blanks (others ++ (Raw c ∷ rest)) h
+    ∙ ap (λ (k : ℕ). raw_break k ++ folded_from true (others ++ (Raw c ∷ rest))) more.1
+    ∙ ap (λ (t : List ℕ). raw_break n ++ t) more.0

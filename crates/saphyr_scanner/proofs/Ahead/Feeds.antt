@@ -13,7 +13,7 @@ use Rattle.saphyr_scanner.specs.Steps.Passing.{behind_gap, check_comment, pass_g
 use Rattle.saphyr_scanner.specs.Steps.State.{State, with_core}
 use Rattle.saphyr_scanner.specs.Views.Ahead.{behind_feed, fetched, may_begin}
 use Rattle.saphyr_scanner.proofs.Gaps.{break_passed, spaces_passed}
-use Rattle.saphyr_scanner.proofs.RightHere.{no_gap}
+use Rattle.saphyr_scanner.proofs.Ahead.RightHere.{no_gap}
 
 -- a break was met
 abbrev with_break : Gap → Gap

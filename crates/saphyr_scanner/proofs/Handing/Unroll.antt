@@ -8,7 +8,7 @@ use Rattle.saphyr_scanner.specs.Steps.State.{State}
 use Rattle.saphyr_scanner.specs.Steps.Fetch.{size, without_far_key, needs_token, fill_in, fill}
 use Rattle.saphyr_scanner.specs.Steps.Remaining.{without_first, hand_out, remaining_after, run, remaining}
 use Rattle.saphyr_scanner.proofs.Effects.Readers.{Readers}
-use Rattle.saphyr_scanner.proofs.Filling.{read, going, smaller_read, less_read, IsSettled, settled_once, read_settles}
+use Rattle.saphyr_scanner.proofs.Handing.Filling.{read, going, smaller_read, less_read, IsSettled, settled_once, read_settles}
 use Rattle.saphyr_scalar.proofs.Given.{bind_ok}
 use Rattle.std.proofs.lemmas.Bool.{cond-true, cond-false}
 

@@ -19,11 +19,11 @@ use Rattle.saphyr_scanner.specs.Views.Ahead.{fetched}
 use Rattle.saphyr_scanner.specs.Views.Lines.{PassesOn}
 use Rattle.saphyr_scanner.specs.Views.Scanning.{Scanning, is_growing, tokens_in, tokens_over}
 use Rattle.saphyr_scanner.proofs.Effects.Readers.{Readers}
-use Rattle.saphyr_scanner.proofs.Feeds.{behind_break, kept, spaced_ahead}
-use Rattle.saphyr_scanner.proofs.Filling.{going, no_key_settles, read, smaller_read}
+use Rattle.saphyr_scanner.proofs.Ahead.Feeds.{behind_break, kept, spaced_ahead}
+use Rattle.saphyr_scanner.proofs.Handing.Filling.{going, no_key_settles, read, smaller_read}
 use Rattle.saphyr_scanner.proofs.Gaps.{break_passed, comment_passed}
-use Rattle.saphyr_scanner.proofs.Grown.{no_key, text_grows}
-use Rattle.saphyr_scanner.proofs.Unroll.{behind, enough, hand_nothing, remaining_after_so, remaining_is, rest}
+use Rattle.saphyr_scanner.proofs.Handing.Grown.{no_key, text_grows}
+use Rattle.saphyr_scanner.proofs.Handing.Unroll.{behind, enough, hand_nothing, remaining_after_so, remaining_is, rest}
 use Rattle.std.proofs.lemmas.Bool.{cond-false, cond-true}
 
 abbrev placed : Cursor → State → State

@@ -1,3 +1,0 @@
-pub mod Foldings
-pub mod Items
-pub mod ItemsRead
