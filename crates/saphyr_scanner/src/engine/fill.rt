@@ -7,7 +7,7 @@ ghost use Rattle.saphyr_scanner.specs.Steps.Fetch as fetch;
 
 use crate::engine::Engine;
 use crate::law::takes_characters_off;
-use crate::stopped::{Stopped, keep};
+use crate::stopped::{Halt, Stopped, keep};
 use crate::token::{TokenKind, TokenParts};
 use saphyr_input::input::Input;
 use saphyr_scalar::{FaultText, Refusal, Span, Stop, TagParts};
@@ -54,10 +54,10 @@ impl<T: Input> Engine<T> {
         (self.queue.is_empty() || self.is_held()) && !self.ended
     }
 
-    // Puts the next token into the queue. `false`: with it the text is too long, and refused.
+    // Puts the next token into the queue. If the text is too long with it, it is refused.
     #[inline(always)]
     #[tactic(auto, unfolding(crate::specs::Steps::Fetch::fetch_within))]
-    fn fetch_within(&mut self, limit: usize) -> Result<bool, Stopped>
+    fn fetch_within(&mut self, limit: usize) -> Result<(), Halt>
         ensures moves { MovesBy (fetch.fetch_within limit) self.old (within result) self.new }
         ensures long { TurnsTooLong (fetch.fetch_within limit) (state self.old) result
             (state self.new) self.new.stop }
@@ -67,9 +67,9 @@ impl<T: Input> Engine<T> {
         if mark.index > limit {
             let text = FaultText::TextTooLong;
             self.stop = Stop::Refused(Refusal { text, mark });
-            return Ok(false);
+            return Err(Halt::Limit);
         }
-        Ok(true)
+        Ok(())
     }
 
     /// Whether nothing that is open has a candidate. Then no token is held.
@@ -102,9 +102,9 @@ impl<T: Input> Engine<T> {
     }
 
     /// Reads tokens until the head of the queue can be handed out, unless all were. To be called where the next token
-    /// must be read. `false`: the text is too long, and refused.
+    /// must be read.
     #[inline(never)]
-    pub(crate) fn read_tokens(&mut self, limit: usize) -> Result<bool, Stopped>
+    pub(crate) fn read_tokens(&mut self, limit: usize) -> Result<(), Halt>
         requires needed { fetch.needs_token (state self.old) ≡ true }
         requires settled { fetch.without_far_key (state self.old) ≡ Ok (state self.old) }
         ensures moves { MovesBy (fetch.fill limit) self.old (within result) self.new }
@@ -114,12 +114,10 @@ impl<T: Input> Engine<T> {
         // A law. It does nothing when it runs.
         takes_characters_off();
         loop {
-            if !self.fetch_within(limit)? {
-                return Ok(false);
-            }
+            self.fetch_within(limit)?;
             self.drop_far_key()?;
             if !self.needs_token() {
-                return Ok(true);
+                return Ok(());
             }
         }
     }
@@ -193,15 +191,15 @@ impl<T: Input> Engine<T> {
     }
 
     /// Whether what was read is so whatever comes behind what came of the text.
-    pub(crate) fn is_decided(&mut self, read: Result<bool, Stopped>) -> bool
+    pub(crate) fn is_decided(&mut self, read: Result<(), Halt>) -> bool
         ensures decided { result
             ≡ is_decided (as_read read) (state self.old).core.cursor.rest self.old.stop }
         ensures same { state self.new ≡ state self.old }
         ensures stop { self.new.stop ≡ self.old.stop }
     {
         match read {
-            Ok(_) => !self.reader.is_at_open_end(),
-            Err(Stopped) => match self.stop {
+            Ok(()) | Err(Halt::Limit) => !self.reader.is_at_open_end(),
+            Err(Halt::Step) => match self.stop {
                 Stop::Refused(refusal) => refusal.text.is_seen(),
                 Stop::OutOfMemory => true,
             },
