@@ -105,7 +105,7 @@ impl<T: Input> Scanner<T> {
         ensures { PeeksToken result self.old self.new }
     {
         self.fill()?;
-        self.engine.first()
+        Ok(self.engine.first())
     }
 
     // Reads until the next token can be handed out, unless all were. Mostly there is no candidate, and then this looks

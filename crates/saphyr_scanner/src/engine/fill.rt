@@ -177,17 +177,11 @@ impl<T: Input> Engine<T> {
 
     /// The kind of the first token, unless all were handed out.
     #[inline(always)]
-    pub(crate) fn first(&mut self) -> Result<Option<TokenKind>, Stopped>
-        ensures kind { IfOk result
-            (λ kind. kind ≡ kind_shown (first_of (state self.new).queue)) }
-        ensures same { state self.new ≡ state self.old }
-        ensures counted { OnOk result ((state self.new).queue.handed + 1 < 2 ^ 64) }
-        ensures failed { OnErr result (self.new.stop ≡ OutOfMemory) }
+    pub(crate) fn first(&self) -> Option<TokenKind>
+        ensures kind { result ≡ kind_shown (first_of (state self.now).queue) }
+        ensures counted { (state self.now).queue.handed + 1 < 2 ^ 64 }
     {
-        if self.queue.first() == usize::MAX {
-            return Err(self.run_out_of_memory());
-        }
-        Ok(self.queue.peek())
+        self.queue.peek()
     }
 
     /// Whether what was read is so whatever comes behind what came of the text.
@@ -206,16 +200,6 @@ impl<T: Input> Engine<T> {
         }
     }
 
-    // More tokens can't be counted.
-    #[inline(never)]
-    fn run_out_of_memory(&mut self) -> Stopped
-        ensures stop { self.new.stop ≡ OutOfMemory }
-        ensures same { state self.new ≡ state self.old }
-    {
-        self.stop = Stop::OutOfMemory;
-        Stopped
-    }
-
     /// The span of the first token goes into the place of another.
     #[inline(always)]
     pub(crate) fn span_into(&self, span: &mut Span)
@@ -227,7 +211,6 @@ impl<T: Input> Engine<T> {
     /// Takes the first token off the queue. Its span goes into the place of another.
     #[inline(always)]
     pub(crate) fn skip_into(&mut self, span: &mut Span)
-        requires { (state self.old).queue.handed + 1 < 2 ^ 64 }
         ensures span { (t : Piece) → first_of (state self.old).queue ≡ Some t
             → span.new ≡ t.span }
         ensures left { state self.new ≡ (fetch.take_token (state self.old)).1 }
@@ -238,7 +221,6 @@ impl<T: Input> Engine<T> {
     /// Takes the first token off the queue. Its text goes into the place of another.
     #[inline(always)]
     pub(crate) fn take_text_into(&mut self, into: &mut String) -> Result<(), Stopped>
-        requires { (state self.old).queue.handed + 1 < 2 ^ 64 }
         ensures text { (t : Piece) (text : List ℕ) → first_of (state self.old).queue ≡ Some t
             → text_of t.kind ≡ Some text → OnOk result (string_bytes into.new ≡ text) }
         ensures left { OnOk result (state self.new ≡ (fetch.take_token (state self.old)).1) }
@@ -251,7 +233,6 @@ impl<T: Input> Engine<T> {
 
     /// Takes the first token off the queue, and returns its parts.
     pub(crate) fn take_parts(&mut self) -> Result<TokenParts, Stopped>
-        requires { (state self.old).queue.handed + 1 < 2 ^ 64 }
         ensures parts { (t : Piece) → first_of (state self.old).queue ≡ Some t
             → IfOk result (λ x. t.kind ≡ kind_with (token_kind t.kind) (parts_view x)) }
         ensures left { OnOk result (state self.new ≡ (fetch.take_token (state self.old)).1) }
