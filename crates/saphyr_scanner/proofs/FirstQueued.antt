@@ -15,7 +15,7 @@ use Rattle.saphyr_scanner.specs.Steps.Queue as seen
 use Rattle.saphyr_scanner.specs.Steps.Queue.{places_with_opening, take_of}
 use Rattle.saphyr_scanner.specs.Views.Texts.{Texts}
 use Rattle.saphyr_scanner.specs.Views.Places.{Fit, HasTextsOf, extent_of, opening_code, handle_length, is_apart, coded_opening, with_opening_of, near_span, place_at, places_at, texts_behind, texts_behind_of, token_with}
-use Rattle.saphyr_scanner.specs.Views.Queue.{BeginsWithPlace, behind_first, first_of, queue, queue_places}
+use Rattle.saphyr_scanner.specs.Views.Queue.{BeginsWithPlace, behind_first, first_number, first_of, queue, queue_places}
 use Rattle.saphyr_scanner.specs.Views.Tokens.{Parts, Piece, kind_with, text_of, token_kind}
 use Rattle.saphyr_scanner.proofs.Queues.{queue_at}
 use Rattle.saphyr_scanner.proofs.QueuedPlaces.{kind_parts, queued_length, nothing_queued}
@@ -43,26 +43,26 @@ first_got q (Some x) h = begins_at q x.now h.0 (h.1 x.now)
 
 -- ## The queue's first token
 
-pub no_place : (q : Queue) → BeginsWithPlace None q → queue q ≡ queue_at [] q.handed
+pub no_place : (q : Queue) → BeginsWithPlace None q → queue q ≡ queue_at [] (first_number q)
 unfolding queue_places
-no_place q h = ap (λ ps. queue_at (places_at ps q.texts) q.handed) h
+no_place q h = ap (λ ps. queue_at (places_at ps q.texts) (first_number q)) h
 
 -- the places behind the first, over the texts behind its own
 abbrev pub places_behind : Place → Queue → List seen.Place
 places_behind p q = places_at (drop (q.spent + 1) q.places.items) (texts_behind p q.texts)
 
 pub first_queued : (q : Queue) (p : Place) → BeginsWithPlace (Some p) q
-    → queue q ≡ queue_at (place_at p q.texts ∷ places_behind p q) q.handed
+    → queue q ≡ queue_at (place_at p q.texts ∷ places_behind p q) (first_number q)
 unfolding queue_places
-first_queued q p h = ap (λ ps. queue_at (places_at ps q.texts) q.handed) h
+first_queued q p h = ap (λ ps. queue_at (places_at ps q.texts) (first_number q)) h
 
 -- With nothing in front, its token is handed out next.
 pub first_taken : (q : Queue) (p : Place) → BeginsWithPlace (Some p) q → coded_opening p.front ≡ opening.Nothing
-    → seen.take (queue q) ≡ (Some (place_at p q.texts).piece, queue_at (places_behind p q) (q.handed + 1))
+    → seen.take (queue q) ≡ (Some (place_at p q.texts).piece, queue_at (places_behind p q) (first_number q + 1))
 first_taken q p h bare =
     let ps = places_behind p q in
     ap seen.take (first_queued q p h)
-    ∙ ap (λ o. take_of o (place_at p q.texts) ps (queue_at (place_at p q.texts ∷ ps) q.handed)) bare
+    ∙ ap (λ o. take_of o (place_at p q.texts) ps (queue_at (place_at p q.texts ∷ ps) (first_number q))) bare
 
 -- That is the token which is looked at.
 pub first_is : (q : Queue) (p : Place) (t : Piece) → BeginsWithPlace (Some p) q
@@ -72,9 +72,11 @@ first_is q p t h bare is = ap (λ r. unwrap_or r t) (sym (ap (λ x. x.0) (first_
 -- Then those behind it are left.
 pub first_left : (q : Queue) (p : Place) (s : Texts) (new : seen.Queue) → BeginsWithPlace (Some p) q
     → coded_opening p.front ≡ opening.Nothing → s ≡ texts_behind p q.texts
-    → new ≡ queue_at (places_at (drop (q.spent + 1) q.places.items) s) (q.handed + 1) → new ≡ behind_first (queue q)
+    → new ≡ queue_at (places_at (drop (q.spent + 1) q.places.items) s) (q.base + (q.spent + 1))
+    → new ≡ behind_first (queue q)
 first_left q p s new h bare left is =
-    is ∙ ap (λ r. queue_at (places_at (drop (q.spent + 1) q.places.items) r) (q.handed + 1)) left
+    is ∙ ap (λ r. queue_at (places_at (drop (q.spent + 1) q.places.items) r) (q.base + (q.spent + 1))) left
+    ∙ ap (queue_at (places_behind p q)) (omega arith)
     ∙ sym (ap (λ x. x.1) (first_taken q p h bare))
 
 -- What comes in front of a token has no parts.
@@ -92,7 +94,7 @@ pub front_taken : (q : Queue) (p : Place) (t : Piece) → BeginsWithPlace (Some 
     → (coded_opening p.front ≡ opening.Nothing → ⊥) → first_of (queue q) ≡ Some t → IsFront t
 front_taken q p t h some is =
     let ps = places_behind p q in
-    front_token (coded_opening p.front) (place_at p q.texts) ps (queue_at (place_at p q.texts ∷ ps) q.handed) t some
+    front_token (coded_opening p.front) (place_at p q.texts) ps (queue_at (place_at p q.texts ∷ ps) (first_number q)) t some
     (ap first_of (sym (first_queued q p h)) ∙ is)
 
 -- Behind the start of a mapping comes its first key.

@@ -20,7 +20,7 @@ use Rattle.saphyr_scanner.specs.Steps.Queue as seen
 use Rattle.saphyr_scanner.specs.Steps.Queue.{bare_place, is_empty_list}
 use Rattle.saphyr_scanner.specs.Views.Texts.{Texts, BeginsWithText, BeginsWithTexts, IsTextOf, behind_text, first_extent, nothing, with_last_extent, with_last_text}
 use Rattle.saphyr_scanner.specs.Views.Places.{AddsBehind, Fit, HasTexts, HasTextsOf, extent_at, extent_of, handle_length, is_apart, coded_opening, near_span, parts_at, place_at, places_at, texts_behind, texts_behind_of, token_with}
-use Rattle.saphyr_scanner.specs.Views.Queue.{queue, queue_places}
+use Rattle.saphyr_scanner.specs.Views.Queue.{first_number, queue, queue_places}
 use Rattle.saphyr_scanner.specs.Views.Tokens.{Parts, Piece, kind_with, piece_with, texts_alone, token_kind}
 use Rattle.saphyr_scanner.proofs.Queues.{queue_at}
 
@@ -258,13 +258,13 @@ adds_apart p e handle text s far bare h k =
 -- The token of a place that is put behind the others comes behind theirs.
 pub put_behind : (q : Queue) (qs : List Place) (p : Place) (t : Piece) (new : Texts) → qs ≡ q.places.items ++ p ∷ []
     → AddsBehind t p q.texts new
-    → Fit (drop q.spent qs) new × (queue_at (places_at (drop q.spent qs) new) q.handed ≡ seen.with_piece t (queue q))
+    → Fit (drop q.spent qs) new × (queue_at (places_at (drop q.spent qs) new) (first_number q) ≡ seen.with_piece t (queue q))
 unfolding queue_places
 put_behind q qs p t new is adds =
     let both = adds (drop q.spent q.places.items) q.fit in
     let same = ap (drop q.spent) is ∙ drop-append-le q.spent q.places.items (p ∷ []) q.within in
-    subst (λ rs. Fit rs new × (queue_at (places_at rs new) q.handed ≡ seen.with_piece t (queue q))) (sym same)
-    (both.0, ap (λ ps. queue_at ps q.handed) both.1)
+    subst (λ rs. Fit rs new × (queue_at (places_at rs new) (first_number q) ≡ seen.with_piece t (queue q))) (sym same)
+    (both.0, ap (λ ps. queue_at ps (first_number q)) both.1)
 
 -- ## How many there are
 

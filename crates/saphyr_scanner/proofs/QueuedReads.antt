@@ -21,7 +21,7 @@ use Rattle.saphyr_scanner.specs.declared.queue.Queue.{Queue}
 use Rattle.saphyr_scanner.specs.declared.queue.place.Place.{Place}
 use Rattle.saphyr_scanner.specs.Views.Places.{Fit, places_at}
 use Rattle.saphyr_scanner.specs.Views.Reads.{PlacesToken, TokenRead, queue_with_token, read_piece}
-use Rattle.saphyr_scanner.specs.Views.Queue.{queue}
+use Rattle.saphyr_scanner.specs.Views.Queue.{first_number, queue}
 use Rattle.saphyr_scanner.proofs.QueuedPlaces.{put_behind}
 use Rattle.saphyr_scanner.proofs.Queues.{queue_at}
 use Rattle.saphyr_scanner.specs.Views.Texts.{Texts, AreTextsOf, IsTextOf}
@@ -160,7 +160,7 @@ pub token_put : {A X : Type 0} (q : Queue) (qs : List Place) (p : Place) (kind :
     (new : Texts) (s : Cursor) (known : X) (f : TokenRead A X) → qs ≡ q.places.items ++ p ∷ []
     → PlacesToken kind start q.texts new s (Ok (p, known)) f
     → Fit (drop q.spent qs) new
-    × (queue_with_token kind (queue q) start f ≡ Ok (queue_at (places_at (drop q.spent qs) new) q.handed, known, s))
+    × (queue_with_token kind (queue q) start f ≡ Ok (queue_at (places_at (drop q.spent qs) new) (first_number q), known, s))
 token_put q qs p kind start new s known (Err e) is h = absurd h
 token_put q qs p kind start new s known (Ok x) is h =
     let both = put_behind q qs p (read_piece kind start x) new is h.2 in

@@ -6,7 +6,7 @@ mod read;
 mod take;
 mod texts;
 
-ghost use Rattle.std.specs.Prelude.{◌≡◌, ◌++◌, ◌<◌, ◌≤◌, length, drop, IfOk, OnOk, string_bytes, vec_len, vec_capacity};
+ghost use Rattle.std.specs.Prelude.{◌≡◌, ◌++◌, ◌<◌, ◌≤◌, ◌^◌, length, drop, IfOk, OnOk, string_bytes, vec_len, vec_capacity};
 ghost use Rattle.saphyr_scanner.specs.Steps.Queue as spec;
 ghost use Rattle.saphyr_scanner.specs.Views.Places.{Fit, Fit-prop, parts_at};
 
@@ -19,6 +19,9 @@ use std::alloc::{AllocError, Global};
 
 // How many more places there is room for when more are needed.
 const FEW: usize = 16;
+
+// The largest number that the first place here may have.
+const MOST: usize = usize::MAX / 2;
 
 /// What comes in front of a token: nothing, or the tokens that make it a key. The definitions of what a queue gives
 /// speak of it, so it is public.
@@ -47,8 +50,10 @@ pub(crate) struct Queue {
     spent: usize,
     // The texts of the others.
     texts: Texts,
-    // How many places were handed out since the text's start, which is the number of the first one here.
-    handed: usize,
+    // The number of the first place here, counted from the text's start.
+    base: usize,
+    // So no number of a place is too large.
+    ghost few: { base < 2 ^ 63 },
     ghost within: { spent ≤ length places.items },
     ghost fit: { Fit (drop spent places.items) texts } by { Fit-prop (drop spent places.items) texts },
 }
@@ -65,7 +70,7 @@ impl Queue {
             places: Vec::new(alloc),
             spent: 0,
             texts: Texts::new(alloc),
-            handed: 0,
+            base: 0,
         }
     }
 
@@ -84,18 +89,19 @@ impl Queue {
         self.len() == 0
     }
 
-    /// The number of the first place.
+    /// The number of the first place that was not handed out.
     pub(crate) fn first(&self) -> usize
         ensures { result ≡ (queue self.now).handed }
     {
-        self.handed
+        self.base + self.spent
     }
 
     /// The number of the place that comes next.
-    pub(crate) fn next(&self) -> Result<usize, AllocError>
-        ensures { IfOk result (λ number. number ≡ spec.next (queue self.now)) }
+    #[tactic(auto, using(crate::proofs::QueuedPlaces::queued_length))]
+    pub(crate) fn next(&self) -> usize
+        ensures { result ≡ spec.next (queue self.now) }
     {
-        self.handed.checked_add(self.len()).ok_or(AllocError)
+        self.base + self.places.len()
     }
 
     // Makes room for one more place.
@@ -120,9 +126,14 @@ impl Queue {
     {
         self.texts.clear_spent();
         if self.spent > self.places.len() / 2 {
+            let base = self.first();
+            if base > MOST {
+                return Err(AllocError);
+            }
             let left = self.places.len() - self.spent;
             self.places.copy_within(self.spent.., 0);
             self.places.truncate(left);
+            self.base = base;
             self.spent = 0;
             return Ok(());
         }
@@ -213,7 +224,7 @@ impl Queue {
     pub(crate) fn set_opening(&mut self, number: usize, opening: Opening)
         ensures { queue self.new ≡ spec.with_opening number opening (queue self.old) }
     {
-        let nth = number.saturating_sub(self.handed);
+        let nth = number.saturating_sub(self.first());
         if nth >= self.places.len() - self.spent {
             return;
         }
@@ -230,7 +241,7 @@ impl Queue {
             places: self.places.clone()?,
             spent: self.spent,
             texts: self.texts.try_clone()?,
-            handed: self.handed,
+            base: self.base,
         })
     }
 }

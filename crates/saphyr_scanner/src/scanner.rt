@@ -16,7 +16,7 @@ ghost use Rattle.saphyr_scanner.specs.TokensTaken.{AreTakenFrom};
 use crate::engine::Engine;
 use crate::growth::Growth;
 use crate::law::{orders_spans, takes_all_tokens, takes_characters_off};
-use crate::stopped::{Stopped, keep};
+use crate::stopped::{Halt, Stopped, keep};
 use crate::token::{TokenKind, TokenParts};
 use saphyr_input::input::{CloneInput, Input};
 use saphyr_scalar::{Span, Stop, TagParts};
@@ -25,12 +25,12 @@ use std::marker::Model;
 
 // What a call told that reads up to a limit: it stopped where the limit was passed.
 #[inline(always)]
-fn within(read: Result<bool, Stopped>) -> Result<(), Stopped>
+fn within(read: Result<(), Halt>) -> Result<(), Stopped>
     ensures { result ≡ long.within read }
 {
     match read {
-        Ok(true) => Ok(()),
-        _ => Err(Stopped),
+        Ok(()) => Ok(()),
+        Err(_) => Err(Stopped),
     }
 }
 
@@ -105,7 +105,7 @@ impl<T: Input> Scanner<T> {
         ensures { PeeksToken result self.old self.new }
     {
         self.fill()?;
-        self.engine.first()
+        Ok(self.engine.first())
     }
 
     // Reads until the next token can be handed out, unless all were. Mostly there is no candidate, and then this looks

@@ -1,5 +1,6 @@
 //! The error of a step that keeps what ended the reading.
 
+ghost use Rattle.std.specs.Prelude.{◌≡◌};
 ghost use Rattle.saphyr_scanner.specs.Views.Engine.{Keeps};
 
 use saphyr_scalar::Stop;
@@ -7,6 +8,26 @@ use saphyr_scalar::Stop;
 /// What ended the reading is kept by who returns this.
 #[derive(Clone, Copy, Debug, PartialEq, Eq)]
 pub struct Stopped;
+
+/// Why no token is read on.
+#[derive(Clone, Copy)]
+pub(crate) enum Halt {
+    /// With the last one the text is too long.
+    Limit,
+    /// A step stopped.
+    Step,
+}
+
+impl From<Stopped> for Halt {
+    ghost use Rattle.saphyr_scanner.specs.declared.stopped.Halt.TheVariants.{Step};
+
+    ghost from_gives = { λ _ e. e ≡ Step };
+
+    #[inline(always)]
+    fn from(_stopped: Stopped) -> Halt {
+        Halt::Step
+    }
+}
 
 /// Passes on what a call returned, and keeps what ended the reading, if something did.
 #[inline(always)]

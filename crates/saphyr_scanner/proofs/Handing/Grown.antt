@@ -13,6 +13,8 @@ use Rattle.saphyr_scalar.proofs.WhatCame.Rests.{known_before, not_open}
 use Rattle.saphyr_scalar.proofs.WhatCame.Steps.{Came, choose, stays, and_known}
 use Rattle.saphyr_scanner.specs.declared.growth.Growth.{Growth}
 use Rattle.saphyr_scanner.specs.declared.growth.Growth.TheVariants as growth
+use Rattle.saphyr_scanner.specs.declared.stopped.Halt.{Halt}
+use Rattle.saphyr_scanner.specs.declared.stopped.Halt.TheVariants as halt
 use Rattle.saphyr_scanner.specs.declared.stopped.Stopped.{Stopped}
 use Rattle.saphyr_scanner.specs.Longer.{extended_by}
 use Rattle.saphyr_scanner.specs.Steps.Core.{Core, drop_far_key, forget_key, in_block, is_too_far}
@@ -216,7 +218,7 @@ pub fills_whole : (old new : Scanning) (r : Result Unit Stopped) → is_growing 
     → new.growth ≡ old.growth → Fills old new r → FillsAlways old new r
 fills_whole old new r whole same f = grind arith
 
-pub fills_growing : Readers → (old new : Scanning) (r : Result Bool Stopped)
+pub fills_growing : Readers → (old new : Scanning) (r : Result Unit Halt)
     → is_growing old.growth ≡ true → new.growth ≡ old.growth
     → is_decided (as_read r) new.state.core.cursor.rest new.stop ≡ true
     → Fills old new (within r) → TurnsTooLong (fill old.limit) old.state r new.state new.stop
@@ -232,14 +234,14 @@ fills_growing laws old new r grows same decided f long = record {
     known : not (may_be_open rest) ≡ true → may_be_open rest ≡ false
     known e = sym (not-not (may_be_open rest)) ∙ ap not e
 
-    by : (more : List ℕ) (q : Result Bool Stopped) (end : Stop)
+    by : (more : List ℕ) (q : Result Unit Halt) (end : Stop)
         → is_decided (as_read q) rest end ≡ true → FillsOver old.state.core.cursor.rest rest old new end (within q)
         → TurnsTooLong (fill old.limit) old.state q new.state end
         → FillsOver (old.state.core.cursor.rest ++ more) (rest ++ more) old new end (within q)
-    by more (Ok true) end e g l = (fill_came laws old.limit more old.state).same new.state g (not_open rest (known e))
-    by more (Ok false) end e g l = (l.1 more (known e)).1
-    by more (Err e) stops.OutOfMemory known g l = tt
-    by more (Err e) (stops.Refused d) seen g l = (fill_came laws old.limit more old.state).reported d g seen
+    by more (Ok u) end e g l = (fill_came laws old.limit more old.state).same new.state g (not_open rest (known e))
+    by more (Err halt.Limit) end e g l = (l.1 more (known e)).1
+    by more (Err halt.Step) stops.OutOfMemory known g l = tt
+    by more (Err halt.Step) (stops.Refused d) seen g l = (fill_came laws old.limit more old.state).reported d g seen
 
 -- The stream's start is put whatever comes.
 pub fills_at_start : (old new : Scanning) (r : Result Unit Stopped) → is_at_start old.state.core ≡ true

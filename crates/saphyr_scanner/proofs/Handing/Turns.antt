@@ -252,12 +252,12 @@ readies_from (Ok u) old seen new same h = (λ more. h.0 more ∙ same more, h.1)
 readies_from (Err e) old seen new same h = λ more. subst (EndsTokens new.stop) (same more) (h more)
 
 -- What is shown of the first token is so, whatever comes.
-pub shows : (r : Result (Option TokenKind) Stopped) (old new : Scanning)
+pub shows : (kind : Option TokenKind) (old new : Scanning)
     → ((more : List ℕ) → tokens_in more new ≡ tokens_in more old) → is_ready new.state ≡ true
-    → IfOk r (λ kind. kind ≡ kind_shown (first_of new.state.queue))
-    → OnOk r (new.state.queue.handed + 1 < 2 ^ 64) → OnErr r (new.stop ≡ stops.OutOfMemory) → PeeksToken r old new
+    → kind ≡ kind_shown (first_of new.state.queue) → new.state.queue.handed + 1 < 2 ^ 64
+    → PeeksToken (Ok kind) old new
 unfolding tokens_over tokens_in
-shows (Ok kind) old new same ready shown counted failed = (
+shows kind old new same ready shown counted = (
   λ more. (
     subst (BeginsWith kind) (same more) (subst (λ k. BeginsWith k (tokens_in more new)) (sym shown)
         (begins new.limit (with_rest (text_in new.growth more new.state.core.cursor.rest) new.state) ready)),
@@ -265,5 +265,3 @@ shows (Ok kind) old new same ready shown counted failed = (
   ),
   (ready, counted),
 )
-shows (Err e) old new same ready shown counted failed =
-    λ more. subst (λ s. EndsTokens s (tokens_in more old)) (sym failed) tt

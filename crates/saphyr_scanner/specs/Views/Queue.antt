@@ -13,8 +13,12 @@ use Rattle.saphyr_scanner.specs.Steps.Queue.{Place, Queue, empty_piece, take, wi
 unfoldable pub queue_places : declared_queue.Queue → List Place
 queue_places q = places_at (drop q.spent q.places.items) q.texts
 
+-- the number of the first of them
+abbrev pub first_number : declared_queue.Queue → ℕ
+first_number q = q.base + q.spent
+
 abbrev pub queue : declared_queue.Queue → Queue
-queue q = record { places = queue_places q; handed = q.handed }
+queue q = record { places = queue_places q; handed = first_number q }
 
 -- The place is the first of those that were not handed out, if there is one.
 abbrev pub BeginsWithPlace : Option declared_place.Place → declared_queue.Queue → Type 0

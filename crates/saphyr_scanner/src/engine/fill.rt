@@ -7,7 +7,7 @@ ghost use Rattle.saphyr_scanner.specs.Steps.Fetch as fetch;
 
 use crate::engine::Engine;
 use crate::law::takes_characters_off;
-use crate::stopped::{Stopped, keep};
+use crate::stopped::{Halt, Stopped, keep};
 use crate::token::{TokenKind, TokenParts};
 use saphyr_input::input::Input;
 use saphyr_scalar::{FaultText, Refusal, Span, Stop, TagParts};
@@ -54,10 +54,10 @@ impl<T: Input> Engine<T> {
         (self.queue.is_empty() || self.is_held()) && !self.ended
     }
 
-    // Puts the next token into the queue. `false`: with it the text is too long, and refused.
+    // Puts the next token into the queue. If the text is too long with it, it is refused.
     #[inline(always)]
     #[tactic(auto, unfolding(crate::specs::Steps::Fetch::fetch_within))]
-    fn fetch_within(&mut self, limit: usize) -> Result<bool, Stopped>
+    fn fetch_within(&mut self, limit: usize) -> Result<(), Halt>
         ensures moves { MovesBy (fetch.fetch_within limit) self.old (within result) self.new }
         ensures long { TurnsTooLong (fetch.fetch_within limit) (state self.old) result
             (state self.new) self.new.stop }
@@ -67,9 +67,9 @@ impl<T: Input> Engine<T> {
         if mark.index > limit {
             let text = FaultText::TextTooLong;
             self.stop = Stop::Refused(Refusal { text, mark });
-            return Ok(false);
+            return Err(Halt::Limit);
         }
-        Ok(true)
+        Ok(())
     }
 
     /// Whether nothing that is open has a candidate. Then no token is held.
@@ -102,9 +102,9 @@ impl<T: Input> Engine<T> {
     }
 
     /// Reads tokens until the head of the queue can be handed out, unless all were. To be called where the next token
-    /// must be read. `false`: the text is too long, and refused.
+    /// must be read.
     #[inline(never)]
-    pub(crate) fn read_tokens(&mut self, limit: usize) -> Result<bool, Stopped>
+    pub(crate) fn read_tokens(&mut self, limit: usize) -> Result<(), Halt>
         requires needed { fetch.needs_token (state self.old) ≡ true }
         requires settled { fetch.without_far_key (state self.old) ≡ Ok (state self.old) }
         ensures moves { MovesBy (fetch.fill limit) self.old (within result) self.new }
@@ -114,12 +114,10 @@ impl<T: Input> Engine<T> {
         // A law. It does nothing when it runs.
         takes_characters_off();
         loop {
-            if !self.fetch_within(limit)? {
-                return Ok(false);
-            }
+            self.fetch_within(limit)?;
             self.drop_far_key()?;
             if !self.needs_token() {
-                return Ok(true);
+                return Ok(());
             }
         }
     }
@@ -179,43 +177,27 @@ impl<T: Input> Engine<T> {
 
     /// The kind of the first token, unless all were handed out.
     #[inline(always)]
-    pub(crate) fn first(&mut self) -> Result<Option<TokenKind>, Stopped>
-        ensures kind { IfOk result
-            (λ kind. kind ≡ kind_shown (first_of (state self.new).queue)) }
-        ensures same { state self.new ≡ state self.old }
-        ensures counted { OnOk result ((state self.new).queue.handed + 1 < 2 ^ 64) }
-        ensures failed { OnErr result (self.new.stop ≡ OutOfMemory) }
+    pub(crate) fn first(&self) -> Option<TokenKind>
+        ensures kind { result ≡ kind_shown (first_of (state self.now).queue) }
+        ensures counted { (state self.now).queue.handed + 1 < 2 ^ 64 }
     {
-        if self.queue.first() == usize::MAX {
-            return Err(self.run_out_of_memory());
-        }
-        Ok(self.queue.peek())
+        self.queue.peek()
     }
 
     /// Whether what was read is so whatever comes behind what came of the text.
-    pub(crate) fn is_decided(&mut self, read: Result<bool, Stopped>) -> bool
+    pub(crate) fn is_decided(&mut self, read: Result<(), Halt>) -> bool
         ensures decided { result
             ≡ is_decided (as_read read) (state self.old).core.cursor.rest self.old.stop }
         ensures same { state self.new ≡ state self.old }
         ensures stop { self.new.stop ≡ self.old.stop }
     {
         match read {
-            Ok(_) => !self.reader.is_at_open_end(),
-            Err(Stopped) => match self.stop {
+            Ok(()) | Err(Halt::Limit) => !self.reader.is_at_open_end(),
+            Err(Halt::Step) => match self.stop {
                 Stop::Refused(refusal) => refusal.text.is_seen(),
                 Stop::OutOfMemory => true,
             },
         }
-    }
-
-    // More tokens can't be counted.
-    #[inline(never)]
-    fn run_out_of_memory(&mut self) -> Stopped
-        ensures stop { self.new.stop ≡ OutOfMemory }
-        ensures same { state self.new ≡ state self.old }
-    {
-        self.stop = Stop::OutOfMemory;
-        Stopped
     }
 
     /// The span of the first token goes into the place of another.
@@ -229,7 +211,6 @@ impl<T: Input> Engine<T> {
     /// Takes the first token off the queue. Its span goes into the place of another.
     #[inline(always)]
     pub(crate) fn skip_into(&mut self, span: &mut Span)
-        requires { (state self.old).queue.handed + 1 < 2 ^ 64 }
         ensures span { (t : Piece) → first_of (state self.old).queue ≡ Some t
             → span.new ≡ t.span }
         ensures left { state self.new ≡ (fetch.take_token (state self.old)).1 }
@@ -240,7 +221,6 @@ impl<T: Input> Engine<T> {
     /// Takes the first token off the queue. Its text goes into the place of another.
     #[inline(always)]
     pub(crate) fn take_text_into(&mut self, into: &mut String) -> Result<(), Stopped>
-        requires { (state self.old).queue.handed + 1 < 2 ^ 64 }
         ensures text { (t : Piece) (text : List ℕ) → first_of (state self.old).queue ≡ Some t
             → text_of t.kind ≡ Some text → OnOk result (string_bytes into.new ≡ text) }
         ensures left { OnOk result (state self.new ≡ (fetch.take_token (state self.old)).1) }
@@ -253,7 +233,6 @@ impl<T: Input> Engine<T> {
 
     /// Takes the first token off the queue, and returns its parts.
     pub(crate) fn take_parts(&mut self) -> Result<TokenParts, Stopped>
-        requires { (state self.old).queue.handed + 1 < 2 ^ 64 }
         ensures parts { (t : Piece) → first_of (state self.old).queue ≡ Some t
             → IfOk result (λ x. t.kind ≡ kind_with (token_kind t.kind) (parts_view x)) }
         ensures left { OnOk result (state self.new ≡ (fetch.take_token (state self.old)).1) }

@@ -87,7 +87,7 @@ impl<T: Input> Engine<T> {
         ensures { ActsBy (flow.opening_steps context (kind_with kind no_parts)
             (next (state self.old).queue)) self.old result self.new }
     {
-        self.save_key()?;
+        self.save_key();
         self.go_deeper();
         self.open_collection(context, kind)
     }

@@ -6,7 +6,7 @@ ghost use Rattle.saphyr_scanner.specs.Steps.Core as spec;
 ghost use Rattle.saphyr_scanner.specs.Steps.State as spec_state;
 
 use crate::engine::{Candidate, Engine};
-use crate::stopped::{Stopped, keep};
+use crate::stopped::Stopped;
 use saphyr_input::input::Input;
 use saphyr_scalar::FaultText;
 
@@ -19,22 +19,21 @@ impl<T: Input> Engine<T> {
 
     // The token that comes next may be a key, if one is allowed.
     #[inline(always)]
-    pub(super) fn save_key(&mut self) -> Result<(), Stopped>
+    pub(super) fn save_key(&mut self)
         requires { 0 < length (state self.old).core.cursor.rest }
-        ensures { CarriesBy (λ c. Ok (spec.save_key (next (state self.old).queue) c))
-            self.old result self.new }
+        ensures { state self.new ≡ spec_state.with_core
+            (spec.save_key (next (state self.old).queue) (state self.old).core) (state self.old) }
     {
         if !self.key_allowed {
-            return Ok(());
+            return;
         }
         let mark = self.reader.mark();
-        let place = keep(&mut self.stop, self.queue.next())?;
+        let place = self.queue.next();
         if self.in_block() {
             self.required = !self.deeper && self.indent == mark.col + 1;
         }
         self.level.key = Candidate { mark, place };
         self.level.has_key = true;
-        Ok(())
     }
 
     // No token of the level may be a key any more.

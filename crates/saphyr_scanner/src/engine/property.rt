@@ -21,7 +21,7 @@ impl<T: Input> Engine<T> {
         ensures { ActsBy (property.name_steps (name_kind kind) (next (state self.old).queue))
             self.old result self.new }
     {
-        self.save_key()?;
+        self.save_key();
         self.key_allowed = false;
         keep(&mut self.stop, self.queue.read_name(kind, &mut self.reader))
     }
@@ -33,7 +33,7 @@ impl<T: Input> Engine<T> {
         ensures { ActsBy (property.tag_steps (next (state self.old).queue)) self.old result
             self.new }
     {
-        self.save_key()?;
+        self.save_key();
         self.key_allowed = false;
         let in_flow = !self.in_block();
         let read = self.queue.read_tag(&mut self.reader, in_flow);

@@ -59,7 +59,7 @@ impl<T: Input> Engine<T> {
         ensures { ActsBy (scalar.quoted_steps quote (next (state self.old).queue)) self.old result
             self.new }
     {
-        self.save_key()?;
+        self.save_key();
         self.key_allowed = false;
         self.read_quoted(quote)
     }
@@ -72,7 +72,7 @@ impl<T: Input> Engine<T> {
         ensures { ActsBy (scalar.plain_steps (next (state self.old).queue)) self.old result
             self.new }
     {
-        self.save_key()?;
+        self.save_key();
         self.key_allowed = false;
         self.deeper = false;
         let start = self.reader.mark();
@@ -96,7 +96,7 @@ impl<T: Input> Engine<T> {
         ensures { ActsBy (scalar.block_scalar_steps style (next (state self.old).queue))
             self.old result self.new }
     {
-        self.save_key()?;
+        self.save_key();
         self.key_allowed = true;
         self.deeper = false;
         let scalar = self

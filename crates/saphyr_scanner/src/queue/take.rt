@@ -24,7 +24,8 @@ impl Queue {
     /// The kind of the token that is handed out next, if there is one.
     #[inline(always)]
     pub(crate) fn peek(&self) -> Option<TokenKind>
-        ensures { result ≡ kind_shown (first_of (queue self.now)) }
+        ensures kind { result ≡ kind_shown (first_of (queue self.now)) }
+        ensures counted { (queue self.now).handed + 1 < 2 ^ 64 }
     {
         let place = self.first_place()?;
         if !place.is_opened() {
@@ -55,7 +56,6 @@ impl Queue {
     /// Takes off the token that is handed out next. Its span goes into the place of another.
     #[inline(always)]
     pub(crate) fn skip_into(&mut self, span: &mut Span)
-        requires { self.old.handed + 1 < 2 ^ 64 }
         ensures span { (t : Piece) → first_of (queue self.old) ≡ Some t → span.new ≡ t.span }
         ensures left { queue self.new ≡ behind_first (queue self.old) }
     {
@@ -68,7 +68,6 @@ impl Queue {
         if !first.is_opened() {
             first.pass_texts(&mut self.texts);
             self.spent += 1;
-            self.handed += 1;
             return;
         }
         span.end = span.start;
@@ -83,7 +82,6 @@ impl Queue {
     // in front of it.
     #[inline(never)]
     fn skip_opening(&mut self)
-        requires { self.old.handed + 1 < 2 ^ 64 }
         ensures { queue self.new ≡ behind_first (queue self.old) }
     {
         self.skip_into(&mut Span::empty(Marker::new(0, 0, 0)));
@@ -97,7 +95,6 @@ impl Queue {
         spare: &mut Spare,
         into: &mut String,
     ) -> Result<(), AllocError>
-        requires { self.old.handed + 1 < 2 ^ 64 }
         ensures text { (t : Piece) (text : List ℕ) → first_of (queue self.old) ≡ Some t
             → text_of t.kind ≡ Some text → OnOk result (string_bytes into.new ≡ text) }
         ensures left { OnOk result (queue self.new ≡ behind_first (queue self.old)) }
@@ -113,7 +110,6 @@ impl Queue {
         }
         place.take_text_into(&mut self.texts, into)?;
         self.spent += 1;
-        self.handed += 1;
         Ok(())
     }
 
@@ -123,7 +119,6 @@ impl Queue {
         alloc: Global,
         spare: &mut Spare,
     ) -> Result<TokenParts, AllocError>
-        requires { self.old.handed + 1 < 2 ^ 64 }
         ensures parts { (t : Piece) → first_of (queue self.old) ≡ Some t
             → IfOk result (λ x. t.kind ≡ kind_with (token_kind t.kind) (parts_view x)) }
         ensures left { OnOk result (queue self.new ≡ behind_first (queue self.old)) }
@@ -138,7 +133,6 @@ impl Queue {
         }
         let parts = place.take_parts(alloc, &mut self.texts, spare)?;
         self.spent += 1;
-        self.handed += 1;
         Ok(parts)
     }
 }

@@ -1,8 +1,9 @@
 -- The first token is taken off, or what comes in front of it.
-use Rattle.std.proofs.Common.{rules, ◌∙◌, ◌∷◌}
+use Rattle.std.proofs.Common.{rules, subst, sym, ◌∙◌, ◌∷◌, ◌≤◌}
+use Rattle.std.proofs.lemmas.List.{length-set}
 use Rattle.saphyr_scanner.specs.declared.queue.Opening.TheVariants as opening
 use Rattle.saphyr_scanner.specs.Views.Places.{coded_opening, place_at}
-use Rattle.saphyr_scanner.specs.Views.Queue.{queue_places}
+use Rattle.saphyr_scanner.specs.Views.Queue.{first_number, queue_places}
 use Rattle.saphyr_scanner.proofs.FirstQueued.{begins_at, first_queued, key_behind, opened_first, places_behind}
 use Rattle.saphyr_scanner.proofs.Queues.{queue_at}
 use Rattle.saphyr_scanner.proofs.queue.Queue.skip_into.Goals as goal
@@ -36,6 +37,16 @@ returns-in_default-opening-clause-left c =
     let some = c.is_opened.ensures.opened c.if-not-is_opened.false in
     let ps = places_behind place old in
     let behind = key_behind (coded_opening place.front) (place_at place old.texts) ps
-    (queue_at (place_at place old.texts ∷ ps) old.handed) some
+    (queue_at (place_at place old.texts ∷ ps) (first_number old)) some
     (λ is. c.in_default-opening.not-Key (c.opening.ensures ∙ is)) in
     search (rules, first, opened, behind)
+
+pub invariant_of-self-in-Key-clause-within : goal.invariant_of-self-in-Key-clause-within
+invariant_of-self-in-Key-clause-within c =
+    let old = c.args.self.now in
+    subst (λ n. old.spent ≤ n) (sym (length-set old.places.items old.spent c.open.new.self)) old.within
+
+pub invariant_of-self-in_default-opening-clause-within : goal.invariant_of-self-in_default-opening-clause-within
+invariant_of-self-in_default-opening-clause-within c =
+    let old = c.args.self.now in
+    subst (λ n. old.spent ≤ n) (sym (length-set old.places.items old.spent c.open-in_default-opening.new.self)) old.within

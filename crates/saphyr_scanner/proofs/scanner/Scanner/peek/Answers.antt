@@ -15,8 +15,8 @@ returns g c =
       growth = c.self.inside.growth;
       stop = c.self.inside.engine.stop;
     } in
-    let ready : is_ready (state c.first.new.self) ≡ true = search rules in
-    shows c.first.result _ _
-    (λ more. ap (λ s. tokens_in more (record read { state = s })) c.first.ensures.same ∙ ap (tokens_in more)
-    c.self.view_is
-    ∙ c.in_ok-fill.ensures.0 more) ready c.first.ensures.kind c.first.ensures.counted c.first.ensures.failed
+    let ready : is_ready read.state ≡ true = search rules in
+    let shown = shows c.first.result c.args.self.now read
+    (λ more. ap (tokens_in more) c.self.view_is ∙ c.in_ok-fill.ensures.0 more) ready c.first.ensures.kind
+    c.first.ensures.counted in
+    search (rules, shown)
