@@ -15,6 +15,10 @@ pub given_of : {X : Type 0} → (P : X → Type 0) (r : Result X Refusal) (x : X
 given_of P (Ok y) x h e = let same : y ≡ x = cc in subst P same h
 given_of P (Err f) x h e = absurd (cc)
 
+pub given_map : {X : Type 0} → (P Q : X → Type 0) (r : Result X Refusal) → ((x : X) → P x → Q x) → Given P r → Given Q r
+given_map P Q (Ok x) f h = f x h
+given_map P Q (Err e) f h = tt
+
 -- what two steps give, the first gave something for
 pub bind_ok : {X Y : Type 0} → (r : Result X Refusal) (f : X → Result Y Refusal) (y : Y) → (r >>= f) ≡ Ok y
     → (x : X) × (r ≡ Ok x) × (f x ≡ Ok y)
@@ -50,9 +54,6 @@ RefusedAt start r = Refused (λ e. e.mark ≡ start) r
 -- ## Results
 
 -- a text and where it is left
-abbrev pub together : List ℕ → Cursor → List ℕ × Cursor
-together text s = (text, s)
-
 abbrev pub text_given : List ℕ → Cursor → Result (List ℕ × Cursor) Refusal
 text_given text s = Ok (text, s)
 

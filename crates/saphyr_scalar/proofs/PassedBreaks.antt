@@ -29,9 +29,6 @@ inside_same m = let i : m.index + 1 + 1 ≡ m.index + 2 = omega arith in rw i re
 pub along_same : (m : Marker) → next_line (along m 1) 1 ≡ next_line m 2
 along_same m = let i : m.index + 1 + 1 ≡ m.index + 2 = omega arith in rw i refl
 
-not_both : (c a b : ℕ) → (a == b) ≡ false → c ≡ b → (c == a) ≡ true → ⊥
-not_both c a b e f g = grind (arith, eqb-true, nat_tests)
-
 -- a character of the line
 pub one_here : (m : Marker) (c : ℕ) (cs : List ℕ) (r : Cursor) → is_break c ≡ false → PassesBreak (along m 1) cs r
     → PassesBreak m (c ∷ cs) r

@@ -15,3 +15,4 @@ pub mod WordsRead
 pub mod WordEnds
 pub mod LineEnds
 pub mod Sound
+pub mod Behind

@@ -8,18 +8,12 @@ use Rattle.saphyr_scanner.specs.Steps.State.{State, with_core}
 use Rattle.saphyr_scanner.specs.Steps.Core.{Core, in_block}
 use Rattle.saphyr_scanner.specs.Steps.Unrolling.{end_blocks, end_block, is_right_of, with_outer_indent, go_less_deep, unroll}
 use Rattle.saphyr_scanner.specs.Views.Queue.{with_block_ends}
-use Rattle.saphyr_scanner.proofs.Queues.{next_end}
 use Rattle.saphyr_input.proofs.Basics.Booleans.{by_test}
 
 pub none_ends : (column : Option ℕ) (m : Marker) (is : List ℕ) (s : State) → is_right_of column s.core.indent ≡ false
     → end_blocks column m is s ≡ s
 none_ends column m [] s e = rw e refl
 none_ends column m (i ∷ is) s e = rw e refl
-
-one_less : (column : Option ℕ) (m : Marker) (is : List ℕ) (s : State) → is_right_of column s.core.indent ≡ true
-    → s.core.outer_indents ≡ is
-    → end_blocks column m (end_block m s).core.outer_indents (end_block m s) ≡ end_blocks column m is s
-one_less column m is s right outer = grind arith
 
 -- a state after so many block collections ended at a place
 abbrev pub with_ends : ℕ → Marker → State → State

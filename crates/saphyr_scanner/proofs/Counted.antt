@@ -1,7 +1,7 @@
 -- What is passed is counted: the index is further by as many characters as are taken off the text.
 use Rattle.std.proofs.Common.{◌≡◌, ℕ, ◌+◌, ◌≤◌, List, ◌++◌, length, refl, ap, arith}
 use Rattle.std.proofs.lemmas.List.{length-append}
-use Rattle.saphyr_scalar.specs.Views.Cursor.{Cursor, pass_break}
+use Rattle.saphyr_scalar.specs.Views.Cursor.{Cursor}
 use Rattle.saphyr_scalar.specs.Passing.{IsPassed}
 use Rattle.saphyr_scanner.specs.TokensTaken.{AreApart}
 use Rattle.saphyr_scanner.proofs.Taken.Later.{apart_later, passed_later}
@@ -22,10 +22,6 @@ pub text_passed : (s t : Cursor) (text : List ℕ) → s.rest ≡ text ++ t.rest
     → Ahead s t
 text_passed s t text r i =
     record { later = omega arith; counted = omega (arith, length-append text t.rest, ap length r) }
-
--- the break at the front is passed, if there is one
-pub pass_break_counted : (s : Cursor) → Ahead s (pass_break s)
-pass_break_counted s = grind arith
 
 pub passed_over : (s t : Cursor) → IsPassed s.mark s.rest t.mark t.rest → Ahead s t
 passed_over s t p =

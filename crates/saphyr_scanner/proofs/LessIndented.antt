@@ -1,14 +1,13 @@
 -- Lines that reach a column reach each column left of it.
 use Rattle.std.proofs.Common.{◌≡◌, ℕ, ◌≤◌, Bool, true, List, drop, slice_index, arith, IsTrue}
-use Rattle.std.specs.Prelude.{◌||◌, ◌==◌, nat_le}
-use Rattle.std.proofs.lemmas.Bool.{le-leb, leb-true, or_left, or_right}
-use Rattle.saphyr_input.specs.Classes.{is_break}
+use Rattle.std.specs.Prelude.{◌||◌, ◌==◌}
+use Rattle.std.proofs.lemmas.Bool.{or_left, or_right}
 use Rattle.saphyr_input.specs.Indicators.{quotation_mark}
 use Rattle.saphyr_input.proofs.Basics.Booleans.{either}
 use Rattle.saphyr_scalar.specs.declared.values.Item.{Item}
 use Rattle.saphyr_scalar.specs.declared.values.Quote.{Quote}
 use Rattle.saphyr_scalar.specs.Spelling.IndentedQuotes.{HasIndentedLines}
-use Rattle.saphyr_scalar.specs.Spelling.LaterLines.{indentation, behind_indentation, is_quoted_line}
+use Rattle.saphyr_scalar.specs.Spelling.LaterLines.{is_quoted_line}
 use Rattle.saphyr_scalar.specs.Spelling.LineBreaks.{break_len}
 use Rattle.saphyr_scalar.specs.Spelling.Quoted.{IsText, closed, itself, broken, two_quotes, escaped, numbered, escaped_break}
 

@@ -21,7 +21,6 @@ pub mod QueuedReads
 pub mod LineTexts
 pub mod Reached
 pub mod LessIndented
-pub mod PlainBehind
 pub mod Refusing
 pub mod Steps
 pub mod WhatCame

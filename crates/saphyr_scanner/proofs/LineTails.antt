@@ -1,13 +1,13 @@
 -- Blanks and a comment after a token on its line.
 use Rattle.std.proofs.Common.{◌≡◌, ℕ, suc, ◌+◌, ◌⊎◌, ◌≢◌, false, List, [], ◌∷◌, ◌++◌, length, drop, take, refl, sym, ap, ◌∙◌, arith, subst, inl, inr, append_assoc}
-use Rattle.std.specs.Prelude.{◌&&◌, ◌==◌, slice_index, nat_lt}
+use Rattle.std.specs.Prelude.{◌==◌, slice_index}
 use Rattle.std.specs.List.{prefix_len}
 use Rattle.std.proofs.lemmas.List.{length-append, append-nil, take-append-drop}
 use Rattle.std.proofs.lemmas.List.Folds.{length-prefix_len}
-use Rattle.saphyr_input.specs.Classes.{is_bom, is_blank, is_yaml_non_break}
+use Rattle.saphyr_input.specs.Classes.{is_blank, is_yaml_non_break}
 use Rattle.saphyr_input.specs.declared.input.SkipTabs.{SkipTabs}
 use Rattle.saphyr_input.specs.declared.input.SkipTabs.TheVariants.{Yes}
-use Rattle.saphyr_input.specs.Separation.{blank_len, comment_len, separation_len, is_bare_comment}
+use Rattle.saphyr_input.specs.Separation.{blank_len, comment_len, separation_len}
 use Rattle.saphyr_scalar.specs.declared.scalar.position.Marker.{Marker}
 use Rattle.saphyr_scalar.specs.Views.Cursor.{Cursor, along, pass_blanks, separation, behind_separation}
 use Rattle.saphyr_scalar.specs.Spelling.Directive.{IsTailComment, IsLineTail}

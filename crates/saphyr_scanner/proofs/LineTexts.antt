@@ -1,8 +1,8 @@
 -- Texts of one line: names, tags, and blanks with a comment.
-use Rattle.std.proofs.Common.{◌≡◌, ℕ, ◌⊎◌, List, [], refl, sym, subst, inl, inr, arith}
+use Rattle.std.proofs.Common.{ℕ, List, refl, sym, subst, inl, inr, arith}
 use Rattle.std.specs.Prelude.{codes}
-use Rattle.saphyr_input.specs.Classes.{is_blank, is_yaml_non_break, is_anchor_char, is_tag_char, is_uri_char}
-use Rattle.saphyr_scalar.specs.Spelling.Directive.{IsLineTail, IsTailComment}
+use Rattle.saphyr_input.specs.Classes.{is_anchor_char, is_tag_char, is_uri_char}
+use Rattle.saphyr_scalar.specs.Spelling.Directive.{IsLineTail}
 use Rattle.saphyr_scalar.specs.Spelling.Tag.{IsAnchorName, IsTagText}
 use Rattle.saphyr_scalar.proofs.NoBreaks.{NoBreaks, no_breaks_both, no_breaks_in, decoded_no_break, handle_no_break}
 

@@ -1,5 +1,5 @@
 -- The parts of a token, from its texts one after another.
-use Rattle.std.proofs.Common.{◌≡◌, ◌∙◌, ap, List, ◌++◌, length, drop, take, ℕ, arith}
+use Rattle.std.proofs.Common.{◌≡◌, List, ◌++◌, length, ℕ, arith}
 use Rattle.std.proofs.Math.Seq.{take-length, take-append_seam, drop-append_seam}
 use Rattle.saphyr_scanner.specs.declared.queue.texts.Extent.{Extent}
 use Rattle.saphyr_scanner.specs.Views.Places.{parts_at}

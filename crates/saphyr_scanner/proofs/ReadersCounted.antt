@@ -8,7 +8,6 @@ use Rattle.saphyr_scalar.specs.declared.scalar.position.Span.{Span}
 use Rattle.saphyr_input.specs.Classes.{is_anchor_char, is_breakz}
 use Rattle.saphyr_scalar.specs.declared.values.BlockStyle.{BlockStyle}
 use Rattle.saphyr_scalar.specs.declared.values.Quote.{Quote}
-use Rattle.saphyr_scalar.specs.declared.values.Quote.TheVariants.{Single, Double}
 use Rattle.saphyr_scalar.specs.declared.values.Item.{Item}
 use Rattle.saphyr_scalar.specs.Steps.Anchor as anchors
 use Rattle.saphyr_scalar.specs.Steps.Block as blocks
@@ -19,14 +18,14 @@ use Rattle.saphyr_scalar.specs.Values.Flow.{mark}
 use Rattle.saphyr_scalar.specs.Values.Folding.{folded}
 use Rattle.saphyr_scalar.specs.Passing.{IsPassed}
 use Rattle.saphyr_scalar.specs.Steps.Plain as words
-use Rattle.saphyr_scalar.specs.Reading.Plain.{end_of_text, IsPlainReading}
+use Rattle.saphyr_scalar.specs.Reading.Plain.{IsPlainReading}
 use Rattle.saphyr_scalar.specs.Steps.Quoted as quoted
 use Rattle.saphyr_scalar.specs.Steps.Quoted.{mid_line}
 use Rattle.saphyr_scalar.specs.Spelling.Quoted.{IsQuotedText}
 use Rattle.saphyr_scalar.specs.Steps.Tag as tags
 use Rattle.saphyr_scalar.specs.Spelling.Tag.{IsAnchorName, IsTagText, EndsTag}
 use Rattle.saphyr_scalar.proofs.Plain.Runs.{passed_index}
-use Rattle.saphyr_scanner.proofs.Counted.{Ahead, ahead_ahead, text_passed, passed_over, pass_break_counted}
+use Rattle.saphyr_scanner.proofs.Counted.{Ahead, text_passed, passed_over}
 use Rattle.saphyr_scanner.proofs.Effects.Readers.{ReadsUpTo, ReadsSpan, ReaderEnds}
 
 -- ## Plain scalars

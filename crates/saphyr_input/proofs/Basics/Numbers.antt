@@ -1,5 +1,5 @@
 -- Numbers and their tests. Std has the others, in `lemmas.Bool` and `lemmas.Nat`.
-use Rattle.std.proofs.Common.{◌≡◌, ℕ, suc, ◌+◌, ◌≤◌, Bool, true, false, nat_eq, nat_lt, nat_le, arith}
+use Rattle.std.proofs.Common.{◌≡◌, ℕ, suc, ◌+◌, ◌≤◌, true, false, nat_lt, nat_le, arith}
 use Rattle.std.proofs.lemmas.Bool.Decides.{nat_tests}
 
 pub one_and : (n : ℕ) → 1 + n ≡ suc n
@@ -13,6 +13,3 @@ zero_below_next n = grind (arith, nat_tests)
 
 pub next_not_within : (i n : ℕ) → i ≡ n + 1 → nat_le i n ≡ false
 next_not_within i n e = grind (arith, nat_tests)
-
-pub equal_by_test : (x y : ℕ) (b : Bool) → nat_eq x y ≡ b → b ≡ true → x ≡ y
-equal_by_test x y b e h = grind (arith, nat_tests)

@@ -1,5 +1,5 @@
 -- How the pieces that plain scalars are read from are spelled.
-use Rattle.saphyr_scalar.proofs.Common.{◌≡◌, ◌≢◌, ℕ, suc, ◌+◌, ◌<◌, Bool, true, false, List, [], ◌∷◌, ◌++◌, take, drop, slice_index, Result, Ok, refl, sym, ap, ◌∙◌, arith, subst, IsTrue, append_assoc, ◌||◌, ◌&&◌, ◌==◌, if◌then◌else◌, IsFalse, nat_tests, take-append-drop, is_flow, is_blank_or_breakz, is_blank_or_break, is_document_indicator, Marker, Refusal, Cursor, along, next_line, false≢true, eqb-true, colon, number_sign, by_test, blank_cases}
+use Rattle.saphyr_scalar.proofs.Common.{◌≡◌, ◌≢◌, ℕ, suc, ◌+◌, ◌<◌, Bool, true, false, List, [], ◌∷◌, ◌++◌, take, drop, slice_index, Result, Ok, refl, sym, ap, ◌∙◌, arith, subst, IsTrue, append_assoc, if◌then◌else◌, IsFalse, nat_tests, take-append-drop, is_flow, is_blank_or_breakz, is_blank_or_break, is_document_indicator, Marker, Refusal, Cursor, along, next_line, false≢true, eqb-true, colon, number_sign, by_test, blank_cases}
 use Rattle.saphyr_scalar.specs.Spelling.Tag.{AreIn}
 use Rattle.saphyr_scalar.specs.Steps.Plain.{is_in_word, word_starts, next_word_starts, ends_line}
 use Rattle.saphyr_scalar.specs.Reading.Plain.{end_of_text, IsSpelledPlain, IsSafeInFlow, ends_piece}
@@ -153,11 +153,6 @@ word_closes c (d ∷ ds) h =
 pub other_answer : (s t : Cursor) → (let x : Result (Bool × Cursor) Refusal = Ok (false, s) in x ≡ Ok (true, t)) → ⊥
 other_answer s t e = let pair : ◌≡◌ {A = Bool × Cursor} (false, s) (true, t) =
     cc in absurd (false≢true (ap (λ (x : Bool × Cursor). x.0) pair))
-
-begins_here : (s : Cursor)
-    → ((slice_index s.rest 0 == number_sign) || ((s.mark.col == 0) && is_document_indicator s.rest)) ≡ false
-    → Begins s.mark s.rest
-begins_here s h = grind (arith, nat_tests)
 
 pub starts_begins : (f : Bool) (s t : Cursor) → word_starts f s ≡ Ok (true, t) → Begins s.mark s.rest
 unfolding word_starts

@@ -1,8 +1,8 @@
 -- Where a word of a plain scalar ends before neither a blank nor a break, the scalar ends.
-use Rattle.saphyr_scalar.proofs.Common.{◌≡◌, ℕ, Bool, true, false, List, [], slice_index, Ok, refl, sym, ap, ◌∙◌, arith, ◌==◌, not, None, or_parts, nat_tests, number_sign, is_blank, is_break, is_blank_or_break, by_test, and_false, Marker, Cursor, pass}
-use Rattle.saphyr_scalar.specs.Steps.Plain.{PlainGap, is_in_word, PlainWordsMoved, seen_gap, gap_from, gap, comment_of, with_text, word_starts, word, plain}
+use Rattle.saphyr_scalar.proofs.Common.{◌≡◌, ℕ, Bool, true, false, List, [], slice_index, Ok, refl, ap, ◌∙◌, arith, ◌==◌, not, None, or_parts, nat_tests, number_sign, is_blank_or_break, by_test, and_false, Marker, Cursor, pass}
+use Rattle.saphyr_scalar.specs.Steps.Plain.{PlainGap, is_in_word, PlainWordsMoved, seen_gap, gap_from, gap, comment_of, with_text, word}
 use Rattle.saphyr_scalar.proofs.NoSeparation.{no_run}
-use Rattle.saphyr_scalar.proofs.Plain.Pieces.{GapMoved, goes_not, no_turn, words_and_rest}
+use Rattle.saphyr_scalar.proofs.Plain.Pieces.{GapMoved, goes_not, no_turn}
 
 -- where a word has ended, no more of it is moved
 pub none_moved : (f : Bool) (text : List ℕ) (s : Cursor) → is_in_word f s.rest ≡ false → s.blank_so_far ≡ false
@@ -33,14 +33,3 @@ scalar_ends f i a text s ends line non_space =
     no_turn f i a text text s s (seen_gap false [] s) s (still_moved f i a text s (seen_gap false [] s) ends line
     (grind (arith, or_parts, slice_index, no_run, none_passed))) (goes_not f i s ends)
     ∙ ap (λ x. Ok (text, s.mark, x, s)) (no_comment f s ends)
-
--- the same of a whole scalar behind a text, where `seen` looks at the character behind its first words
-pub words_end : (f : Bool) (i : ℕ) (s there end seen : Cursor) (text grown : List ℕ) (c : ℕ)
-    → word_starts f s ≡ Ok (true, there) → PlainWordsMoved f text grown there end → seen ≡ end
-    → c ≡ slice_index end.rest 0 → is_blank c ≡ false → is_break c ≡ false
-    → with_text text (plain f i s) ≡ Ok (grown, seen.mark, None, seen)
-words_end f i s there end seen text grown c starts moved same is blank break =
-    let non_space : is_blank_or_break (slice_index end.rest 0) ≡ false = rw (← is, blank, break) refl in
-    sym (words_and_rest f i s there end end text grown starts moved refl)
-    ∙ scalar_ends f i s.mark grown end moved.stops moved.on_line non_space
-    ∙ ap (λ (x : Cursor). Ok (grown, x.mark, None, x)) (sym same)

@@ -31,11 +31,6 @@ pub reads_anchor : (s : Cursor) (indicator : ℕ) (name x : List ℕ) → s.rest
     → anchor s ≡ Ok (encode_utf8_all name, mid_line (along s.mark (1 + length name)) x)
 reads_anchor s indicator name x e is ends = cc (anchor_same s, at_name s.mark indicator name x is ends)
 
-abbrev Spelled : Cursor → List ℕ → Cursor → Type 0
-Spelled s text t = (indicator : ℕ) × (name : List ℕ) × (s.rest ≡ indicator ∷ (name ++ t.rest)) × IsAnchorName name
-    × (is_anchor_char (slice_index t.rest 0) ≡ false) × (t ≡ mid_line (along s.mark (1 + length name)) t.rest)
-    × (encode_utf8_all name ≡ text)
-
 pub spells_anchor : (s t : Cursor) (text : List ℕ) → 0 < length s.rest → anchor s ≡ Ok (text, t)
     → (indicator : ℕ) × (name : List ℕ) × (s.rest ≡ indicator ∷ (name ++ t.rest)) × IsAnchorName name
     × (is_anchor_char (slice_index t.rest 0) ≡ false) × (t ≡ mid_line (along s.mark (1 + length name)) t.rest)

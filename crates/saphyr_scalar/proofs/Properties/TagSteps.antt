@@ -198,12 +198,6 @@ pub tag_refused : (before : List ℕ) (read : Result TagRead Refusal) (f : TagRe
 tag_refused before (Ok x) f r h = absurd (cc)
 tag_refused before (Err e) f r h = grind arith
 
--- the tag whose parts were put behind the text
-tag_behind : (before grown : List ℕ) (handle : ℕ) (read : Result TagRead Refusal) (t : Cursor)
-    → with_tag before read ≡ tag_given handle grown t
-    → (x : TagRead) × (read ≡ Ok x) × (x.2 ≡ t) × (with_tag before (Ok x) ≡ tag_given handle grown t)
-tag_behind before grown handle u0 t h = grind arith
-
 pub tag_ended : (in_flow : Bool) (start : Marker) (before grown : List ℕ) (handle : ℕ) (read : Result TagRead Refusal)
     (t : Cursor) → with_tag before read ≡ tag_given handle grown t → is_behind_tag in_flow (slice_index t.rest 0) ≡ true
     → with_tag before (read >>= tag_end in_flow start) ≡ tag_given handle grown t

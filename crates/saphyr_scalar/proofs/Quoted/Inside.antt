@@ -70,14 +70,6 @@ pub stands : (q : Quote) (indent : ℕ) (start m : Marker) (c : ℕ) (cs : List 
     ≡ with_front (encode_utf8 c) (inner_text q indent start no_gap 0 (along m 1) cs)
 stands q indent start m c cs h = grind (arith, literal_content, behind_no_gap)
 
--- what was read of a word, and what is read after it
-abbrev pub WordPiece : Quote → ℕ → Marker → Marker → List ℕ → ℕ → Type 0
-WordPiece q indent start m xs n = inner_text q indent start no_gap 0 m xs
-    ≡ with_front (encode_utf8_all (take n xs)) (inner_text q indent start no_gap 0 (along m n) (drop n xs))
-
-pub no_piece : (q : Quote) (indent : ℕ) (start m : Marker) (xs : List ℕ) → WordPiece q indent start m xs 0
-no_piece q indent start m xs = cc (no_front _, along_none m)
-
 -- blanks on a line
 abbrev pub Blanks : Quote → ℕ → Marker → List ℕ → Marker → List ℕ → ℕ → Type 0
 Blanks q indent start bytes m xs n = inner_text q indent start (on_line bytes) 0 m xs

@@ -1,14 +1,14 @@
 -- There are few tokens: each that is fetched passes a character, and no more are passed than the limit allows.
 use Rattle.std.proofs.Common.{◌≡◌, ℕ, zero, suc, ◌+◌, ◌*◌, ◌≤◌, ◌<◌, List, [], ◌∷◌, length, Result, Ok, arith}
-use Rattle.std.specs.Prelude.{nat_le, not, ◌&&◌}
+use Rattle.std.specs.Prelude.{nat_le}
 use Rattle.std.proofs.lemmas.Bool.Decides.{nat_tests}
 use Rattle.saphyr_scalar.specs.declared.scalar.fault.Refusal.{Refusal}
 use Rattle.saphyr_scalar.specs.Views.Cursor.{◌>>=◌}
 use Rattle.saphyr_scanner.specs.declared.queue.Opening.{Opening}
 use Rattle.saphyr_scanner.specs.Views.Tokens.{Piece, Remaining}
 use Rattle.saphyr_scanner.specs.Steps.Queue.{Place}
-use Rattle.saphyr_scanner.specs.Steps.Core.{Core, drop_far_key, in_block, is_too_far}
-use Rattle.saphyr_scanner.specs.Steps.State.{State, start, on_core}
+use Rattle.saphyr_scanner.specs.Steps.Core.{Core, drop_far_key}
+use Rattle.saphyr_scanner.specs.Steps.State.{State, start}
 use Rattle.saphyr_scanner.specs.Steps.Fetch.{size, without_far_key, needs_token, fetch, check_limit, fetch_within}
 use Rattle.saphyr_scanner.specs.Steps.Remaining.{before_place, hand_out, remaining_after, run, remaining, scan}
 use Rattle.saphyr_scanner.proofs.Effects.Readers.{Readers, ReaderEnds}

@@ -1,18 +1,16 @@
 -- What mostly follows a `-`: a line feed, or a space and then content.
-use Rattle.std.proofs.Common.{◌≡◌, ℕ, ◌+◌, Bool, true, false, List, [], ◌∷◌, drop, slice_index, Ok, refl, sym, ap, ◌∙◌, arith}
-use Rattle.std.specs.Prelude.{◌==◌, ◌&&◌, nat_lt, if◌then◌else◌}
-use Rattle.saphyr_input.proofs.Basics.Booleans.{and_false, and_true_left, and_true_right}
-use Rattle.std.proofs.lemmas.Bool.{eqb-true}
+use Rattle.std.proofs.Common.{◌≡◌, ℕ, ◌+◌, true, false, List, [], ◌∷◌, slice_index, Ok, refl, ◌∙◌, arith}
+use Rattle.std.specs.Prelude.{◌==◌, ◌&&◌, nat_lt}
+use Rattle.saphyr_input.proofs.Basics.Booleans.{and_false}
 use Rattle.std.proofs.lemmas.Bool.Decides.{nat_tests}
 use Rattle.std.proofs.lemmas.Grind.{get_or_after_one}
-use Rattle.std.proofs.lemmas.List.{drop-drop}
 use Rattle.saphyr_input.specs.Classes.{is_blank, is_bom, is_break, is_flow}
 use Rattle.saphyr_input.specs.Indicators.{number_sign}
 use Rattle.saphyr_input.specs.declared.input.SkipTabs.TheVariants as tabs
 use Rattle.saphyr_scalar.specs.Views.Cursor.{Cursor, pass, pass_blanks, separation, behind_separation}
 use Rattle.saphyr_scalar.proofs.NoSeparation.{nothing_separates}
 use Rattle.saphyr_scanner.specs.Steps.Block.{pass_dash}
-use Rattle.saphyr_scanner.specs.Steps.Core.{Core, enter_block, go_deeper, is_further, roll}
+use Rattle.saphyr_scanner.specs.Steps.Core.{Core, go_deeper, roll}
 use Rattle.saphyr_scanner.specs.Steps.Passing.{pass_on, with_cursor}
 use Rattle.saphyr_scanner.specs.Steps.State.{State, on_core, with_core}
 use Rattle.saphyr_scanner.specs.Views.Ahead.{may_begin_entry}

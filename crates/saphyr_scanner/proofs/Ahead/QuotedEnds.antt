@@ -1,5 +1,5 @@
 -- After a quoted scalar an indicator most often comes at once, and nothing is passed before it.
-use Rattle.std.proofs.Common.{◌≡◌, ℕ, Ok, Err, Bool, true, false, List, [], ◌∷◌, slice_index, refl, ap, subst, arith, ◌∙◌}
+use Rattle.std.proofs.Common.{◌≡◌, ℕ, Ok, Err, Bool, true, false, List, [], ◌∷◌, slice_index, refl, ap, arith, ◌∙◌}
 use Rattle.std.specs.Prelude.{◌==◌, ◌||◌, Result, if◌then◌else◌}
 use Rattle.std.proofs.lemmas.Bool.Decides.{nat_tests}
 use Rattle.saphyr_input.specs.Classes.{is_blank, is_bom, is_break, is_breakz}
@@ -23,17 +23,10 @@ use Rattle.saphyr_scanner.specs.Steps.Scalar.{adjacent_here, behind_quoted_line,
 use Rattle.saphyr_scanner.specs.Steps.State.{after_step}
 use Rattle.saphyr_scanner.specs.Views.Reads.{TokenRead, behind_quoted, ends_at_indicator, is_entry_end, queue_with_token, quote_kind, quoted_whole, read_piece}
 use Rattle.saphyr_scanner.proofs.Gaps.{nothing_passed}
-use Rattle.saphyr_scanner.proofs.QueuedReads.{value_or}
 
 last_character : (x : ℕ) → is_entry_end x ≡ true → (is_blank x ≡ false) × (is_break x ≡ false)
     × (is_skipped tabs.Yes x ≡ false) × ((x == number_sign) ≡ false) × (is_bom x ≡ false)
 last_character x e = grind (arith, nat_tests)
-
--- An indicator ends an entry inside flow.
-entry_end : (b : Bool) (line : ℕ) (s : Cursor) → ends_at_indicator b line s ≡ true
-    → is_entry_end (slice_index s.rest 0) ≡ true
-entry_end false line s sign = sign
-entry_end true line s sign = grind (arith, nat_tests)
 
 -- where an indicator comes right after the scalar
 pub separated_at_end : (b : Bool) (line : ℕ) (s : Cursor) → ends_at_indicator b line s ≡ true
@@ -56,23 +49,6 @@ found_of b line s = found_by (ends_at_indicator b line s) (is_breakz (slice_inde
 
 abbrev scalar_found : List ℕ → Bool × Cursor → List ℕ × Marker × Bool × Cursor
 scalar_found text d = (text, d.1.mark, d.0, d.1)
-
--- Where an indicator was told, it ends an entry.
-abbrev EndsEntry : Bool → Cursor → Type 0
-EndsEntry found t = found ≡ true → is_entry_end (slice_index t.rest 0) ≡ true
-
-indicator_found : (a b : Bool) (s : Cursor) (d : Bool × Cursor) → EndsEntry a s → found_by a b s ≡ Ok d
-    → EndsEntry d.0 d.1
-indicator_found true b s d ends is = subst (λ (e : Bool × Cursor). EndsEntry e.0 e.1) (ap (value_or (true, s)) is) ends
-indicator_found false true s d ends is =
-    subst (λ (e : Bool × Cursor). EndsEntry e.0 e.1) (ap (value_or (false, s)) is) ends
-indicator_found false false s d ends is = absurd (cc)
-
-separated_found : (b : Bool) (line : ℕ) (f : Result (SkipTabs × Cursor) Refusal) (d : Bool × Cursor)
-    → (f >>= λ x. found_of b line x.1) ≡ Ok d → EndsEntry d.0 d.1
-separated_found b line (Ok x) d is =
-    indicator_found (ends_at_indicator b line x.1) (is_breakz (slice_index x.1.rest 0)) x.1 d (entry_end b line x.1) is
-separated_found b line (Err e) d is = absurd (cc)
 
 -- An indicator that was told ends an entry.
 pub found_end : (b : Bool) (quote : Quote) (indent : ℕ) (s : Cursor) (q r : Queue) (start : Marker) (found : Bool)

@@ -1,9 +1,8 @@
 -- Where the next token begins right here, nothing is passed and nothing ends before it.
 use Rattle.std.proofs.Common.{◌≡◌, ℕ, Bool, true, false, List, Some, None, Ok, refl, arith, nat_lt, slice_index}
-use Rattle.std.specs.Prelude.{◌-◌, ◌&&◌, ◌||◌, ◌==◌, if◌then◌else◌}
-use Rattle.std.proofs.lemmas.Bool.Decides.{nat_tests}
-use Rattle.saphyr_input.specs.Classes.{is_blank, is_bom, is_break, is_z}
-use Rattle.saphyr_input.specs.Indicators.{full_stop, hyphen, number_sign, percent_sign}
+use Rattle.std.specs.Prelude.{◌&&◌, ◌||◌, ◌==◌}
+use Rattle.saphyr_input.specs.Classes.{is_bom, is_z}
+use Rattle.saphyr_input.specs.Indicators.{full_stop, hyphen, percent_sign}
 use Rattle.saphyr_input.specs.Places.{is_document_end, is_document_start}
 use Rattle.saphyr_scanner.specs.Steps.Core.{Core, in_block, is_too_far, least_column, drop_far_key}
 use Rattle.saphyr_scanner.specs.Steps.Fetch.{arrive, fetch_here}

@@ -13,7 +13,7 @@ use Rattle.saphyr_scanner.proofs.Added.Queue.{PutsGoOn, added, at_most_one, open
 use Rattle.saphyr_scanner.proofs.Counted.{Ahead, ahead_ahead}
 use Rattle.saphyr_scanner.proofs.Effects.Readers.{Readers, ReaderEnds, TextLaws}
 use Rattle.saphyr_scanner.proofs.Ordered.Queue.{PutsInOrder}
-use Rattle.saphyr_scanner.proofs.PlainBehind.{IsNoted}
+use Rattle.saphyr_scalar.proofs.Plain.Behind.{IsNoted}
 use Rattle.saphyr_scanner.proofs.Taken.Candidates.{KeyAbove, LevelsAbove, Above, ActionsAbove}
 use Rattle.saphyr_scanner.proofs.Taken.Cores.{HoldsWithin, Lesser, Requires, holds_lesser}
 use Rattle.saphyr_scanner.proofs.Taken.Indented.{IsRight, root_key}

@@ -14,7 +14,7 @@ use Rattle.saphyr_scanner.specs.TokensTaken.{Collections, Surroundings, AreApart
 use Rattle.saphyr_scanner.proofs.Added.Queue.{IsNoEnd, at_most_one, one_at_most, open_blocks}
 use Rattle.saphyr_scanner.proofs.Effects.Readers.{Readers, ReaderEnds, ReadsSpan, TextLaws}
 use Rattle.saphyr_scanner.proofs.Effects.Moves.{Around, DoesWithin, Does, encloses, IsBeforePlace, IsNextPlace, Left, NoComment, around}
-use Rattle.saphyr_scanner.proofs.PlainBehind.{IsNoted}
+use Rattle.saphyr_scalar.proofs.Plain.Behind.{IsNoted}
 use Rattle.saphyr_scanner.proofs.Taken.Candidates.{KeyAbove, LevelsAbove, Above}
 use Rattle.saphyr_scanner.proofs.Taken.Cores.{HoldsWithin, surroundings, IsTokenThere, outermost, holds_put, next_put, quiet_opens, quiet_put, loud_put}
 use Rattle.saphyr_scanner.proofs.Taken.SavedKeys.{IsSaved, Saved, saved_indented}

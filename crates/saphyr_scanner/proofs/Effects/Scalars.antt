@@ -10,7 +10,7 @@ use Rattle.saphyr_scanner.specs.TokensTaken as taken
 use Rattle.saphyr_scanner.specs.TokensTaken.{may_begin_plain, begins_text}
 use Rattle.saphyr_scanner.proofs.Effects.Puts.{saving, saved_above, saved, same_block, same_flow}
 use Rattle.saphyr_scanner.proofs.Effects.Walked.{Premises, Walked, walked_then, Doing, Stepped, at_inside, read_walked}
-use Rattle.saphyr_scanner.proofs.PlainBehind.{EndsPlain, plain_ends}
+use Rattle.saphyr_scalar.proofs.Plain.Behind.{EndsPlain, plain_ends}
 use Rattle.saphyr_scanner.proofs.Steps.Choice.{NoIndicator}
 use Rattle.saphyr_scanner.proofs.Taken.SavedKeys.{IsSaved}
 use Rattle.saphyr_scanner.proofs.Taken.Neutral.{neutral}

@@ -12,7 +12,7 @@ use Rattle.saphyr_scanner.proofs.Effects.Readers.{TextLaws, RefusalLaws}
 use Rattle.saphyr_scanner.proofs.Effects.Steps.{EffectAt}
 use Rattle.saphyr_scanner.proofs.Effects.Moves.{DoesWithin, Does, IsBeforePlace, IsNextPlace, Same, same}
 use Rattle.saphyr_scanner.proofs.LineTails.{OnLine, separation_passes}
-use Rattle.saphyr_scanner.proofs.PlainBehind.{IsNoted}
+use Rattle.saphyr_scalar.proofs.Plain.Behind.{IsNoted}
 use Rattle.saphyr_scanner.proofs.Reached.{passed_reached}
 use Rattle.saphyr_scanner.proofs.Taken.Cores.{HoldsTaken}
 use Rattle.saphyr_scanner.proofs.Taken.Keys.{IsArrival}

@@ -1,14 +1,13 @@
 -- Tokens are read until the first of the queue can be handed out.
-use Rattle.std.proofs.Common.{◌≡◌, ℕ, zero, suc, ◌<◌, Bool, true, false, Result, Ok, refl, sym, ◌∙◌, arith, subst}
+use Rattle.std.proofs.Common.{◌≡◌, ℕ, zero, suc, ◌<◌, Bool, true, false, Result, Ok, refl, arith}
 use Rattle.std.specs.Prelude.{◌&&◌, not, None}
 use Rattle.saphyr_scalar.specs.declared.scalar.fault.Refusal.{Refusal}
 use Rattle.saphyr_scalar.specs.Views.Cursor.{◌>>=◌}
-use Rattle.saphyr_scanner.specs.Steps.Core.{Core, in_block, is_too_far, drop_far_key, forget_key}
+use Rattle.saphyr_scanner.specs.Steps.Core.{Core, drop_far_key}
 use Rattle.saphyr_scanner.specs.Steps.State.{State, on_core}
 use Rattle.saphyr_scanner.specs.Steps.Fetch.{size, fetch_within, without_far_key, needs_token, fill_in, fill}
 use Rattle.saphyr_scanner.proofs.Effects.Readers.{Readers}
 use Rattle.saphyr_scanner.proofs.Effects.Fetch.{Fetched, read_fetched}
-use Rattle.saphyr_input.proofs.Basics.Booleans.{by_test}
 use Rattle.saphyr_scalar.proofs.Given.{given_of, bind_ok}
 
 pub going : (ended b : Bool) → (not ended && b) ≡ true → ended ≡ false

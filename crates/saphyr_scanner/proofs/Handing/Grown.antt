@@ -17,11 +17,11 @@ use Rattle.saphyr_scanner.specs.declared.stopped.Halt.{Halt}
 use Rattle.saphyr_scanner.specs.declared.stopped.Halt.TheVariants as halt
 use Rattle.saphyr_scanner.specs.declared.stopped.Stopped.{Stopped}
 use Rattle.saphyr_scanner.specs.Longer.{extended_by}
-use Rattle.saphyr_scanner.specs.Steps.Core.{Core, drop_far_key, forget_key, in_block, is_too_far}
+use Rattle.saphyr_scanner.specs.Steps.Core.{drop_far_key}
 use Rattle.saphyr_scanner.specs.Steps.Fetch.{any_holds, begin, check_limit, fetch, fetch_within, fill, fill_in, has_key, is_at_start, needs_token, size, without_far_key}
 use Rattle.saphyr_scanner.specs.Steps.Level.{Candidate, Level}
 use Rattle.saphyr_scanner.specs.Steps.Queue.{Place, is_empty_list}
-use Rattle.saphyr_scanner.specs.Steps.State.{State, on_core, with_rest}
+use Rattle.saphyr_scanner.specs.Steps.State.{State, with_rest}
 use Rattle.saphyr_scanner.specs.Views.Engine.{stopped_by}
 use Rattle.saphyr_scanner.specs.Views.TooLong.{TurnsTooLong, as_read, within}
 use Rattle.saphyr_scanner.specs.Views.Scanning.{Scanning, is_decided, is_growing, text_in}
@@ -55,10 +55,6 @@ module _ (laws : Readers) (limit : ℕ) (more : List ℕ) where
 abbrev before_others : List ℕ → Result State Refusal → Result State Refusal
 before_others x (Ok t) = Ok (with_rest x t)
 before_others x (Err e) = Err e
-
-abbrev dropped : Bool → Bool → Core → Result Core Refusal
-dropped near required c =
-    if near then Ok c else if required then refuse fault.KeyWithoutColon c.cursor.mark else Ok (forget_key c)
 
 far_over : (x : List ℕ) (s : State) → without_far_key (with_rest x s) ≡ before_others x (without_far_key s)
 unfolding drop_far_key
@@ -181,11 +177,6 @@ start_over : (limit : ℕ) (x : List ℕ) (s : State) → is_at_start s.core ≡
 start_over limit x s starts needs = grind (arith, begun)
 
 -- ## What a call gives, by what it gives where nothing more comes
-
-text_stays : (g : Growth) (more rest : List ℕ) → is_growing g ≡ false → text_in g more rest ≡ rest
-text_stays growth.Growing more rest e = absurd (cc)
-text_stays growth.Whole more rest e = refl
-text_stays growth.Starved more rest e = refl
 
 pub text_grows : (g : Growth) (more rest : List ℕ) → is_growing g ≡ true → text_in g more rest ≡ rest ++ more
 text_grows growth.Growing more rest e = refl

@@ -1,9 +1,8 @@
 -- Fetching a token does the same whether the first places were handed out before or not.
 use Rattle.std.proofs.Common.{◌≡◌, ℕ, zero, suc, ◌-◌, ◌≤◌, ◌<◌, Bool, true, false, List, [], ◌∷◌, ◌++◌, length, Result, Ok, Err, refl, sym, ap, ◌∙◌, subst, cond, arith, append_assoc, length-append}
 use Rattle.std.specs.Prelude.{◌&&◌, ◌||◌, slice_index, not, ◌==◌, nat_lt, nat_le, Option, Some, None}
-use Rattle.saphyr_input.specs.Classes.{is_bom, is_z, is_breakz}
+use Rattle.saphyr_input.specs.Classes.{is_bom, is_z}
 use Rattle.saphyr_input.specs.Places.{is_document_start, is_document_end}
-use Rattle.saphyr_input.specs.declared.input.SkipTabs.{SkipTabs}
 use Rattle.saphyr_scalar.specs.declared.scalar.position.Marker.{Marker}
 use Rattle.saphyr_scalar.specs.declared.scalar.fault.Refusal.{Refusal}
 use Rattle.saphyr_scalar.specs.Views.Cursor.{◌>>=◌}
@@ -13,18 +12,16 @@ use Rattle.saphyr_scanner.specs.Grammar.Tokens.{Kind}
 use Rattle.saphyr_scanner.specs.Views.Tokens.{Piece}
 use Rattle.saphyr_scanner.specs.Steps.Queue.{Place, Queue, next, with_piece, places_with_opening, bare_place}
 use Rattle.saphyr_scanner.specs.Steps.Core.{Core, Action, Put, Open, StepResult, perform, in_block, least_column, remove_key, drop_far_key}
-use Rattle.saphyr_scanner.specs.Steps.Passing.{pass_gap, separate}
-use Rattle.saphyr_scanner.specs.Steps.State.{State, on_core, after_step, on_core_with}
+use Rattle.saphyr_scanner.specs.Steps.State.{State, on_core, after_step}
 use Rattle.saphyr_scanner.specs.Steps.Unrolling.{unroll, end_blocks, end_block, is_right_of, with_outer_indent, go_less_deep}
 use Rattle.saphyr_scanner.specs.Steps.Document as document
 use Rattle.saphyr_scanner.specs.Steps.Fetch.{step, state_behind_content, fetch_here, arrive, fetch, check_limit, fetch_within, without_far_key}
 use Rattle.saphyr_scalar.specs.Steps.Directive as directives
 use Rattle.saphyr_scanner.proofs.Taken.Candidates.{Above, ActionsAbove, KeepsPlacesAbove}
-use Rattle.saphyr_scanner.proofs.Taken.Separated.{given_map}
 use Rattle.saphyr_scanner.proofs.Effects.Steps as effects
 use Rattle.saphyr_scanner.proofs.Effects.Fetch.{some_character_left, deep_here, step_effect, arrival_goes}
 use Rattle.saphyr_scanner.proofs.Taken.Keys.{IsDeep}
-use Rattle.saphyr_scalar.proofs.Given.{Given, given_bind}
+use Rattle.saphyr_scalar.proofs.Given.{Given, given_bind, given_map}
 use Rattle.saphyr_scalar.proofs.Choices.{both_by}
 
 -- the first queue holds these places, and in the second they were handed out

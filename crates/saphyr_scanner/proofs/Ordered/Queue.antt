@@ -1,14 +1,13 @@
 -- The places of the queue are in order, and what a step does to it keeps them so.
-use Rattle.std.proofs.Common.{◌≡◌, ℕ, zero, suc, ◌-◌, ◌≤◌, List, [], ◌∷◌, ◌++◌, sym, ap, arith, subst}
+use Rattle.std.proofs.Common.{◌≡◌, ℕ, zero, suc, ◌-◌, ◌≤◌, List, [], ◌∷◌, ◌++◌, arith}
 use Rattle.saphyr_scanner.specs.declared.queue.Opening.{Opening}
 use Rattle.saphyr_scanner.specs.Views.Tokens.{Piece}
-use Rattle.saphyr_scanner.specs.Steps.Queue.{Place, Queue, bare_place, places_with_opening, empty_piece}
+use Rattle.saphyr_scanner.specs.Steps.Queue.{Place, Queue, bare_place, places_with_opening}
 use Rattle.saphyr_scanner.specs.Grammar.Tokens.{Kind}
 use Rattle.saphyr_scalar.specs.declared.scalar.position.Marker.{Marker}
-use Rattle.saphyr_scalar.specs.Views.Cursor.{Cursor}
 use Rattle.saphyr_scanner.specs.Steps.Core.{Core, Action, Put, Open, act, perform, at_mark}
 use Rattle.saphyr_scanner.specs.Steps.State.{State, with_core, with_action}
-use Rattle.saphyr_scanner.proofs.Counted.{Ahead, stays, ahead_ahead}
+use Rattle.saphyr_scanner.proofs.Counted.{Ahead, stays}
 
 -- the tokens of the places, from `low` on to n
 abbrev pub PlacesInOrder : ℕ → ℕ → List Place → Type 0

@@ -1,7 +1,6 @@
 -- Where the reading of the next token refuses.
-use Rattle.std.proofs.Common.{◌≡◌, ℕ, ◌^◌, ◌<◌, false, List, length, Option, Result, Ok, Err, sym, subst, arith}
+use Rattle.std.proofs.Common.{◌≡◌, ℕ, ◌^◌, ◌<◌, false, List, length, Result, Ok, Err, subst, arith}
 use Rattle.std.specs.Prelude.{nat_le}
-use Rattle.saphyr_scalar.specs.declared.scalar.position.Marker.{Marker}
 use Rattle.saphyr_scalar.specs.declared.scalar.fault.Refusal.{Refusal}
 use Rattle.saphyr_scalar.specs.Views.Cursor.{Cursor, start_cursor, ◌>>=◌}
 use Rattle.saphyr_scanner.specs.Steps.Core.{Core, drop_far_key}
@@ -13,7 +12,6 @@ use Rattle.saphyr_scanner.proofs.Effects.Readers.{TextLaws, RefusalLaws}
 use Rattle.saphyr_scanner.proofs.Taken.Held.{Setting, Taken}
 use Rattle.saphyr_scanner.proofs.Taken.Later.{LaterThan}
 use Rattle.saphyr_scanner.proofs.Leads.{flat}
-use Rattle.saphyr_scanner.proofs.PlainBehind.{IsNoted}
 use Rattle.saphyr_scanner.proofs.Reached.{apart_reached}
 use Rattle.saphyr_scanner.proofs.Taken.Places.{Reaches, reaches_reaches, At, at_here, at_further, tokens_reached}
 use Rattle.saphyr_scanner.proofs.Refusing.Refusals.{HoldsOrRefuses, holds_further, Noted, Still, drop_still}

@@ -5,7 +5,7 @@ use Rattle.saphyr_scalar.specs.Views.Cursor.{Cursor, ◌>>=◌}
 use Rattle.saphyr_scanner.specs.Steps.Core.{Core, Step, StepResult, drop_far_key}
 use Rattle.saphyr_scanner.specs.Steps.Passing.{pass_gap, check_comment}
 use Rattle.saphyr_scanner.proofs.Effects.Walked.{Premises, Walked, Stepped}
-use Rattle.saphyr_scanner.proofs.PlainBehind.{IsNoted}
+use Rattle.saphyr_scalar.proofs.Plain.Behind.{IsNoted}
 use Rattle.saphyr_scanner.proofs.Reached.{apart_reached}
 use Rattle.saphyr_scanner.proofs.Taken.Separated.{gap_apart, gap_refused}
 use Rattle.saphyr_scanner.proofs.Taken.Places.{Reaches, At, at_here, at_further, at_reached, here_at}

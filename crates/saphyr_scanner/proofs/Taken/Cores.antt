@@ -119,9 +119,6 @@ no_keys all b q i l ls k o e = grind arith
 
 -- ## A token comes
 
-abbrev pub Same : Core → Core → Type 0
-Same c d = (d.indent ≡ c.indent) × (d.outer_indents ≡ c.outer_indents)
-
 pub quiet_opens : (t : Piece) (c d : Core) → is_quiet t.kind ≡ true → d.indent ≡ c.indent
     → d.outer_indents ≡ c.outer_indents
     → ((opened : Collections) → opened.brackets ≡ length c.outer

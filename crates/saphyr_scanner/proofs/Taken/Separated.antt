@@ -16,10 +16,6 @@ apart_apart _ _ _ _ k v (taken.line_break m t n u e p) q =
 apart_apart _ _ _ _ k v (taken.comment m words t n u a e p) q =
     taken.comment m words t k v a e (apart_apart (along m (1 + length words)) t n u k v p q)
 
-pub given_map : {X : Type 0} → (P Q : X → Type 0) (r : Result X Refusal) → ((x : X) → P x → Q x) → Given P r → Given Q r
-given_map P Q (Ok x) f h = f x h
-given_map P Q (Err e) f h = tt
-
 -- a separation that ends where a gap does
 abbrev To : Gap → Marker → List ℕ → Type 0
 To g m t = IsPassedOver m t g.cursor.mark g.cursor.rest

@@ -1,7 +1,6 @@
 -- What a scanner knows changes alike where more of the text comes.
-use Rattle.std.proofs.Common.{◌≡◌, ℕ, Bool, true, false, List, [], ◌∷◌, ◌++◌, drop, slice_index, Result, Ok, Err, refl, ap, arith}
+use Rattle.std.proofs.Common.{◌≡◌, ℕ, Bool, true, false, List, [], ◌∷◌, ◌++◌, drop, slice_index, Result, Ok, Err, refl, arith}
 use Rattle.std.specs.Prelude.{◌&&◌, ◌==◌, not}
-use Rattle.std.proofs.lemmas.Bool.Decides.{nat_tests}
 use Rattle.saphyr_scalar.specs.declared.scalar.fault.Refusal.{Refusal}
 use Rattle.saphyr_scalar.specs.Views.Cursor.{◌>>=◌}
 use Rattle.saphyr_scanner.specs.Steps.Core.{Core, Step, StepResult, perform, in_block, save_key, remove_key, is_too_far, drop_far_key, is_further, roll}
@@ -103,12 +102,6 @@ module _ (more : List ℕ) where
         rw (refusal_given r s, refusal_given p (extended_by more s)) (mapped _ r p (λ _. refl) (λ _. refl) h)
 
   -- ## A character that a marker or a value begins with, and the next one
-
-  pub second_seen : (n : ℕ) (r : List ℕ) → is_open (n ∷ []) ≡ true → is_open r ≡ false → (slice_index r 0 == n) ≡ true
-      → slice_index (r ++ more) 1 ≡ slice_index r 1
-  second_seen n [] begins known first = absurd (cc)
-  second_seen n (c ∷ []) begins known first = let is : c ≡ n = grind (arith, nat_tests) in absurd (cc)
-  second_seen n (c ∷ d ∷ r) begins known first = refl
 
   pub seen_behind : (n : ℕ) (p : ℕ → Bool) (r : List ℕ) → is_open (n ∷ []) ≡ true → is_open r ≡ false
       → ((slice_index r 0 == n) && p (slice_index (r ++ more) 1)) ≡ ((slice_index r 0 == n) && p (slice_index r 1))

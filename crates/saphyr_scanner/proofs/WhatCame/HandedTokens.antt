@@ -1,5 +1,5 @@
 -- What a scanner has handed out, with the tokens still to come, is all tokens of its text.
-use Rattle.std.proofs.Common.{◌≡◌, ℕ, suc, true, false, List, [], ◌∷◌, ◌++◌, Option, Some, Ok, Err, refl, ap, subst, arith}
+use Rattle.std.proofs.Common.{◌≡◌, ℕ, true, false, List, [], ◌∷◌, ◌++◌, Option, Some, Ok, Err, refl, ap, subst, arith}
 use Rattle.std.proofs.lemmas.Bool.{cond-true, cond-false}
 use Rattle.std.proofs.lemmas.List.{append_assoc}
 use Rattle.saphyr_scalar.specs.declared.scalar.fault.Refusal.{Refusal}
@@ -7,12 +7,12 @@ use Rattle.saphyr_scanner.specs.Views.Tokens.{Piece, Remaining, before, refusal_
 use Rattle.saphyr_scanner.specs.Steps.Queue.{Place}
 use Rattle.saphyr_scanner.specs.Steps.Core.{drop_far_key}
 use Rattle.saphyr_scanner.specs.Steps.State.{State, start}
-use Rattle.saphyr_scanner.specs.Steps.Fetch.{size, needs_token, take_token}
+use Rattle.saphyr_scanner.specs.Steps.Fetch.{needs_token, take_token}
 use Rattle.saphyr_scanner.specs.Steps.Remaining.{hand_out, remaining, scan}
 use Rattle.saphyr_scanner.proofs.Effects.Readers.{Readers}
 use Rattle.saphyr_scanner.proofs.Handing.Filling.{read, going, smaller_read, IsSettled, read_settles}
 use Rattle.saphyr_scanner.proofs.Handing.Turns.{TakesToken, first_taken}
-use Rattle.saphyr_scanner.proofs.Handing.Unroll.{behind, enough, rest, remaining_is, settled_is}
+use Rattle.saphyr_scanner.proofs.Handing.Unroll.{enough, rest, remaining_is, settled_is}
 use Rattle.saphyr_scanner.specs.Longer.{ScansTo, starts, reads, takes, before_all}
 
 -- one token more before others

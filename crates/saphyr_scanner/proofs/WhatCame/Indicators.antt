@@ -10,7 +10,7 @@ use Rattle.saphyr_scanner.specs.Limits.{most_open}
 use Rattle.saphyr_scanner.specs.Grammar.Tokens as tokens
 use Rattle.saphyr_scanner.specs.Grammar.Tokens.{Kind}
 use Rattle.saphyr_scanner.specs.Steps.Level.{Level, Candidate, behind_entry, behind_question, begins_pair, behind_colon}
-use Rattle.saphyr_scanner.specs.Steps.Core.{Core, StepResult, completed_step, at_mark, up_to_here, in_block, with_context, save_key, remove_key, forget_key, go_deeper, is_further, roll}
+use Rattle.saphyr_scanner.specs.Steps.Core.{Core, StepResult, completed_step, at_mark, up_to_here, in_block, with_context, save_key, remove_key, forget_key, go_deeper, roll}
 use Rattle.saphyr_scanner.specs.Steps.Core as core
 use Rattle.saphyr_scanner.specs.Steps.Gap.{spaces_at}
 use Rattle.saphyr_scanner.specs.Steps.Passing.{pass_on, with_cursor, separate}

@@ -1,7 +1,6 @@
 -- Scalars, and properties.
-use Rattle.std.proofs.Common.{◌≡◌, ℕ, Bool, true, false, List, refl, arith}
-use Rattle.std.specs.Prelude.{◌&&◌, ◌||◌, ◌==◌, not, nat_lt, if◌then◌else◌}
-use Rattle.saphyr_input.specs.Classes.{is_breakz}
+use Rattle.std.proofs.Common.{◌≡◌, ℕ, true, false, List, refl, arith}
+use Rattle.std.specs.Prelude.{◌&&◌, not, nat_lt}
 use Rattle.saphyr_scalar.specs.declared.values.BlockStyle.{BlockStyle}
 use Rattle.saphyr_scalar.specs.declared.values.Quote.{Quote}
 use Rattle.saphyr_scalar.specs.declared.scalar.style.ScalarStyle.{ScalarStyle}
@@ -11,7 +10,7 @@ use Rattle.saphyr_scanner.specs.Steps.Core.{Core, StepResult, in_block, least_co
 use Rattle.saphyr_scanner.specs.Steps.Passing.{with_cursor}
 use Rattle.saphyr_scanner.specs.Steps.Property.{read_name, name_steps, read_tag, tag_steps}
 use Rattle.saphyr_scanner.specs.Steps.Scalar.{disallow_key, goes_on_behind_quotes, behind_quotes, read_quoted, quoted_steps, read_plain, plain_steps, read_block, block_scalar_steps}
-use Rattle.saphyr_scalar.proofs.WhatCame.Rests.{is_nothing, shows, later_drop, first_known}
+use Rattle.saphyr_scalar.proofs.WhatCame.Rests.{is_nothing, later_drop, first_known}
 use Rattle.saphyr_scalar.proofs.WhatCame.Steps.{Came, Mixed, further, reports, refused, stays, loosely, choose, choose_same, and_then, and_known, and_mixed, on}
 use Rattle.saphyr_scalar.proofs.WhatCame.Names.{anchor_came, tag_came}
 use Rattle.saphyr_scalar.proofs.WhatCame.Plain.{plain_came}

@@ -4,7 +4,6 @@ use Rattle.saphyr_input.specs.Fronts.{ascii_in}
 use Rattle.saphyr_input.proofs.Ascii.{ascii_run_is}
 use Rattle.saphyr_input.proofs.WordRuns.{run_ends}
 use Rattle.saphyr_input.proofs.input.str.text.ascii_run.Goals as goal
-use Rattle.saphyr_input.proofs.input.str.text.ascii_run.Goals.{After-ascii_len-count}
 
 pub range_from-requires : goal.range_from-requires
 range_from-requires g c =

@@ -1,19 +1,17 @@
 -- After a plain scalar no break is, and a comment that keeps it from going on is there. Where blanks alone come before
 -- on the line, that is a later one, and else outside flow the text goes on right of the block collection's column.
-use Rattle.std.proofs.Common.{◌≡◌, ℕ, zero, suc, ◌+◌, ◌≤◌, ◌<◌, ◌⊎◌, Bool, true, false, List, [], ◌∷◌, ◌++◌, Option, Some, None, Result, Ok, Err, refl, sym, arith, subst, inl, inr, cond}
-use Rattle.std.specs.Prelude.{◌&&◌, ◌||◌, ◌==◌, not, nat_lt, pred, slice_index}
-use Rattle.saphyr_input.specs.Classes.{is_break, is_blank, is_bom, is_flow, is_z, tab}
-use Rattle.saphyr_input.specs.Places.{is_blank_or_break, is_document_indicator, next_2_are}
+use Rattle.std.proofs.Common.{◌≡◌, ℕ, zero, suc, ◌+◌, ◌≤◌, ◌<◌, ◌⊎◌, Bool, true, false, List, [], ◌∷◌, ◌++◌, Option, Some, None, Result, Ok, Err, refl, sym, arith, subst, cond}
+use Rattle.std.specs.Prelude.{◌&&◌, ◌||◌, ◌==◌, nat_lt, pred, slice_index}
+use Rattle.saphyr_input.specs.Classes.{is_break, is_blank, is_flow, tab}
+use Rattle.saphyr_input.specs.Places.{is_blank_or_break, is_document_indicator}
 use Rattle.saphyr_scalar.specs.declared.scalar.position.Marker.{Marker}
 use Rattle.saphyr_scalar.specs.declared.scalar.fault.Refusal.{Refusal}
-use Rattle.saphyr_scalar.specs.Views.Cursor.{Cursor, ◌>>=◌, along, next_line, pass_break}
+use Rattle.saphyr_scalar.specs.Views.Cursor.{Cursor, ◌>>=◌, along, next_line}
 use Rattle.saphyr_scalar.specs.Steps.Plain.{PlainGap, PlainScalarRead, plain, word_starts, word, word_behind_gap, next_word_starts, gap, gap_from, gap_len, is_in_word, lines, reached_gap, content_behind_tab, ends_line, scalar_end, comment_of, with_text, line_front}
 use Rattle.saphyr_scalar.specs.Steps.Quoted.{mid_line}
 use Rattle.saphyr_input.proofs.Basics.Booleans.{by_test, or_false_right}
-use Rattle.saphyr_scalar.proofs.Given.{Given}
-use Rattle.saphyr_scanner.proofs.Taken.Later.{top}
-use Rattle.saphyr_scanner.proofs.Taken.Separated.{given_map}
-use Rattle.std.proofs.lemmas.Bool.{ltb-false}
+use Rattle.saphyr_scalar.proofs.Given.{Given, given_map}
+use Rattle.saphyr_scalar.proofs.Block.PlacedHeaders.{top}
 
 abbrev pub StopsUnbroken : Cursor → Type 0
 StopsUnbroken s = is_break (slice_index s.rest 0) ≡ false
@@ -36,7 +34,7 @@ EndsPlain in_flow indent n line x = IsNoted x.2 x.3 × StopsUnbroken x.3
     × (x.3.mark.line < top → line ≤ x.3.mark.line)
     × (x.3.blank_so_far ≡ true → x.3.mark.line < top → line < x.3.mark.line)
 
-pub given_then : {X Y : Type 0} → (P : X → Type 0) (Q : Y → Type 0) (r : Result X Refusal) (f : X → Result Y Refusal)
+given_then : {X Y : Type 0} → (P : X → Type 0) (Q : Y → Type 0) (r : Result X Refusal) (f : X → Result Y Refusal)
     → Given P r → ((x : X) → P x → Given Q (f x)) → Given Q (r >>= f)
 given_then P Q (Ok x) f h go = go x h
 given_then P Q (Err e) f h go = tt
@@ -91,10 +89,6 @@ text_ends in_flow indent n line k more text (Ok x) col later h = (
   λ b small. let l = h.4 b small in let d = later (omega (arith, l, small)) in omega (arith, l, d),
 )
 text_ends in_flow indent n line k more text (Err e) col later h = tt
-
-always : {X : Type 0} → (P : Type 0) (r : Result X Refusal) → P → Given (λ (x : X). P) r
-always P (Ok x) p = p
-always P (Err e) p = tt
 
 -- outside flow another word on a later line begins right of the indentation
 next_word_right : (in_flow : Bool) (indent : ℕ) (s : Cursor)
