@@ -6,7 +6,7 @@ ghost use Rattle.saphyr_pieces.specs.Views as spec;
 
 use crate::owned::OwnedText;
 use crate::pieces::PieceReader;
-use crate::pieces::waiting::{is_far, line_feeds, weight_behind};
+use crate::pieces::waiting::{idle_lines, is_far, weight_behind};
 use saphyr_machine::{Event, EventReader, Fault, Progress, no_event};
 use std::alloc::AllocError;
 use std::mem::replace;
@@ -31,7 +31,7 @@ fn pass_lines(reader: &mut EventReader<'static, OwnedText>) -> Result<(), AllocE
     ensures { IfOk result (λ _. (more : List ℕ)
         → cursor_in more reader.new ≡ cursor_in more reader.old) }
 {
-    let lines = line_feeds(reader.input().as_str());
+    let lines = idle_lines(reader.input().as_str());
     if reader.pass_lines(lines) {
         Ok(())
     } else {
