@@ -1,6 +1,7 @@
 pub mod ListedNames
 pub mod Names
 pub mod Passing
+pub mod NoEvents
 pub mod Properties
 pub mod Beside
 pub mod Walk

@@ -7,5 +7,6 @@ pub mod Answer
 pub mod Faults
 pub mod Cursor
 pub mod Calls
+pub mod Passed
 pub mod Loading
 pub mod EventParts

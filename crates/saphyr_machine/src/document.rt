@@ -17,7 +17,7 @@ use saphyr_scanner::{Stopped, TokenKind, TokenParts};
 use std::alloc::Global;
 
 // Whether a token of the kind is passed: a byte order mark or, where this is true, the end of a document.
-fn is_passable(kind: TokenKind, ends: bool) -> bool
+pub(super) fn is_passable(kind: TokenKind, ends: bool) -> bool
     ensures { (x : Parts) → result ≡ spec.is_passable ends (kind_with kind x) }
 {
     match kind {
@@ -27,7 +27,7 @@ fn is_passable(kind: TokenKind, ends: bool) -> bool
     }
 }
 
-fn is_directive(kind: TokenKind) -> bool
+pub(super) fn is_directive(kind: TokenKind) -> bool
     ensures { (x : Parts) → result ≡ spec.is_directive (kind_with kind x) }
 {
     matches!(

@@ -11,6 +11,7 @@ mod event;
 mod fault;
 mod flow;
 mod handles;
+mod idle;
 mod kept;
 mod loading;
 mod machine;
@@ -29,6 +30,7 @@ mod tags;
 
 pub use event::Event;
 pub use fault::Fault;
+pub use idle::PassedToken;
 pub use progress::Progress;
 pub use reader::{EventReader, no_event};
 pub use receiver::{EventReceiver, Refused, SpannedEventReceiver};

@@ -178,8 +178,8 @@ impl<T: Input> Scanner<T> {
         Err(self.stop_at(Stop::OutOfMemory))
     }
 
-    /// Passes lines that have no token, so many at most, if the next token was not read yet. The text should have so
-    /// many line feeds. `false`: it ended within a line, and nothing is known of the scanner any more.
+    /// Passes so many lines, if the next token was not read yet. They should have no token, and end in LF or CR LF.
+    /// `false`: one is not so, and nothing is known of the scanner any more.
     pub fn pass_lines(&mut self, lines: usize) -> bool
         ensures { IsTrue result → (more : List ℕ)
             → tokens_in more self.new ≡ tokens_in more self.old }

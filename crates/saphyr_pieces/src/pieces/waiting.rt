@@ -30,17 +30,45 @@ fn may_decide(came: &str) -> bool {
     came.len() > 3 && came.starts_with("---") || came.bytes().any(ends)
 }
 
-/// How many line feeds a text has that may begin with lines without a token.
-pub(super) fn line_feeds(text: &str) -> usize {
-    let mut count: usize = 0;
-    if text.starts_with("\n") || text.starts_with(" ") || text.starts_with("#") {
-        for b in text.bytes() {
-            if b == b'\n' {
-                count = count.saturating_add(1);
+/// How many lines without a token a text begins with: empty ones, and those of blanks or a comment alone, if they end in
+/// LF or CR LF. In a comment, the first byte of a byte order mark ends the count.
+pub(super) fn idle_lines(text: &str) -> usize {
+    let mut lines: usize = 0;
+    let mut in_comment = false;
+    let mut behind_return = false;
+    for b in text.bytes() {
+        match b {
+            b'\n' => {
+                lines = lines.saturating_add(1);
+                in_comment = false;
+                behind_return = false;
             }
+            _ if behind_return => return lines,
+            b'\r' => behind_return = true,
+            b' ' | b'\t' => {}
+            b'#' => in_comment = true,
+            0 | 0xEF => return lines,
+            _ if in_comment => {}
+            _ => return lines,
         }
     }
-    count
+    lines
+}
+
+/// Whether a token may come first that makes no event between two documents. A look at the text is cheaper than a copy.
+pub(super) fn may_be_idle(text: &str) -> bool {
+    let mut in_comment = false;
+    for b in text.bytes() {
+        match b {
+            b'\n' => in_comment = false,
+            _ if in_comment => {}
+            b' ' | b'\t' | b'\r' => {}
+            b'#' => in_comment = true,
+            // `...`, a directive, or the first byte of a byte order mark.
+            _ => return matches!(b, b'.' | b'%' | 0xEF),
+        }
+    }
+    false
 }
 
 /// What there is to copy behind an event.

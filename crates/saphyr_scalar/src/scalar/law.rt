@@ -128,8 +128,8 @@ pub fn takes_characters()
     ensures quoted { (quote : Quote) (indent : ℕ) (s t : Cursor) (text : List ℕ)
         → slice_index s.rest 0 ≡ flow.mark quote → quoted quote indent s ≡ Ok (text, t)
         → length t.rest < length s.rest }
-    ensures block_scalar { (style : BlockStyle) (indent : ℕ) (s t : Cursor) (text : List ℕ) (span : Span)
-        → 0 < length s.rest → block_scalar style indent s ≡ Ok (text, span, t)
+    ensures block_scalar { (style : BlockStyle) (indent : ℕ) (s t : Cursor) (text : List ℕ)
+        (span : Span) → 0 < length s.rest → block_scalar style indent s ≡ Ok (text, span, t)
         → length t.rest < length s.rest }
     ensures anchor { (s t : Cursor) (text : List ℕ) → 0 < length s.rest → anchor s ≡ Ok (text, t)
         → length t.rest < length s.rest }

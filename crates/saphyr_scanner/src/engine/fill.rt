@@ -15,7 +15,7 @@ use saphyr_scalar::{FaultText, Refusal, Span, Stop, TagParts};
 impl<T: Input> Engine<T> {
     ghost use Rattle.saphyr_scalar.specs.Views.Reader.{loaded};
     ghost use Rattle.saphyr_scanner.specs.Views.Engine.{state, MovesBy};
-    ghost use Rattle.saphyr_scanner.specs.Views.Lines.{PassesOn};
+    ghost use Rattle.saphyr_scanner.specs.Views.Lines.{PassesOn, behind_text, is_whole_break, placed};
     ghost use Rattle.saphyr_scanner.specs.Views.Queue.{first_of, kind_shown};
     ghost use Rattle.saphyr_scanner.specs.Views.Scanning.{is_decided};
     ghost use Rattle.saphyr_scanner.specs.Views.Tokens.{Piece, kind_with, parts_view, text_of, token_kind};
@@ -133,44 +133,65 @@ impl<T: Input> Engine<T> {
         self.started && self.has_no_candidate() && self.has_none()
     }
 
-    // Passes spaces and a comment. Returns the character behind them.
+    // Passes what a line without a token has before its end: spaces, a tab with the blanks behind it, and a comment.
+    // Returns what comes next.
     fn pass_comment(&mut self) -> char
         ensures first { result ≡ slice_index (state self.new).core.cursor.rest 0 }
         ensures loaded { 1 ≤ loaded self.new.reader }
-        ensures passed { is_z result ≡ false → PassesOn (state self.old) (state self.new) }
+        ensures passed { state self.new
+            ≡ placed (behind_text (state self.old).core.cursor) (state self.old) }
     {
         self.reader.skip_spaces(usize::MAX);
         let c = self.reader.look();
-        if c != '#' {
-            return c;
+        if c == '\t' {
+            self.reader.skip_blanks();
         }
-        self.reader.skip_comment();
+        let c = self.reader.look();
+        if c == '#' {
+            self.reader.skip_comment();
+        }
         self.reader.look()
     }
 
-    // Passes a line feed.
-    fn pass_line_feed(&mut self, c: char)
+    // Whether LF or CR LF comes next, of which this is the first character.
+    fn is_at_whole_break(&mut self, c: char) -> bool
         requires first { c ≡ slice_index (state self.old).core.cursor.rest 0 }
         requires loaded { 1 ≤ loaded self.old.reader }
-        requires feed { c ≡ 10 }
-        ensures { PassesOn (state self.old) (state self.new) }
+        ensures whole { result ≡ is_whole_break (state self.old).core.cursor.rest }
+        ensures loaded { 1 ≤ loaded self.new.reader }
+        ensures same { state self.new ≡ state self.old }
     {
+        if c == '\n' {
+            return true;
+        }
+        self.reader.load(2);
+        self.reader.input().next_2_are('\r', '\n')
+    }
+
+    // Passes a line that has no token. `false`: it has one, or its end did not come, and nothing is known.
+    fn pass_line(&mut self) -> bool
+        ensures { IsTrue result → PassesOn (state self.old) (state self.new) }
+    {
+        let c = self.pass_comment();
+        if !self.is_at_whole_break(c) {
+            return false;
+        }
         self.reader.skip_seen_break(c);
         if self.in_block() {
             self.key_allowed = true;
         }
+        true
     }
 
-    /// Passes lines that have no token, so many at most. `false`: the text ended within one, and nothing is known.
+    /// Passes so many lines, which should have no token. `false`: one has, or its end did not come, and nothing is
+    /// known.
     pub(crate) fn pass_lines(&mut self, lines: usize) -> bool
         ensures { IsTrue result → PassesOn (state self.old) (state self.new) }
     {
         for _ in 0..lines {
-            let c = self.pass_comment();
-            if c != '\n' {
-                return c != '\0';
+            if !self.pass_line() {
+                return false;
             }
-            self.pass_line_feed(c);
         }
         true
     }
