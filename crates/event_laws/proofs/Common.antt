@@ -13,6 +13,7 @@ pub use Rattle.saphyr_input.specs.Breaks.{normalized}
 pub use Rattle.saphyr_machine.proofs.Beside.Documents.{IsBetweenDocuments, PassedAll, steps_alike, steps_beside}
 pub use Rattle.saphyr_machine.proofs.Beside.Machines.{Alike, AllExpected, Awaits, Behind, Beside, EmitsAlike, Expected, IsMarkers, Left, With, behind_by, is_end}
 pub use Rattle.saphyr_machine.proofs.Calls.Handing.{advances, goes_on}
+pub use Rattle.saphyr_machine.proofs.Turns.{some_refused}
 pub use Rattle.saphyr_machine.proofs.Unroll.{over, shrinks_at, unroll}
 pub use Rattle.saphyr_machine.proofs.Walk.{HoldsBetween, IsFailed, Resumes, Walk, between, runs, step}
 pub use Rattle.saphyr_machine.specs.Answer.{Answer, Ending, answer_of_step, empty_answer, ending_of, fault_alone, machine_size, remaining_answer, with_first_event}

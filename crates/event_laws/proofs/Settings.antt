@@ -70,10 +70,6 @@ sets b m other = sets_at b m.state m other
 
 -- ## Between events
 
-abbrev EndsDocument : Result Emitted Refusal → Type 0
-EndsDocument (Ok x) = x.what ≡ events.DocumentEnd
-EndsDocument (Err e) = Unit {0}
-
 setting : (b : Bool) (c : Option (Happening × Span)) (k : Option Kept) (m : Machine) (i : Bool) (f : Option Span)
     (e : Happening × Span) (new : EventCursor) → e.0 ≢ events.DocumentEnd
     → Advances e (record { current = c; kept = k; machine = m; inside = i; finished = f }) new

@@ -11,10 +11,10 @@ use Rattle.saphyr_parser.specs.Types.Fault.{Fault}
 use Rattle.saphyr_parser.specs.Types.Fault.TheVariants as fault
 use Rattle.saphyr_machine.specs.declared.progress.Progress.{Progress}
 use Rattle.saphyr_machine.specs.declared.progress.Progress.TheVariants as progress
-use Rattle.saphyr_parser.specs.Answer.{Answer, Ending, Refused, fault_alone, remaining_answer, with_first_event}
+use Rattle.saphyr_parser.specs.Answer.{Answer, Ending, Refused, fault_alone, remaining_answer}
 use Rattle.saphyr_parser.specs.Events.{Happening}
 use Rattle.saphyr_parser.specs.Calls.{Advances, FailsFrom, GivesNext, IsReportedAs, given_fault, item_at}
-use Rattle.saphyr_parser.specs.Cursor.{EventCursor, HandsOutNext, Kept, Refuses, ending_of_fault}
+use Rattle.saphyr_parser.specs.Cursor.{EventCursor, Kept, Refuses, ending_of_fault}
 use Rattle.saphyr_pieces.specs.Pieces.{HandsOutOrWaits, at}
 use Rattle.saphyr_parser_c.specs.declared.coming.Coming.{Coming}
 use Rattle.saphyr_parser_c.specs.declared.inner.Inner.{Inner}
@@ -89,14 +89,6 @@ gives_same (Some (Ok e)) y old new (f, is, same) gives =
     (subst (λ (z : Happening × Span). Advances z old new) (sym same) gives)
 gives_same (Some (Err f)) y old new (g, is, same) gives =
     subst (λ (z : Item). GivesNext z old new) (sym is) (fails_same old.current old.kept f g old new same gives)
-
-pub hands_same : (x y : Item) (old new : Answer) → IsSameItem x y → HandsOutNext x old new → HandsOutNext y old new
-hands_same None y old new same hands = subst (λ (z : Item). HandsOutNext z old new) (sym same) hands
-hands_same (Some (Ok e)) y old new (f, is, same) hands =
-    subst (λ (z : Item). HandsOutNext z old new) (sym is)
-    (subst (λ (z : Happening × Span). old ≡ with_first_event z new) (sym same) hands)
-hands_same (Some (Err f)) y old new (g, is, same) hands =
-    subst (λ (z : Item). HandsOutNext z old new) (sym is) (refuses_same f g old same hands.0, hands.1)
 
 -- what is told of an item is no want of more
 written_so : (Q : Status → Type 0) → Q status.End → Q status.Event → Q status.Refused → Q status.NoMemory

@@ -1,5 +1,5 @@
 -- What a step of the reader hands out, and what holds of the reader that it leaves.
-use Rattle.std.proofs.Common.{◌≡◌, ◌≢◌, ◌<◌, ◌⊎◌, inl, inr, ℕ, List, [], ◌++◌, true, false, Option, Some, None, Result, Ok, Err, refl, sym, ap, subst, ◌∙◌, arith}
+use Rattle.std.proofs.Common.{◌≡◌, ◌≢◌, ◌⊎◌, inl, inr, ℕ, List, [], ◌++◌, true, false, Option, Some, None, Result, Ok, Err, refl, sym, ap, subst, ◌∙◌}
 use Rattle.std.specs.Global.{Global}
 use Rattle.std.specs.Prelude.{String, string_bytes}
 use Rattle.std.specs.Str.{chars}
@@ -14,9 +14,8 @@ use Rattle.saphyr_machine.specs.declared.progress.Progress.TheVariants as progre
 use Rattle.saphyr_machine.specs.declared.reader.EventReader.{EventReader}
 use Rattle.saphyr_machine.specs.declared.state.State.{State}
 use Rattle.saphyr_machine.specs.declared.state.State.TheVariants as state
-use Rattle.saphyr_machine.specs.Answer.{Answer}
 use Rattle.saphyr_machine.specs.Calls.{AdvancesFrom, FailsFrom, FailsWith, GivesNext, item_at}
-use Rattle.saphyr_machine.specs.Cursor.{EventCursor, Kept, Refuses, count, event_of}
+use Rattle.saphyr_machine.specs.Cursor.{EventCursor, Kept, event_of}
 use Rattle.saphyr_machine.specs.Events.{Happening}
 use Rattle.saphyr_machine.specs.Passed.{before_tokens}
 use Rattle.saphyr_machine.specs.Steps.Documents.{is_over}
@@ -88,19 +87,13 @@ fails_so (Some x) k f c d m none kept h = absurd h
 fails_so None (Some l) f c d m none kept h = absurd (cc)
 fails_so None None f c d m none kept h = (h.0, ap (λ (v : EventCursor). record v { machine = m }) h.1)
 
-something : (f : Fault) (a : Answer) → Refuses f a → 0 < count a
-something (fault.Scan e) a h = subst (λ (b : Answer). 0 < count b) (sym h) (omega arith)
-something fault.OutOfMemory a h = h
-something fault.Receiver a h = absurd h
-something fault.InsideDocument a h = absurd h
-
 -- memory ran out in place of that fault
 lacks_so : (a : Option (Happening × Span)) (k : Option Kept) (f : Fault) (c d : EventCursor) (m : Machine) → a ≡ None
     → k ≡ None → FailsFrom a k f c d → FailsFrom a k fault.OutOfMemory c (failed (record d { machine = m }))
 lacks_so (Some x) k f c d m none kept h = absurd h
 lacks_so None (Some l) f c d m none kept h = absurd (cc)
 lacks_so None None f c d m none kept h =
-    (something f _ h.0, ap (λ (v : EventCursor). failed (record v { machine = m })) h.1)
+    (turns.some_refused f _ h.0, ap (λ (v : EventCursor). failed (record v { machine = m })) h.1)
 
 -- memory ran out before an event
 lacks_before : (a : Option (Happening × Span)) (k : Option Kept) (c d : EventCursor) → a ≡ None → k ≡ None

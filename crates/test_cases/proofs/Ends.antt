@@ -1,6 +1,5 @@
 -- Where nothing is left, and where lack of memory is, by what a parser shows and gives.
-use Rattle.std.proofs.Common.{◌≡◌, Bool, true, false, is_some, not, map, List, [], String, Global, string_bytes, sym, ap, ◌∙◌, Option, Some, None, Result, Ok, Err, Bor, inl, inr}
-use Rattle.std.specs.Result.{IfOk}
+use Rattle.std.proofs.Common.{◌≡◌, Bool, true, false, is_some, not, map, List, [], String, Global, string_bytes, sym, ap, ◌∙◌, Option, Some, None, Result, Bor, inl, inr}
 use Rattle.saphyr_scalar.specs.declared.scalar.position.Span.{Span}
 use Rattle.saphyr_parser.specs.Types.Event.{Event}
 use Rattle.saphyr_parser.specs.Types.Fault.{Fault}
@@ -8,9 +7,6 @@ use Rattle.saphyr_parser.specs.Types.Fault.TheVariants as fault
 use Rattle.saphyr_parser.specs.Answer.{Answer, OutOfMemory, empty_answer}
 use Rattle.saphyr_parser.specs.Cursor.{HandsOutNext, Shows, Stays}
 use Rattle.test_events.specs.Listings.{ListAll, lines_of_answer}
-use Rattle.test_events.specs.declared.difference.Difference.{Difference}
-use Rattle.test_cases.specs.declared.refused_memory.outcome.Outcome.{Outcome}
-use Rattle.test_cases.specs.declared.refused_memory.outcome.Outcome.TheVariants.{Refused, Whole}
 
 pub nothing_shown : (shown : Option (Result (Bor (Event × Span)) (Bor Fault))) (none : Bool) (old new : Answer)
     → is_some shown ≡ not none → none ≡ true → Shows shown new → Stays old new → old ≡ empty_answer
@@ -24,12 +20,6 @@ pub nothing_given : (given : Option (Result (Event × Span) Fault)) (old new : A
     → HandsOutNext given old new → new ≡ empty_answer
 nothing_given None old new is hands = hands.1
 nothing_given (Some x) old new is hands = absurd (cc)
-
--- Memory has run out, so not all is whole.
-pub not_whole : (r : Result Outcome Difference) → IfOk r (λ outcome. outcome ≡ Refused) → r ≡ Ok Whole → ⊥
-not_whole (Ok Whole) refused whole = absurd (cc)
-not_whole (Ok Refused) refused whole = absurd (cc)
-not_whole (Err d) refused whole = absurd (cc)
 
 -- Nothing is left, of lines and of what is to come.
 pub lists_over : (all : Answer) (lines : List (String Global)) → lines ≡ [] → all ≡ empty_answer → ListAll lines all

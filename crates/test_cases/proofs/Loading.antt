@@ -15,7 +15,7 @@ use Rattle.saphyr_parser.specs.Calls.{EndsTheStream}
 use Rattle.saphyr_parser.specs.Loading.{Portion, is_last, portion, portion_to_send, inside_over, Keeps, ReportsFault, Sends, SendsOne, Stopped, Lost, Finished, Loads}
 use Rattle.saphyr_machine.proofs.HandedOver.{behind_first}
 use Rattle.test_events.specs.Lines.{Comes, Comparing, ComesFirst, PassesLine, event_line, line_of_fault, want_line}
-use Rattle.test_events.specs.Listings.{AreLinesOf, ListAll, lines_of_answer, lines_of_events}
+use Rattle.test_events.specs.Listings.{AreLinesOf, ListAll, lines_of_events}
 use Rattle.test_events.proofs.Listings.{hands_less, lists_before, lists_more}
 use Rattle.test_events.specs.declared.difference.Difference.{Difference}
 use Rattle.test_cases.specs.Handed.{HasMore, ListAllButOne, LoadsOn, StandsBetween, TakesAnswer}
@@ -279,9 +279,6 @@ pub has_more : (item : Option (Result (Event × Span) Fault)) (more : Bool) (old
 has_more None more old new is hands = subst (λ b. HasMore b old) (sym is) hands.0
 has_more (Some x) more old new is hands =
     subst (λ b. HasMore b old) (sym is) (omega (arith, hands_less x old new hands))
-
-pub lists_none : (lines : List (String Global)) (all : Answer) → lines ≡ [] → all ≡ empty_answer → ListAll lines all
-lists_none lines all empty over = inl (ap (λ l. map string_bytes l) empty ∙ ap lines_of_answer (sym over))
 
 -- ## A document after the other
 

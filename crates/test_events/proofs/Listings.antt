@@ -7,6 +7,7 @@ use Rattle.saphyr_parser.specs.Types.Fault.TheVariants as fault
 use Rattle.saphyr_parser.specs.Events.{Happening}
 use Rattle.saphyr_parser.specs.Answer.{Answer, OutOfMemory, empty_answer, fault_alone, with_first_event}
 use Rattle.saphyr_parser.specs.Cursor.{HandsOutNext, Refuses, Stays, count, event_of}
+use Rattle.event_laws.proofs.Common.{some_refused}
 use Rattle.test_events.specs.Lines.{Comes, event_line, line_of_fault, want_line}
 use Rattle.test_events.specs.Listings.{AreLinesOf, ListAll, lines_of_answer, lines_of_events}
 
@@ -95,14 +96,6 @@ lists_stayed old new lines (inl same) all = subst (λ a. ListAll lines a) same a
 lists_stayed old new lines (inr ran_out) all =
     let alone = want_alone (map string_bytes lines) (subst (λ a. ListAll lines a) ran_out.1 all) in
     subst (λ l. AreLinesOf l old) (sym alone) (lists_want old ran_out.0)
-
-some_refused : (f : Fault) (all : Answer) → Refuses f all → 0 < count all
-some_refused (fault.Scan e) all refuses =
-    let one : count all ≡ 1 = ap count refuses in
-    omega (arith, one)
-some_refused fault.OutOfMemory all refuses = refuses
-some_refused fault.Receiver all refuses = absurd refuses
-some_refused fault.InsideDocument all refuses = absurd refuses
 
 -- After what is handed out less is to come.
 pub hands_less : (item : Result (Event × Span) Fault) (old new : Answer) → HandsOutNext (Some item) old new

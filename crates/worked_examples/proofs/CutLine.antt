@@ -1,8 +1,7 @@
 -- A block scalar that ends inside a line of content is not taken (YAML 1.2.2, 8.1).
-use Rattle.std.proofs.Common.{◌≡◌, ◌⊎◌, ℕ, zero, suc, ◌+◌, ◌<◌, ◌≤◌, Bool, true, false, nat_le, List, [], ◌∷◌, ◌++◌, length, length-append, refl, sym, ap, ◌∙◌, arith, subst, inl, inr, codes}
+use Rattle.std.proofs.Common.{◌≡◌, ◌⊎◌, ℕ, zero, suc, ◌+◌, ◌<◌, ◌≤◌, Bool, true, false, nat_le, List, [], ◌∷◌, ◌++◌, length, length-append, refl, sym, ap, ◌∙◌, arith, inl, inr, codes}
 use Rattle.std.specs.Prelude.{slice_index}
 use Rattle.std.proofs.lemmas.List.{append-nil, append_cancel_left}
-use Rattle.saphyr_input.specs.Breaks.{normalized}
 use Rattle.saphyr_input.specs.Classes.{is_blank, is_yaml_non_break, is_z, line_feed}
 use Rattle.saphyr_input.proofs.Basics.Booleans.{and_true_right}
 use Rattle.saphyr_scalar.specs.declared.values.BlockStyle.TheVariants as block_style
@@ -11,7 +10,7 @@ use Rattle.saphyr_scalar.specs.declared.values.Chomping.TheVariants.{Strip, Clip
 use Rattle.saphyr_scalar.specs.declared.scalar.position.Marker.{Marker}
 use Rattle.saphyr_scalar.specs.declared.scalar.position.Span.{Span}
 use Rattle.saphyr_scalar.specs.declared.scalar.style.ScalarStyle.TheVariants.{Literal}
-use Rattle.saphyr_scalar.specs.Reading.BlockLines.{spaces, IsReadLine, HasLines}
+use Rattle.saphyr_scalar.specs.Reading.BlockLines.{spaces, IsReadLine}
 use Rattle.saphyr_scalar.specs.Reading.BlockText.{AreIndicators, digit_of, chomping_of, EndsHeader, IsHeaderLine}
 use Rattle.saphyr_scalar.specs.Spelling.Directive.{IsTailComment, IsLineTail}
 use Rattle.saphyr_scalar.specs.Spelling.Tag.{AreIn}

@@ -1,7 +1,7 @@
 -- No forest has the tokens of a flow sequence with a scalar right after it, inside braces: a comma, a value or the
 -- closing brace comes after a key there.
 use Rattle.std.proofs.Common.{◌≡◌, ℕ, ◌⊎◌, Bool, true, false, List, [], ◌∷◌, ◌++◌, Option, Some, None, option_map, map, inl, inr, refl, sym, ap, ◌∙◌, append_assoc}
-use Rattle.saphyr_scanner.specs.Grammar.Forest.{Style, Tag, NonSpecific, Verbatim, Shorthand, Directive, Version, TagPrefix, Reserved, HasOne, Node, Nodes, NoNode, MoreNodes, Pairs, NoPair, MorePairs, Document, Forest}
+use Rattle.saphyr_scanner.specs.Grammar.Forest.{Style, Tag, NonSpecific, Verbatim, Shorthand, Directive, Version, TagPrefix, Reserved, HasOne, Node, Nodes, NoNode, MoreNodes, Pairs, NoPair, MorePairs, Forest}
 use Rattle.saphyr_scanner.specs.Grammar.Forest as forest
 use Rattle.saphyr_scanner.specs.Grammar.Tokens.{Kind, StreamStart, StreamEnd, DocumentStart, FlowSequenceStart, FlowSequenceEnd, FlowMappingStart, FlowMappingEnd, FlowEntry, Key, Value, BlockSequenceStart, BlockMappingStart, anchor_token, tag_token, alias_token, scalar_token, directive_token}
 use Rattle.saphyr_scanner.specs.Grammar.Tokens as tokens

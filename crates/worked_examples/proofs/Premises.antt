@@ -2,11 +2,12 @@
 use Rattle.std.proofs.Common.{◌≡◌, ◌≤◌, ℕ, Bool, true, false, List, [], ◌∷◌, Some, refl, inl, inr, arith, codes}
 use lib.Utf8.{encode}
 use Rattle.scalar_laws.specs.Spelling.Spaces.{IsFiller, IsLineRest}
-use Rattle.saphyr_scanner.specs.Grammar.Forest.{Forest, open_in_forest}
+use Rattle.saphyr_scanner.specs.Grammar.Forest.{Forest, left_out, open_in_forest}
 use Rattle.saphyr_scanner.specs.Limits.{most_open}
 use Rattle.yaml_laws.specs.Grammar.Yaml.{no_prefix, IsYamlText}
 use Rattle.yaml_laws.specs.Grammar.Json.{IsUnescaped, IsJsonNumber, IsString, IsValue, IsJson}
 use Rattle.saphyr_machine.specs.Events as events
+use Rattle.saphyr_machine.specs.Events.{Happening}
 use Rattle.event_laws.specs.ForestEvents.{events}
 use Rattle.event_laws.specs.Premises.{IsClosed, IsPromised, Starts}
 use Rattle.event_laws.specs.Promises.{IsShallowJson}
@@ -89,7 +90,14 @@ yaml_promised law keep = record {
 
 -- ## `---` on a line
 
-line_stands : IsYamlText most_open forests.start_forest (codes "---\n")
+abbrev start_forest : Forest
+start_forest = forests.explicit [] left_out ∷ []
+
+abbrev start_emitted : List Happening
+start_emitted = events.StreamStart ∷ events.DocumentStart true ∷ forests.plain_event [] ∷ events.DocumentEnd
+    ∷ events.StreamEnd ∷ []
+
+line_stands : IsYamlText most_open start_forest (codes "---\n")
 line_stands =
     let none : IsFiller [] = ([], tt, refl) in (
       [],
@@ -119,7 +127,7 @@ line_stands =
       refl,
     )
 
-start_has_events : (keep : Bool) → events forests.start_forest keep ≡ Some forests.start_emitted
+start_has_events : (keep : Bool) → events start_forest keep ≡ Some start_emitted
 start_has_events true = refl
 start_has_events false = refl
 
@@ -133,8 +141,8 @@ line_closes keep =
       within = omega arith;
       marker = Starts;
       ends = ([], [], ([], [], tt, inl refl, refl), inl (inl refl), refl);
-      forest = forests.start_forest;
-      emitted = forests.start_emitted;
+      forest = start_forest;
+      emitted = start_emitted;
       promised = record { stands_for = line_stands; within = omega arith; has_events = start_has_events keep };
       earlier = events.StreamStart ∷ [];
       is_first = refl;

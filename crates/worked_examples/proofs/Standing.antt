@@ -13,6 +13,7 @@ use Rattle.saphyr_scanner.specs.TokensTaken.{Collections, no_collections, surrou
 use Rattle.saphyr_scanner.proofs.Reached.{reached_counted, apart_reached}
 use Rattle.saphyr_scanner.proofs.Taken.Places.{Reaches, reaches_reaches, token_reached}
 use Rattle.std.proofs.lemmas.Bool.{eq-eqb}
+use Rattle.saphyr_input.proofs.Basics.Booleans.{or_false_right}
 
 -- the token is at a place that is reached from the text's start, where these collections are open
 pub record StandsReached (text : List ℕ) (opened : Collections) (p : Piece) : Type 0 where
@@ -104,8 +105,4 @@ one_place c (x ∷ before) after [] rest e s n b a =
     absurd (let k : ((x == c) || has_character c before) ≡ true = rw here refl in cc)
 one_place c (x ∷ before) after (f ∷ front) rest e s n b a =
     let more : before ++ (c ∷ after) ≡ front ++ rest = cc in
-    one_place c before after front rest more s n (right (x == c) (has_character c before) b) a
-  where
-    right : (p q : Bool) → (p || q) ≡ false → q ≡ false
-    right true q h = absurd (cc)
-    right false q h = h
+    one_place c before after front rest more s n (or_false_right _ _ b) a

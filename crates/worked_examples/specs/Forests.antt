@@ -1,6 +1,6 @@
 -- Forests with their events.
 use Rattle.std.specs.Prelude.{ℕ, true, false, List, [], ◌∷◌, Some, None, codes}
-use Rattle.saphyr_scanner.specs.Grammar.Forest.{Plain, DoubleQuoted, Properties, no_properties, Tag, Named, Shorthand, Node, Alias, Scalar, Seq, Map, NoNode, MoreNodes, NoPair, MorePairs, Directive, TagPrefix, Document, bare, left_out, Forest}
+use Rattle.saphyr_scanner.specs.Grammar.Forest.{Plain, DoubleQuoted, Properties, no_properties, Tag, Named, Shorthand, Node, Alias, Scalar, Seq, Map, NoNode, MoreNodes, NoPair, MorePairs, Directive, TagPrefix, Document, bare, Forest}
 use Rattle.saphyr_machine.specs.Events as events
 use Rattle.saphyr_machine.specs.Events.{Happening}
 
@@ -102,13 +102,5 @@ declared_twice_events =
 
 -- ## `---` on a line, and its events up to the marker's
 
-abbrev pub start_forest : Forest
-start_forest = explicit [] left_out ∷ []
-
 abbrev pub start_events : List Happening
 start_events = events.StreamStart ∷ events.DocumentStart true ∷ []
-
--- all its events
-abbrev pub start_emitted : List Happening
-start_emitted = events.StreamStart ∷ events.DocumentStart true ∷ plain_event [] ∷ events.DocumentEnd ∷ events.StreamEnd
-    ∷ []

@@ -1,5 +1,5 @@
 -- A search for an anchor, event after event.
-use Rattle.std.proofs.Common.{◌≡◌, ℕ, ◌<◌, List, [], ◌∷◌, ◌++◌, length, Some, None, sym, ap, subst, ◌∙◌, append_assoc, append-nil, arith}
+use Rattle.std.proofs.Common.{◌≡◌, ℕ, List, [], ◌∷◌, ◌++◌, Some, sym, ap, ◌∙◌, append_assoc}
 use Rattle.saphyr_parser.specs.Events as events
 use Rattle.saphyr_parser.specs.Events.{Happening}
 use Rattle.yaml_tree.specs.declared.node.Node.{Node, out-Node, fold_out-Node}
@@ -9,7 +9,7 @@ use Rattle.yaml_tree.specs.declared.walk.Turn.TheVariants.{Leave}
 use Rattle.yaml_tree.specs.Unloading.{node_events, unload_step}
 use Rattle.yaml_tree.specs.Accessing.{anchor_in_layer, anchor_of_node}
 use Rattle.yaml_tree.specs.Walking.{IsCollectionEnd, BeginsNode, Turns}
-use Rattle.yaml_tree.specs.Anchoring.{anchor_in_event, HaveNoAnchor, FindsAnchor}
+use Rattle.yaml_tree.specs.Anchoring.{anchor_in_event, HaveNoAnchor}
 
 -- ## The anchor of the next event
 
@@ -62,11 +62,3 @@ searches_node id depth root node left others s b other = searches_more id root l
 pub searches_end : (id : ℕ) (root : Node) (left others : List Happening) → HasSearched id root left
     → Turns Leave left others → HasSearched id root others
 searches_end id root left others s (h, end, e) = searches_more id root left others h s e (end_anchor h id end)
-
-pub finds_none : (id : ℕ) (root : Node) (left : List Happening) → HasSearched id root left → left ≡ []
-    → FindsAnchor id root None
-finds_none id root left s e = subst (HaveNoAnchor id)
-    (sym (s.split ∙ ap (λ (l : List Happening). s.front ++ l) e ∙ append-nil s.front)) s.none
-
-pub shorter : (left others : List Happening) (h : Happening) → left ≡ h ∷ others → length others < length left
-shorter left others h e = omega (arith, ap length e)

@@ -1,25 +1,16 @@
 -- Tasks, the parts that they are to number, and the spans of these.
-use Rattle.std.proofs.Common.{arith, ◌≡◌, ◌∙◌, refl, sym, ap, subst, ℕ, ◌+◌, ◌-◌, ◌*◌, List, [], ◌∷◌, ◌++◌, length, map, take, drop, Result, Ok, Err, OnOk, slice_get, Option, Some, option_map, Vec, Global, append_assoc, append-nil}
-use Rattle.std.proofs.lemmas.List.{length-map, length-append, length-drop, length-take-le, nil_from_length, take-append-drop}
-use Rattle.std.proofs.lemmas.Slice.Zip.{AllZip-long}
-use Rattle.std.specs.List.{AllZip, flat_map}
+use Rattle.std.proofs.Common.{arith, ◌≡◌, ◌∙◌, refl, sym, ap, subst, ℕ, ◌+◌, ◌-◌, List, [], ◌∷◌, ◌++◌, length, map, take, drop, append_assoc}
+use Rattle.std.proofs.lemmas.List.{length-append, length-drop, length-take-le, nil_from_length, take-append-drop}
+use Rattle.std.specs.List.{flat_map}
 use Rattle.saphyr_scalar.specs.declared.scalar.position.Span.{Span}
-use Rattle.saphyr_parser.specs.Types.Tag.{Tag}
-use Rattle.saphyr_parser.specs.Events.{Happening, SequenceStart, SequenceEnd, MappingStart, MappingEnd}
-use Rattle.saphyr_parser.specs.Views.Events.{resolved_tag}
-use Rattle.yaml_tree.specs.declared.node.Node.{Node, Seq, Map}
-use Rattle.yaml_tree.specs.declared.parts.Parts.{Parts}
-use Rattle.yaml_tree.specs.declared.table.Content.{Content}
+use Rattle.saphyr_parser.specs.Events.{Happening}
+use Rattle.yaml_tree.specs.declared.node.Node.{Node}
 use Rattle.yaml_tree.specs.declared.table.Content.TheVariants as content
-use Rattle.yaml_tree.specs.declared.table.Entry.{Entry}
 use Rattle.yaml_tree.specs.declared.numbering.Task.{Task}
 use Rattle.yaml_tree.specs.declared.numbering.Task.TheVariants as task
-use Rattle.yaml_tree.specs.declared.numbering.Numbering.{Numbering}
 use Rattle.yaml_tree.specs.Unloading.{node_events, pair_events}
-use Rattle.yaml_tree.specs.Numbering.{Placed, Stand, IsContentOf, AreSpansOf, IsEntryOf, FitNode, both_parts, nodes_of, spans_of}
-use Rattle.yaml_tree.specs.NumberingSeen.{Ends, Does, Make, HasNumbered, IsNumbering, GoesOn, AllFit, NumberFirst, NumbersLast, FinishesNode}
-use Rattle.yaml_tree.proofs.Unloads.{node_events-Seq, node_events-Map}
-use Rattle.yaml_tree.proofs.PartNumbers.{get_behind, length_both}
+use Rattle.yaml_tree.specs.Numbering.{Placed, FitNode, both_parts, nodes_of, spans_of}
+use Rattle.yaml_tree.specs.NumberingSeen.{Does, Make, AllFit}
 
 -- ## Tasks
 

@@ -1,6 +1,6 @@
 -- Nodes get numbers.
-use Rattle.std.proofs.Common.{arith, ◌≡◌, ◌∙◌, refl, sym, ap, subst, ℕ, ◌+◌, ◌-◌, ◌*◌, List, [], ◌∷◌, ◌++◌, length, map, take, drop, Result, Ok, Err, OnOk, slice_get, Option, Some, option_map, Vec, Global, append_assoc, append-nil}
-use Rattle.std.proofs.lemmas.List.{length-map, length-append, length-drop, length-take-le, nil_from_length, take-append-drop}
+use Rattle.std.proofs.Common.{arith, ◌≡◌, ◌∙◌, refl, sym, ap, subst, ℕ, ◌+◌, ◌-◌, ◌*◌, List, [], ◌∷◌, ◌++◌, length, drop, Result, Ok, Err, OnOk, slice_get, Option, Some, option_map, Vec, Global, append_assoc, append-nil}
+use Rattle.std.proofs.lemmas.List.{length-map, length-append, nil_from_length}
 use Rattle.std.proofs.lemmas.Slice.Zip.{AllZip-long}
 use Rattle.std.specs.List.{AllZip, flat_map}
 use Rattle.saphyr_scalar.specs.declared.scalar.position.Span.{Span}
@@ -21,7 +21,7 @@ use Rattle.yaml_tree.specs.NumberingSeen.{Ends, Does, Make, HasNumbered, IsNumbe
 use Rattle.yaml_tree.proofs.Unloads.{node_events-Seq, node_events-Map}
 use Rattle.yaml_tree.proofs.PartNumbers.{get_behind, length_both}
 use Rattle.yaml_tree.proofs.NumberedEntries.{entries_more, zip_append}
-use Rattle.yaml_tree.proofs.NumberedParts.{Opened, first_more, flat_both, make_pop, make_push, opened}
+use Rattle.yaml_tree.proofs.NumberedParts.{first_more, flat_both, make_pop, make_push, opened}
 
 -- ## A node begins
 

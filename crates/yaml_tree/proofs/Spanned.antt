@@ -8,8 +8,8 @@ use Rattle.saphyr_parser.specs.Nesting.{happenings}
 use Rattle.yaml_tree.specs.declared.document.Document.{Document}
 use Rattle.yaml_tree.specs.Unloading.{node_events, document_events, unload}
 use Rattle.yaml_tree.specs.DocumentLoading.{AtMost}
-use Rattle.yaml_tree.specs.Spanning.{IsSpannedDocument, KeptSpans, with_node_span, kept_behind, kept_behind_all, places_of_events, IsNodeEvent, AreNodeEvents, AreSpanned, IsSpannedStream}
-use Rattle.yaml_tree.proofs.NodeEvents.{have_node_events}
+use Rattle.yaml_tree.specs.Spanning.{IsSpannedDocument, KeptSpans, with_node_span, kept_behind, kept_behind_all, places_of_events, AreSpanned, IsSpannedStream}
+use Rattle.yaml_tree.proofs.NodeEvents.{IsNodeEvent, AreNodeEvents, have_node_events}
 
 -- ## Events by what they tell
 

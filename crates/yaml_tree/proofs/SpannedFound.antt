@@ -12,13 +12,13 @@ use Rattle.yaml_tree.specs.declared.document.Document.{Document}
 use Rattle.yaml_tree.specs.declared.spans.DocumentSpans.{DocumentSpans}
 use Rattle.yaml_tree.specs.declared.spans.SpanKeeper.{SpanKeeper}
 use Rattle.yaml_tree.specs.declared.spanned_loading.SpannedLoader.{SpannedLoader}
-use Rattle.yaml_tree.specs.DocumentLoading.{AtMost, LoadsDocument}
+use Rattle.yaml_tree.specs.DocumentLoading.{AtMost}
 use Rattle.yaml_tree.specs.DocumentSeen.{GoesOnBehind, TakesPart, HoldsLast}
 use Rattle.yaml_tree.specs.KeeperSeen.{HandsOutLast, HasKeptNone, HasSpans, KeepsTaken, ReturnsLast, document_of, kept_spans}
 use Rattle.yaml_tree.specs.Unloading.{document_events}
 use Rattle.yaml_tree.specs.Spanning.{IsSpannedDocument, all_spans, kept_behind_all}
 use Rattle.yaml_tree.proofs.DocumentFound.{loads_last, no_events_of}
-use Rattle.yaml_tree.proofs.Spanned.{KeepsNext, keeps_next}
+use Rattle.yaml_tree.proofs.Spanned.{keeps_next}
 
 one_mapped : {X Y : Type 0} (f : X → Y) (xs : List X) (y : Y) → map f xs ≡ y ∷ []
     → (x : X) × (xs ≡ x ∷ []) × (f x ≡ y)

@@ -206,9 +206,6 @@ pub record HasPassed (old new : Walk) : Type 0 where
   pub split : left_to_visit old ≡ passed ++ left_to_visit new
   pub within : (root : Node) → IsWalkOf root old → IsWalkOf root new
 
-pub passes_none : (w : Walk) → HasPassed w w
-passes_none w = record { passed = []; ends = tt; split = refl; within = λ root of. of }
-
 pub passes_end : (old s t : Walk) (span : Span) (others : List Span) → HasPassed old s
     → Turns Leave (to_visit s) (to_visit t) → ((root : Node) → IsWalkOf root s → IsWalkOf root t)
     → s.spans.now ≡ span ∷ others → t.spans.now ≡ others → HasPassed old t

@@ -47,19 +47,6 @@ pub record IsSpannedDocument (document : Document) (spans : List Span) (all left
 
 -- ## Spans that are kept
 
--- an event that is one of a node
-abbrev pub IsNodeEvent : Happening → Type 0
-IsNodeEvent Nothing = ⊥
-IsNodeEvent StreamStart = ⊥
-IsNodeEvent StreamEnd = ⊥
-IsNodeEvent (DocumentStart explicit) = ⊥
-IsNodeEvent DocumentEnd = ⊥
-IsNodeEvent _ = Unit {0}
-
-abbrev pub AreNodeEvents : List Happening → Type 0
-AreNodeEvents [] = Unit {0}
-AreNodeEvents (h ∷ hs) = IsNodeEvent h × AreNodeEvents hs
-
 -- the spans of the documents that ended, and of the one that is open
 pub record KeptSpans : Type 0 where
   pub ended : List (List Span)

@@ -122,7 +122,8 @@ reads_end {limit = limit} end o v h =
     let n = moved (along v.mark 3) e.rest in
     reads_token v refl (inr (inr (col, inl (end_ends r first)))) (λ _. cursor_at e.more n false) false
     (piece_of v.mark (along v.mark 3) tokens.DocumentEnd)
-    (end_here v.mark n r e.more sep.0 col first sep.1 (break_ends e.more e.break)) (Lined true o) e.mark o (λ _. e.behind 0)
+    (end_here v.mark n r e.more sep.0 col first sep.1 (break_ends e.more e.break)) (Lined true o) e.mark o
+    (λ _. e.behind 0)
     (end_count v.mark e.mark r o limit v.count e.count) (λ _. (e.place, λ _. opens e.more o e.opens))
     (end_further v.mark e.mark end o e.count) (e.lined (along_lined v.mark 3 v.lined))
   where

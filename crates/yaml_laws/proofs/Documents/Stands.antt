@@ -172,7 +172,8 @@ Fetches m y t b piece = (blank : Bool) (key : Option Candidate) (allowed : Bool)
 -- a token that is right here is read
 pub reads_token : {limit : ℕ} {start : State} {free : Bool} {P : Marker → Bool → Type 0} {y : List ℕ} {ts : List Kind}
     (v : StandsInStream limit start free P y ts) → past 0 v.mark y ≡ (v.mark, y) → (free ≡ true) ⊎ EndsDocument v.mark y
-    → (t : Bool → Cursor) (b : Bool) (piece : Piece) → Fetches v.mark y t b piece → (Q : Marker → Bool → Type 0) (n : Marker) (o : List ℕ)
+    → (t : Bool → Cursor) (b : Bool) (piece : Piece) → Fetches v.mark y t b piece
+    → (Q : Marker → Bool → Type 0) (n : Marker) (o : List ℕ)
     → ((blank : Bool) → past 0 (t blank).mark (t blank).rest ≡ past 0 n o) → n.index + length o ≤ limit
     → ((blank : Bool) → Q n (crosses (t blank).rest || b))
     → v.mark.index ≤ n.index → IsLined n

@@ -33,7 +33,8 @@ longer_by_one ps p e = let l = length-append ps (p ∷ []) in let same = ap leng
 
 hands_token : {limit : ℕ} {start : State} {free : Bool} {P : Marker → Bool → Type 0} {y : List ℕ} {ts : List Kind}
     (v : StandsInStream limit start free P y ts) → past 0 v.mark y ≡ (v.mark, y) → EndsDocument v.mark y
-    → (t : Cursor) (piece : Piece) → Fetches v.mark y (λ _. t) false piece → t.mark.index ≤ limit → is_open t.rest ≡ false → Handed limit start (ts ++ piece.kind ∷ [])
+    → (t : Cursor) (piece : Piece) → Fetches v.mark y (λ _. t) false piece → t.mark.index ≤ limit
+    → is_open t.rest ≡ false → Handed limit start (ts ++ piece.kind ∷ [])
 hands_token {limit = limit} {y = y} {ts = ts} v here ends t piece is low known =
     let r = reads_here limit v.comment v.there v.key v.allowed v.adjacent v.places v.mark y (v.fits ∙ here) (inr ends)
     false (λ _. t) (λ _. None) false (v.places ++ bare_place piece ∷ [])

@@ -67,7 +67,8 @@ text_right column _ _ _ _ (two_quotes t items x r) fit e m reach clean =
     (right_reaches column (along (along m 1) 1) t (le_next column (m.col + 1) (le_next column m.col here))) clean.1.1
 text_right column _ _ _ _ (escaped d c t items x h r) fit e m reach clean =
     let here = from_content column m backslash (d ∷ t) refl refl reach in
-    let same : moved m (backslash ∷ d ∷ t) ≡ moved (along (along m 1) 1) t = rw (no_feed d (no_break_simple d c h)) refl in
+    let same : moved m (backslash ∷ d ∷ t) ≡ moved (along (along m 1) 1) t =
+    rw (no_feed d (no_break_simple d c h)) refl in
     rw same (text_right column Double t items x r fit e (along (along m 1) 1)
     (right_reaches column (along (along m 1) 1) t (le_next column (m.col + 1) (le_next column m.col here))) clean.1.1)
 text_right column _ _ _ _ (numbered d c ds t items x h r) fit e m reach clean =

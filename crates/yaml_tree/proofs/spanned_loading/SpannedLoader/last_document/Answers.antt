@@ -1,4 +1,4 @@
-use Rattle.std.proofs.Common.{◌≡◌, ◌∙◌, Ok, Err, Some, None, refl, sym, ap, arith}
+use Rattle.std.proofs.Common.{◌∙◌, Ok, Some, None, refl, sym, ap, arith}
 use Rattle.std.proofs.lemmas.List.{nil_from_length}
 use Rattle.yaml_tree.specs.declared.spans.DocumentSpans.{DocumentSpans}
 use Rattle.yaml_tree.proofs.LastItems.{none_is_last, same_last}
