@@ -391,10 +391,12 @@ static void keeps_to_what_may_wait(void) {
     static const struct {
         const char *begins, *goes_on;
     } waits[] = {{"[", "a, "},       {"\"", "a"},    {"# ", "a"},          {"- [", "a,\n"},
-                 {"? |\n", " a\n"}, {"a", "\n a"}, {"...\n", "...\n"}, {"%A\n", "%A\n"}};
+                 {"? |\n", " a\n"}, {"a", "\n a"}, {"%YAML 1.2\n", "%A\n"}, {"%A\n", "# c\n"}};
     static const char *const flows[] = {"- a\n", "a: b\n", "--- [a]\n", "'a':\n - b\n", "- |\n a\n", "- \n",
                                         "--- {a: b}\n", "\xef\xbb\xbf--- a\n", "a:\n  # c\n", "---\n...\n",
-                                        "\n", "# a\n", "  # a\n\n"};
+                                        "\n", "# a\n", "  # a\n\n", "...\n", " # a\n... # c\n\n",
+                                        "%A\n", "%A b\n# c\n", "\xef\xbb\xbf\n", "\xef\xbb\xbf...\n",
+                                        "\r\n", "# a\r\n", " \t\n", "\t# a\r\n"};
     saphyr_parser parser = {0};
     saphyr_event event = {0};
     int32_t status;

@@ -13,6 +13,7 @@ use Rattle.saphyr_machine.specs.declared.reader.EventReader.{EventReader}
 use Rattle.saphyr_machine.specs.Calls.{Advances, AdvancesFrom}
 use Rattle.saphyr_machine.specs.Cursor.{EventCursor, Kept, with_event_handed}
 use Rattle.saphyr_machine.specs.Events.{Happening}
+use Rattle.saphyr_machine.specs.Passed.{before_tokens}
 use Rattle.saphyr_machine.specs.Steps.Machine.{Emitted, emit}
 use Rattle.saphyr_machine.specs.Views.Readers.{cursor, cursor_in, cursor_over, scanning_of}
 use Rattle.saphyr_pieces.specs.declared.owned.OwnedText.{OwnedText}
@@ -20,7 +21,8 @@ use Rattle.saphyr_pieces.specs.declared.pieces.PieceReader.{PieceReader}
 use Rattle.saphyr_pieces.specs.declared.pieces.Source.{Source}
 use Rattle.saphyr_pieces.specs.declared.pieces.Source.TheVariants as source
 use Rattle.saphyr_pieces.specs.Pieces.{Pieces, at, cursor_from, reader_in, wants_more, wants_more_from}
-use Rattle.saphyr_pieces.specs.Views.{AdvancesBy, IsReachedFrom, IsSoundFrom, IsSoundReader, ReadsOnBy, pieces_of}
+use Rattle.saphyr_pieces.specs.Passed.{passed_tokens}
+use Rattle.saphyr_pieces.specs.Views.{AdvancesBy, AreIdleBefore, IsReachedFrom, IsSoundFrom, IsSoundReader, ReadsOnBy, pieces_of, place_in}
 
 -- ## The events of a cursor are those of its place
 
@@ -83,15 +85,16 @@ is_text _ e = absurd (cc)
 
 -- a reader over its text and what came behind that
 module _ (p : PieceReader) (g : Growth) (r : EventReader OwnedText) (rest : List ℕ)
-    (wants : wants_more (pieces_of p) ≡ true) (grows : (scanning_of p.reader).growth ≡ growth.Growing)
+    (grows : (scanning_of p.reader).growth ≡ growth.Growing)
     (seen : scanning_of r
     ≡ record (scanning_of p.reader) { state = with_rest rest (scanning_of p.reader).state; growth = g })
     (over : (rest : List ℕ) → cursor_over rest r ≡ cursor_over rest p.reader)
     (is : rest ≡ (scanning_of p.reader).state.core.cursor.rest ++ chars (string_bytes p.more))
   where
-    pub takes_in : (later : List ℕ) → cursor_in later r ≡ at (pieces_of p) (text_in g later [])
+    pub reads_on : (later : List ℕ)
+        → cursor_in later r ≡ cursor_in (chars (string_bytes p.more) ++ text_in g later []) p.reader
     unfolding tokens_in
-    takes_in later =
+    reads_on later =
         let before = (scanning_of p.reader).state.core.cursor.rest in
         let more = chars (string_bytes p.more) in
         ap (λ (s : Scanning). cursor_over (text_in s.growth later s.state.core.cursor.rest) r) seen
@@ -99,7 +102,14 @@ module _ (p : PieceReader) (g : Growth) (r : EventReader OwnedText) (rest : List
         ∙ ap (λ (t : List ℕ). cursor_over (text_in g later t) p.reader) is
         ∙ ap (λ (t : List ℕ). cursor_over t p.reader) (rest_with g before more later)
         ∙ ap (λ (h : Growth). cursor_over (text_in h (more ++ text_in g later []) before) p.reader) (sym grows)
-        ∙ ap (λ (s : Source). cursor_from s (pieces_of p) (text_in g later [])) (sym (is_text p.source wants))
+
+-- so it is at the place of the parser
+pub takes_in : (p : PieceReader) (g : Growth) (r : EventReader OwnedText) → wants_more (pieces_of p) ≡ true
+    → ((later : List ℕ) → cursor_in later r ≡ cursor_in (chars (string_bytes p.more) ++ text_in g later []) p.reader)
+    → (later : List ℕ) → place_in later (passed_tokens p.passed) r ≡ at (pieces_of p) (text_in g later [])
+takes_in p g r wants same later =
+    ap (before_tokens (passed_tokens p.passed)) (same later)
+    ∙ ap (λ (s : Source). cursor_from s (pieces_of p) (text_in g later [])) (sym (is_text p.source wants))
 
 -- a reader that goes on, and has no copy to go back to
 module _ (p q : PieceReader) (none : q.copy ≡ None) (kept : (cursor q.reader).kept ≡ (cursor p.reader).kept)
@@ -113,17 +123,19 @@ module _ (p q : PieceReader) (none : q.copy ≡ None) (kept : (cursor q.reader).
     sound_from source.Lost h = tt
 
     pub sound_without_copy : q.source ≡ p.source → (cursor q.reader).current ≡ (cursor p.reader).current
-        → IsSoundReader p → IsSoundReader q
-    sound_without_copy same current h = record {
+        → AreIdleBefore (passed_tokens q.passed) q.reader → IsSoundReader p → IsSoundReader q
+    sound_without_copy same current idle h = record {
       source = subst (λ (s : Source). IsSoundFrom s q) (sym same) (sound_from p.source h.source);
       current = current ∙ h.current;
+      idle = idle;
     }
 
 -- more comes behind what came
 module _ (p : Pieces) (more later : List ℕ) where
   added_from : (s : Source) → wants_more_from s ≡ true
       → cursor_from s (record p { more = p.more ++ more }) later ≡ cursor_from s p (more ++ later)
-  added_from source.Text wants = ap (λ (t : List ℕ). reader_in t p) (append_assoc p.more more later)
+  added_from source.Text wants =
+      ap (λ (t : List ℕ). before_tokens p.passed (reader_in t p)) (append_assoc p.more more later)
   added_from _ wants = absurd (cc)
 
   pub added : (q : Pieces) → wants_more p ≡ true → q ≡ record p { more = p.more ++ more }

@@ -5,6 +5,7 @@ use Rattle.std.specs.Prelude.{String, string_bytes}
 use Rattle.std.specs.Str.{chars}
 use Rattle.saphyr_scalar.specs.declared.scalar.fault.Stop.TheVariants as stop
 use Rattle.saphyr_scalar.specs.declared.scalar.position.Span.{Span}
+use Rattle.saphyr_scanner.specs.Views.Tokens.{Piece}
 use Rattle.saphyr_machine.specs.declared.event.Event.{Event}
 use Rattle.saphyr_machine.specs.declared.fault.Fault.{Fault}
 use Rattle.saphyr_machine.specs.declared.fault.Fault.TheVariants as fault
@@ -17,16 +18,20 @@ use Rattle.saphyr_machine.specs.Answer.{Answer}
 use Rattle.saphyr_machine.specs.Calls.{AdvancesFrom, FailsFrom, FailsWith, GivesNext, item_at}
 use Rattle.saphyr_machine.specs.Cursor.{EventCursor, Kept, Refuses, count, event_of}
 use Rattle.saphyr_machine.specs.Events.{Happening}
+use Rattle.saphyr_machine.specs.Passed.{before_tokens}
 use Rattle.saphyr_machine.specs.Steps.Documents.{is_over}
 use Rattle.saphyr_machine.specs.Steps.Machine.{Machine}
 use Rattle.saphyr_machine.specs.Views.Readers.{cursor, cursor_in}
 use Rattle.saphyr_machine.proofs.Turns as turns
 use Rattle.saphyr_pieces.specs.declared.owned.OwnedText.{OwnedText}
 use Rattle.saphyr_pieces.specs.declared.pieces.PieceReader.{PieceReader}
+use Rattle.saphyr_pieces.specs.declared.pieces.passed.Passed.{Passed}
 use Rattle.saphyr_pieces.specs.declared.pieces.Source.{Source}
 use Rattle.saphyr_pieces.specs.declared.pieces.Source.TheVariants as source
 use Rattle.saphyr_pieces.specs.Pieces.{HandsOutOrWaits, at, cursor_from, wants_more, wants_more_from}
-use Rattle.saphyr_pieces.specs.Views.{AdvancesBy, CountsOne, FailsOrWaits, GoesBack, IsLack, IsReachedFrom, IsSoundFrom, IsSoundReader, failed, pieces_of}
+use Rattle.saphyr_pieces.specs.Passed.{passed_tokens}
+use Rattle.saphyr_pieces.specs.Views.{AdvancesBy, AreIdleBefore, CountsOne, FailsOrWaits, GoesBack, IsLack, IsReachedFrom, IsSoundFrom, IsSoundReader, PassesOn, failed, pieces_of, place_in}
+use Rattle.saphyr_pieces.proofs.IdleTokens.{gives_there, idle_along, passed_none, passes_further, stays_on}
 use Rattle.saphyr_pieces.proofs.Places.{is_text, same_readers, sound_without_copy}
 
 -- ## An event
@@ -44,20 +49,23 @@ known : (p : PieceReader) → IsSoundReader p → wants_more (pieces_of p) ≡ t
 known p h wants = subst (λ (s : Source). IsSoundFrom s p) (is_text p.source wants) h.source
 
 -- the same reader, with another copy
-pub renewed : (p q : PieceReader) → q.reader ≡ p.reader → q.source ≡ p.source → wants_more (pieces_of p) ≡ true
-    → IsReachedFrom q.copy q.events q.reader → IsSoundReader p → IsSoundReader q
-renewed p q same text wants reached h = record {
+pub renewed : (p q : PieceReader) → q.reader ≡ p.reader → q.source ≡ p.source → q.passed ≡ p.passed
+    → wants_more (pieces_of p) ≡ true → IsReachedFrom q.copy q.events q.reader → IsSoundReader p → IsSoundReader q
+renewed p q same text passed wants reached h = record {
   source = subst (λ (s : Source). IsSoundFrom s q) (sym (text ∙ is_text p.source wants))
       (ap (λ (r : EventReader OwnedText). (cursor r).kept) same ∙ (known p h wants).0, reached);
   current = ap (λ (r : EventReader OwnedText). (cursor r).current) same ∙ h.current;
+  idle = subst (λ (r : EventReader OwnedText). AreIdleBefore (passed_tokens q.passed) r) (sym same)
+      (subst (λ (o : Option Passed). AreIdleBefore (passed_tokens o) p.reader) (sym passed) h.idle);
 }
 
 -- the reader hands out an event, which is counted
 pub sound_behind_event : (p q : PieceReader) (r : EventReader OwnedText) (next : Event × Span)
     → wants_more (pieces_of p) ≡ true
     → ((more : List ℕ) → GivesNext (Some (Ok next)) (cursor_in more p.reader) (cursor_in more r))
-    → CountsOne p.copy p.events q.copy q.events → q.reader ≡ r → q.source ≡ p.source → IsSoundReader p → IsSoundReader q
-sound_behind_event p q r next wants gives counts same text h =
+    → CountsOne p.copy p.events q.copy q.events → q.reader ≡ r → q.source ≡ p.source → passed_tokens q.passed ≡ []
+    → IsSoundReader p → IsSoundReader q
+sound_behind_event p q r next wants gives counts same text nothing h =
     let old = known p h wants in
     let c : EventCursor = cursor p.reader in
     let stays = same_behind c.current c.kept (event_of next) c (cursor r) h.current (gives []) in
@@ -68,6 +76,7 @@ sound_behind_event p q r next wants gives counts same text h =
             (counts p.reader r old.1 (λ more. (event_of next, gives more))),
       );
       current = ap (λ (v : EventReader OwnedText). (cursor v).current) same ∙ stays.1 ∙ h.current;
+      idle = subst (λ (ts : List Piece). AreIdleBefore ts q.reader) (sym nothing) tt;
     }
 
 -- ## A fault
@@ -111,29 +120,37 @@ over_is_end : (s : State) → s ≡ state.End → is_over s ≡ true
 over_is_end s e = subst (λ (t : State). is_over t ≡ true) (sym e) refl
 
 -- no more of the text is wanted
-pub sound_given : (p : PieceReader) → p.source ≡ source.Given → (cursor p.reader).current ≡ None → IsSoundReader p
-sound_given p given none = record { source = subst (λ (s : Source). IsSoundFrom s p) (sym given) tt; current = none }
+pub sound_given : (p : PieceReader) → p.source ≡ source.Given → passed_tokens p.passed ≡ []
+    → (cursor p.reader).current ≡ None → IsSoundReader p
+sound_given p given nothing none = record {
+  source = subst (λ (s : Source). IsSoundFrom s p) (sym given) tt;
+  current = none;
+  idle = subst (λ (ts : List Piece). AreIdleBefore ts p.reader) (sym nothing) tt;
+}
 
 -- a fault is told, after which no more of the text is wanted
-reports : (p q : PieceReader) (next : Event × Span) (f : Fault) (x : Progress) → wants_more (pieces_of p) ≡ true
-    → x ≡ progress.Fault → q.source ≡ source.Given
+reports : (p q : PieceReader) (next : Event × Span) (f : Fault) (x : Progress) → IsSoundReader p
+    → wants_more (pieces_of p) ≡ true → x ≡ progress.Fault → q.source ≡ source.Given → passed_tokens q.passed ≡ []
     → ((more : List ℕ) → FailsWith f (cursor_in more p.reader) (cursor q.reader))
     → HandsOutOrWaits (Some x) next f (pieces_of p) (pieces_of q)
-reports p q next f x wants reported given fails later =
+reports p q next f x h wants reported given none fails later =
+    let ts = passed_tokens p.passed in
     let from = ap (λ (s : Source). cursor_from s (pieces_of p) later) (is_text p.source wants) in
-    let to = ap (λ (s : Source). cursor_from s (pieces_of q) later) given in
+    let to = ap (λ (s : Source). cursor_from s (pieces_of q) later) given
+    ∙ ap (λ (us : List Piece). before_tokens us (cursor q.reader)) none in
+    let more = chars (string_bytes p.more) ++ later in
     subst (λ (y : Progress). GivesNext (item_at next f y) (at (pieces_of p) later) (at (pieces_of q) later))
     (sym reported)
     (subst (λ (c : EventCursor). FailsWith f c (at (pieces_of q) later)) (sym from)
-    (subst (λ (d : EventCursor). FailsWith f (cursor_in (chars (string_bytes p.more) ++ later) p.reader) d) (sym to)
-    (fails (chars (string_bytes p.more) ++ later))))
+    (subst (λ (d : EventCursor). FailsWith f (place_in more ts p.reader) d) (sym to)
+    (gives_there ts p.reader (Some (Err f)) (cursor q.reader) more h.idle (fails more))))
 
 pub lacks : (p q : PieceReader) (next : Event × Span) (f : Fault) (x : Progress) → IsSoundReader p
     → wants_more (pieces_of p) ≡ true → is_over (cursor p.reader).machine.state ≡ false
-    → cursor q.reader ≡ failed (cursor p.reader) → q.source ≡ source.Given → IsLack x f
+    → cursor q.reader ≡ failed (cursor p.reader) → q.source ≡ source.Given → passed_tokens q.passed ≡ [] → IsLack x f
     → HandsOutOrWaits (Some x) next f (pieces_of p) (pieces_of q)
-lacks p q next f x h wants goes_on is given (reported, lack) =
-    reports p q next f x wants reported given (λ more.
+lacks p q next f x h wants goes_on is given none (reported, lack) =
+    reports p q next f x h wants reported given none (λ more.
     let c : EventCursor = cursor_in more p.reader in
     subst (λ (g : Fault). FailsWith g c (cursor q.reader)) (sym lack)
     (lacks_before c.current c.kept c (cursor q.reader) h.current (known p h wants).0
@@ -142,10 +159,13 @@ lacks p q next f x h wants goes_on is given (reported, lack) =
 
 -- ## A fault, or the reader went back
 
-went_back : (copy : Option (EventReader OwnedText)) (n : ℕ) (a b : EventReader OwnedText) → IsReachedFrom copy n a
-    → GoesBack copy n b → (more : List ℕ) → cursor_in more b ≡ cursor_in more a
-went_back None n a b from to more = absurd to
-went_back (Some copy) n a b from to more = same_readers n copy a b from to more
+went_back : (copy : Option (EventReader OwnedText)) (n : ℕ) (old new : PieceReader) (a : EventReader OwnedText)
+    → IsReachedFrom copy n a → GoesBack copy n old new
+    → PassesOn (passed_tokens old.passed) a (passed_tokens new.passed) new.reader
+went_back None n old new a from to = absurd to
+went_back (Some copy) n old new a from (middle, to, passed) =
+    passes_further (passed_tokens old.passed) (passed_tokens old.passed) (passed_tokens new.passed) a middle new.reader
+    (stays_on (passed_tokens old.passed) a middle (same_readers n copy a middle from to)) passed
 
 module _ (p : PieceReader) (r : EventReader OwnedText) (f : Fault) (wants : wants_more (pieces_of p) ≡ true)
     (gives : (more : List ℕ) → GivesNext (Some (Err f)) (cursor_in more p.reader) (cursor_in more r))
@@ -169,16 +189,17 @@ module _ (p : PieceReader) (r : EventReader OwnedText) (f : Fault) (wants : want
 
     pub fails_or_waits : (o : Option Progress) (next : Event × Span) (g : Fault) (q : PieceReader)
         → FailsOrWaits o f g (record p { reader = r }) q → HandsOutOrWaits o next g (pieces_of p) (pieces_of q)
-    fails_or_waits (Some x) next g q (reported, given, fails) =
-        reports p q next g x wants reported given (fails_as g q fails)
+    fails_or_waits (Some x) next g q (reported, given, none, fails) =
+        reports p q next g x h wants reported given none (fails_as g q fails)
     fails_or_waits None next g q (back, none, more, text) =
-        let is = is_text p.source wants in (
+        let is = is_text p.source wants in
+        let passed = went_back p.copy p.events (record p { reader = r }) q p.reader (known p h wants).1 back in (
           ap wants_more_from text ∙ wants,
           λ later.
               ap (λ (s : Source). cursor_from s (pieces_of q) later) (text ∙ is)
-              ∙ ap (λ (m : String Global). cursor_in (chars (string_bytes m) ++ later) q.reader) more
-              ∙ went_back p.copy p.events p.reader q.reader (known p h wants).1 back
-              (chars (string_bytes p.more) ++ later)
+              ∙ ap (λ (m : String Global). place_in (chars (string_bytes m) ++ later) (passed_tokens q.passed) q.reader)
+              more
+              ∙ passed.place (chars (string_bytes p.more) ++ later)
               ∙ sym (ap (λ (s : Source). cursor_from s (pieces_of p) later) is),
         )
 
@@ -190,14 +211,15 @@ module _ (p : PieceReader) (r : EventReader OwnedText) (f : Fault) (wants : want
 
     pub sound_behind_fault : (o : Option Progress) (g : Fault) (q : PieceReader)
         → FailsOrWaits o f g (record p { reader = r }) q → IsSoundReader q
-    sound_behind_fault (Some x) g q (reported, given, fails) =
+    sound_behind_fault (Some x) g q (reported, given, nothing, fails) =
         let c : EventCursor = cursor p.reader in
-        sound_given q given
+        sound_given q given nothing
         (current_as g q fails ∙ fault_leaves c.current c.kept f c (cursor r) (gives []) ∙ h.current)
     sound_behind_fault None g q (back, none, more, text) =
-        let same = went_back p.copy p.events p.reader q.reader (known p h wants).1 back [] in
+        let passed = went_back p.copy p.events (record p { reader = r }) q p.reader (known p h wants).1 back in
+        let same = passed.place [] in
         sound_without_copy p q none (ap (λ (v : EventCursor). v.kept) same) text
-        (ap (λ (v : EventCursor). v.current) same) h
+        (ap (λ (v : EventCursor). v.current) same) (passed.idle h.idle) h
 
 -- ## Where nothing comes
 
@@ -217,6 +239,7 @@ sound_over p r wants gives h =
         reached_along p.copy p.events p.reader r (λ more. (gives more).1) old.1,
       );
       current = ap (λ (v : EventCursor). v.current) (gives []).1 ∙ h.current;
+      idle = idle_along (passed_tokens p.passed) p.reader r (λ more. (gives more).1) h.idle;
     }
 
 -- ## What is given of a text that came
@@ -226,3 +249,37 @@ pub leaves_none : (item : Option (Result (Event × Span) Fault)) (c d : EventCur
 leaves_none None c d none h = ap (λ (v : EventCursor). v.current) h.1 ∙ none
 leaves_none (Some (Ok e)) c d none h = (same_behind c.current c.kept (event_of e) c d none h).1 ∙ none
 leaves_none (Some (Err f)) c d none h = fault_leaves c.current c.kept f c d h ∙ none
+
+module _ (p q : PieceReader) (item : Option (Result (Event × Span) Fault)) (nothing : passed_tokens q.passed ≡ [])
+    (h : IsSoundReader p)
+  where
+    pub gives_of_given : p.source ≡ source.Given → q.source ≡ source.Given
+        → GivesNext item (cursor p.reader) (cursor q.reader) → (later : List ℕ)
+        → GivesNext item (at (pieces_of p) later) (at (pieces_of q) later)
+    gives_of_given given all gives later =
+        let from = ap (λ (s : Source). cursor_from s (pieces_of p) later) given in
+        let to = ap (λ (s : Source). cursor_from s (pieces_of q) later) all
+        ∙ ap (λ (ts : List Piece). before_tokens ts (cursor q.reader)) nothing in
+        subst (λ (c : EventCursor). GivesNext item c (at (pieces_of q) later)) (sym from)
+        (subst (GivesNext item (place_in [] (passed_tokens p.passed) p.reader)) (sym to)
+        (gives_there (passed_tokens p.passed) p.reader item (cursor q.reader) [] h.idle gives))
+
+    pub gives_of_text : wants_more (pieces_of p) ≡ true → q.source ≡ p.source → q.more ≡ p.more
+        → ((more : List ℕ) → GivesNext item (cursor_in more p.reader) (cursor_in more q.reader)) → (later : List ℕ)
+        → GivesNext item (at (pieces_of p) later) (at (pieces_of q) later)
+    gives_of_text wants text same gives later =
+        let is = is_text p.source wants in
+        let more = chars (string_bytes p.more) ++ later in
+        let from = ap (λ (s : Source). cursor_from s (pieces_of p) later) is in
+        let to = ap (λ (s : Source). cursor_from s (pieces_of q) later) (text ∙ is)
+        ∙ ap (λ (m : String Global). place_in (chars (string_bytes m) ++ later) (passed_tokens q.passed) q.reader) same
+        ∙ ap (λ (ts : List Piece). place_in more ts q.reader) nothing in
+        subst (λ (c : EventCursor). GivesNext item c (at (pieces_of q) later)) (sym from)
+        (subst (GivesNext item (place_in more (passed_tokens p.passed) p.reader)) (sym to)
+        (gives_there (passed_tokens p.passed) p.reader item (cursor_in more q.reader) more h.idle (gives more)))
+
+-- where the stream is over, the reader passed no token
+pub over_passed_none : (p : PieceReader) (r : EventReader OwnedText)
+    → ((more : List ℕ) → GivesNext None (cursor_in more p.reader) (cursor_in more r)) → IsSoundReader p
+    → passed_tokens p.passed ≡ []
+over_passed_none p r gives h = passed_none (passed_tokens p.passed) p.reader (cursor r) h.idle (gives [])

@@ -2,21 +2,25 @@
 use Rattle.std.specs.Prelude.{◌≡◌, ℕ, Bool, true, false, List, ◌++◌, Option, Some, None}
 use Rattle.saphyr_scalar.specs.declared.scalar.position.Span.{Span}
 use Rattle.saphyr_scanner.specs.Views.Scanning.{Scanning, tokens_in}
+use Rattle.saphyr_scanner.specs.Views.Tokens.{Piece}
 use Rattle.saphyr_machine.specs.declared.event.Event.{Event}
 use Rattle.saphyr_machine.specs.declared.fault.Fault.{Fault}
 use Rattle.saphyr_machine.specs.declared.progress.Progress.{Progress}
 use Rattle.saphyr_machine.specs.Answer.{OutOfMemory, fault_alone}
 use Rattle.saphyr_machine.specs.Calls.{GivesNext, item_at}
 use Rattle.saphyr_machine.specs.Cursor.{EventCursor, to_come}
+use Rattle.saphyr_machine.specs.Passed.{before_tokens}
 use Rattle.saphyr_pieces.specs.declared.pieces.Source.{Source}
 use Rattle.saphyr_pieces.specs.declared.pieces.Source.TheVariants as source
 
--- how much of the text came, what came of it and the reader of events doesn't have, and that reader, with its scanner
+-- How much of the text came, what came of it and the reader of events doesn't have, and that reader, with its scanner
+-- and the tokens that it passed since its last event.
 pub record Pieces : Type 0 where
   pub source : Source
   pub more : List ℕ
   pub scanner : Scanning
   pub reader : EventCursor
+  pub passed : List Piece
 
 -- the reader, if these characters come behind those that it has
 abbrev pub reader_in : List ℕ → Pieces → EventCursor
@@ -27,8 +31,8 @@ abbrev pub out_of_memory : EventCursor → EventCursor
 out_of_memory c = record c { kept = Some (record { fault = OutOfMemory; given = false }) }
 
 abbrev pub cursor_from : Source → Pieces → List ℕ → EventCursor
-cursor_from source.Text p later = reader_in (p.more ++ later) p
-cursor_from source.Given p later = p.reader
+cursor_from source.Text p later = before_tokens p.passed (reader_in (p.more ++ later) p)
+cursor_from source.Given p later = before_tokens p.passed p.reader
 cursor_from source.Lost p later = out_of_memory p.reader
 
 -- where the parser is in the events of the whole text, if these characters come after those that came

@@ -1,7 +1,8 @@
 -- What contracts see of a reader of events over a text that comes in pieces.
-use Rattle.std.specs.Prelude.{◌≡◌, ◌⊎◌, ℕ, zero, suc, true, List, Option, Some, None, string_bytes}
+use Rattle.std.specs.Prelude.{◌≡◌, ◌⊎◌, ℕ, zero, suc, true, List, [], ◌∷◌, Option, Some, None, string_bytes}
 use Rattle.std.specs.Str.{chars}
 use Rattle.saphyr_scalar.specs.declared.scalar.position.Span.{Span}
+use Rattle.saphyr_scanner.specs.Views.Tokens.{Piece}
 use Rattle.saphyr_machine.specs.declared.fault.Fault.{Fault}
 use Rattle.saphyr_machine.specs.declared.fault.Fault.TheVariants as fault
 use Rattle.saphyr_machine.specs.declared.progress.Progress.{Progress}
@@ -11,11 +12,13 @@ use Rattle.saphyr_machine.specs.Answer.{OutOfMemory}
 use Rattle.saphyr_machine.specs.Calls.{Advances}
 use Rattle.saphyr_machine.specs.Cursor.{EventCursor}
 use Rattle.saphyr_machine.specs.Events.{Happening}
+use Rattle.saphyr_machine.specs.Passed.{AreIdle, before_tokens}
 use Rattle.saphyr_machine.specs.Views.Readers.{cursor, cursor_in, scanning_of}
 use Rattle.saphyr_pieces.specs.declared.owned.OwnedText.{OwnedText}
 use Rattle.saphyr_pieces.specs.declared.pieces.PieceReader.{PieceReader}
 use Rattle.saphyr_pieces.specs.declared.pieces.Source.{Source}
 use Rattle.saphyr_pieces.specs.declared.pieces.Source.TheVariants as source
+use Rattle.saphyr_pieces.specs.Passed.{passed_tokens}
 use Rattle.saphyr_pieces.specs.Pieces.{Pieces}
 
 abbrev pub pieces_of : PieceReader → Pieces
@@ -24,6 +27,7 @@ pieces_of p = record {
   more = chars (string_bytes p.more);
   scanner = scanning_of p.reader;
   reader = cursor p.reader;
+  passed = passed_tokens p.passed;
 }
 
 -- so many events are handed out, one after the other
@@ -41,10 +45,27 @@ abbrev pub IsReachedFrom : Option (EventReader OwnedText) → ℕ → EventReade
 IsReachedFrom None n reader = Unit {0}
 IsReachedFrom (Some copy) n reader = ReadsOnBy n copy reader
 
--- the reader is where the copy leads by its events
-abbrev pub GoesBack : Option (EventReader OwnedText) → ℕ → EventReader OwnedText → Type 0
-GoesBack None n reader = ⊥
-GoesBack (Some copy) n reader = ReadsOnBy n copy reader
+-- where a reader would be that had not passed these tokens, if these characters come behind what came
+abbrev pub place_in : List ℕ → List Piece → EventReader OwnedText → EventCursor
+place_in more ts reader = before_tokens ts (cursor_in more reader)
+
+-- the tokens that were passed change no event, whatever comes behind what came
+abbrev pub AreIdleBefore : List Piece → EventReader OwnedText → Type 0
+AreIdleBefore [] reader = Unit {0}
+AreIdleBefore (t ∷ ts) reader = (more : List ℕ) → AreIdle (t ∷ ts) (cursor_in more reader)
+
+-- the reader passes tokens that change no event
+pub record PassesOn (before : List Piece) (old : EventReader OwnedText) (after : List Piece)
+    (new : EventReader OwnedText) : Type 0 where
+  pub place : (more : List ℕ) → place_in more after new ≡ place_in more before old
+  pub idle : AreIdleBefore before old → AreIdleBefore after new
+
+-- the reader is where the copy leads by its events, and behind tokens that it passed there
+abbrev pub GoesBack : Option (EventReader OwnedText) → ℕ → PieceReader → PieceReader → Type 0
+GoesBack None n old new = ⊥
+GoesBack (Some copy) n old new =
+    (middle : EventReader OwnedText) × ReadsOnBy n copy middle
+    × PassesOn (passed_tokens old.passed) middle (passed_tokens new.passed) new.reader
 
 -- the reader hands out one more event, or there is no copy any more
 abbrev pub CountsOne : Option (EventReader OwnedText) → ℕ → Option (EventReader OwnedText) → ℕ → Type 0
@@ -64,9 +85,9 @@ IsLack p f = (p ≡ progress.Fault) × (f ≡ fault.OutOfMemory)
 -- A fault is told and ends the text, or memory ran out. Or the reader went back, and waits.
 abbrev pub FailsOrWaits : Option Progress → Fault → Fault → PieceReader → PieceReader → Type 0
 FailsOrWaits None f g old new =
-    GoesBack old.copy old.events new.reader × (new.copy ≡ None) × (new.more ≡ old.more) × (new.source ≡ old.source)
+    GoesBack old.copy old.events old new × (new.copy ≡ None) × (new.more ≡ old.more) × (new.source ≡ old.source)
 FailsOrWaits (Some p) f g old new =
-    (p ≡ progress.Fault) × (new.source ≡ source.Given)
+    (p ≡ progress.Fault) × (new.source ≡ source.Given) × (passed_tokens new.passed ≡ [])
     × (((g ≡ f) × (new.reader ≡ old.reader))
     ⊎ ((g ≡ fault.OutOfMemory) × (cursor new.reader ≡ failed (cursor old.reader))))
 
@@ -79,3 +100,4 @@ IsSoundFrom source.Lost p = Unit {0}
 pub record IsSoundReader (p : PieceReader) : Type 0 where
   pub source : IsSoundFrom p.source p
   pub current : (cursor p.reader).current ≡ None
+  pub idle : AreIdleBefore (passed_tokens p.passed) p.reader

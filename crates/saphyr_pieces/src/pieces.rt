@@ -2,6 +2,7 @@
 //! characters that did not come, it goes back to a copy of itself, and waits for more.
 
 mod copy;
+mod passed;
 mod waiting;
 
 ghost use Rattle.std.specs.Prelude.{◌≡◌, List, ◌++◌, [], IfOk, OnErr, ℕ, None, Some, true, false, string_bytes};
@@ -12,10 +13,12 @@ ghost use Rattle.saphyr_machine.specs.Answer.{OutOfMemory};
 ghost use Rattle.saphyr_machine.specs.Cursor.{at_start, keeping_tags};
 ghost use Rattle.saphyr_machine.specs.Views.Readers.{cursor, cursor_in};
 ghost use Rattle.saphyr_pieces.specs.Pieces.{HandsOutOrWaits, IsLost, LosesText, NeedsNoMore, at, wants_more};
+ghost use Rattle.saphyr_pieces.specs.Passed.{passed_tokens};
 ghost use Rattle.saphyr_pieces.specs.Views as spec;
 ghost use Rattle.saphyr_pieces.specs.declared.pieces.Source.TheVariants.{Given};
 
 use crate::owned::OwnedText;
+use crate::pieces::passed::Passed;
 use saphyr_machine::{Event, EventReader, Fault, Progress};
 use saphyr_scalar::Span;
 use saphyr_scanner::{Growth, Scanner};
@@ -39,6 +42,8 @@ pub(crate) struct PieceReader {
     source: Source,
     // It owns the text that it reads, from its place on.
     reader: EventReader<'static, OwnedText>,
+    // The tokens that it passed since its last event.
+    passed: Option<Passed>,
     // What came behind that text.
     more: String,
     // Whether the next event depends on what is behind that text.
@@ -65,6 +70,18 @@ fn empty_reader(alloc: Global, limit: usize) -> EventReader<'static, OwnedText>
     EventReader::new(alloc, scanner.over(text, Growth::Growing))
 }
 
+// The tokens that a copy of a reader passed.
+#[tactic(auto, using(crate::proofs::IdleTokens::nothing_behind))]
+fn copy_passed(passed: &Option<Passed>) -> Option<Passed>
+    ensures { passed_tokens result ≡ passed_tokens passed.now }
+{
+    if passed.is_some() {
+        Some(Passed::and(passed, &None))
+    } else {
+        None
+    }
+}
+
 // A reader that stands where another was, until that is put back. No more of its text comes.
 fn no_reader(alloc: Global) -> EventReader<'static, OwnedText> {
     let text = OwnedText::new(alloc, String::new(alloc));
@@ -82,6 +99,7 @@ impl PieceReader {
         PieceReader {
             source: Source::Text,
             reader: empty_reader(alloc, limit),
+            passed: None,
             more: String::new(alloc),
             starved: false,
             copy: None,
@@ -98,7 +116,8 @@ impl PieceReader {
     fn take_in(&mut self, growth: Growth) -> Result<(), AllocError>
         requires sound { spec.IsSoundReader self.old }
         requires wants { wants_more (spec.pieces_of self.old) ≡ true }
-        ensures at { IfOk result (λ _. (later : List ℕ) → cursor_in later self.new.reader
+        ensures at { IfOk result (λ _. (later : List ℕ)
+            → spec.place_in later (passed_tokens self.new.passed) self.new.reader
             ≡ at (spec.pieces_of self.old) (text_in growth later [])) }
         ensures more { IfOk result (λ _. chars (string_bytes self.new.more) ≡ []) }
         ensures source { self.new.source ≡ self.old.source }
@@ -138,6 +157,7 @@ impl PieceReader {
         self.renew_copy();
         match self.reader.advance(next, fault) {
             Progress::Event => {
+                self.passed = None;
                 self.count(&next.0);
                 Some(Progress::Event)
             }
@@ -153,6 +173,7 @@ impl PieceReader {
     {
         if self.reader.growth() != Growth::Starved {
             self.source = Source::Given;
+            self.passed = None;
             return Some(Progress::Fault);
         }
         match self.go_back() {
@@ -214,7 +235,10 @@ impl PieceReader {
     {
         match self.source {
             Source::Text => self.next_of_text(next, fault),
-            Source::Given => Some(self.reader.advance(next, fault)),
+            Source::Given => {
+                self.passed = None;
+                Some(self.reader.advance(next, fault))
+            }
             Source::Lost => Some(self.fail(fault)),
         }
     }
@@ -224,8 +248,10 @@ impl PieceReader {
         ensures reader { cursor self.new.reader ≡ spec.failed (cursor self.old.reader) }
         ensures says { spec.IsLack result fault.new }
         ensures all { self.new.source ≡ Given }
+        ensures passed { passed_tokens self.new.passed ≡ [] }
     {
         self.source = Source::Given;
+        self.passed = None;
         self.reader.run_out_of_memory();
         drop(replace(fault, Fault::OutOfMemory));
         Progress::Fault
@@ -331,6 +357,7 @@ impl PieceReader {
         Ok(PieceReader {
             source: self.source,
             reader: self.reader.try_clone()?,
+            passed: copy_passed(&self.passed),
             more,
             starved: self.starved,
             copy: None,

@@ -2,11 +2,13 @@
 
 ghost use Rattle.std.specs.Prelude.{◌≡◌, List, ℕ, IfOk, OnErr, None};
 ghost use Rattle.saphyr_machine.specs.Views.Readers.{cursor_in};
+ghost use Rattle.saphyr_pieces.specs.Passed.{passed_tokens};
 ghost use Rattle.saphyr_pieces.specs.Views as spec;
 
 use crate::owned::OwnedText;
 use crate::pieces::PieceReader;
-use crate::pieces::waiting::{idle_lines, is_far, weight_behind};
+use crate::pieces::passed::Passed;
+use crate::pieces::waiting::{idle_lines, is_far, may_be_idle, weight_behind};
 use saphyr_machine::{Event, EventReader, Fault, Progress, no_event};
 use std::alloc::AllocError;
 use std::mem::replace;
@@ -26,6 +28,42 @@ fn read_again(reader: &mut EventReader<'static, OwnedText>, events: usize) -> Re
     Ok(())
 }
 
+// How many tokens wait that make no event.
+fn idle_tokens(reader: &EventReader<'static, OwnedText>) -> usize {
+    let text = reader.input().as_str();
+    if !reader.is_between() || !may_be_idle(text) {
+        return 0;
+    }
+    let Ok(mut scout) = reader.try_clone() else {
+        return 0;
+    };
+    for count in 0..text.len() {
+        if scout.pass_token().is_none() {
+            return count;
+        }
+    }
+    text.len()
+}
+
+// Passes so many tokens that make no event.
+#[tactic(auto, using(crate::proofs::IdleTokens::stays_here, crate::proofs::IdleTokens::passes_more))]
+fn pass_tokens(
+    reader: &mut EventReader<'static, OwnedText>,
+    passed: &mut Option<Passed>,
+    tokens: usize,
+) -> Result<(), AllocError>
+    ensures { IfOk result (λ _. spec.PassesOn (passed_tokens passed.old) reader.old
+        (passed_tokens passed.new) reader.new) }
+{
+    for _ in 0..tokens {
+        let Some(token) = reader.pass_token() else {
+            return Err(AllocError);
+        };
+        *passed = Some(Passed::and(passed, &Some(token)));
+    }
+    Ok(())
+}
+
 // Passes the lines that wait and have no token, so that their text is not kept.
 fn pass_lines(reader: &mut EventReader<'static, OwnedText>) -> Result<(), AllocError>
     ensures { IfOk result (λ _. (more : List ℕ)
@@ -39,6 +77,20 @@ fn pass_lines(reader: &mut EventReader<'static, OwnedText>) -> Result<(), AllocE
     }
 }
 
+// Passes the tokens that wait and make no event, and the lines without a token.
+#[tactic(auto, using(crate::proofs::IdleTokens::stays_behind))]
+fn pass_on(
+    reader: &mut EventReader<'static, OwnedText>,
+    passed: &mut Option<Passed>,
+) -> Result<(), AllocError>
+    ensures { IfOk result (λ _. spec.PassesOn (passed_tokens passed.old) reader.old
+        (passed_tokens passed.new) reader.new) }
+{
+    let tokens = idle_tokens(reader);
+    pass_tokens(reader, passed, tokens)?;
+    pass_lines(reader)
+}
+
 impl PieceReader {
     /// Makes a copy to go back to, if there is none, or if it would be long to read from there.
     pub(super) fn renew_copy(&mut self)
@@ -47,6 +99,7 @@ impl PieceReader {
         ensures reader { self.new.reader ≡ self.old.reader }
         ensures more { self.new.more ≡ self.old.more }
         ensures source { self.new.source ≡ self.old.source }
+        ensures passed { self.new.passed ≡ self.old.passed }
     {
         let left = self.reader.input().as_str().len();
         if self.copy.is_none() || is_far(self.copied, left) {
@@ -62,6 +115,7 @@ impl PieceReader {
         ensures reader { self.new.reader ≡ self.old.reader }
         ensures more { self.new.more ≡ self.old.more }
         ensures source { self.new.source ≡ self.old.source }
+        ensures passed { self.new.passed ≡ self.old.passed }
     {
         if let Ok(copy) = self.reader.try_clone() {
             drop(self.copy.replace(copy));
@@ -77,6 +131,7 @@ impl PieceReader {
         ensures reader { self.new.reader ≡ self.old.reader }
         ensures more { self.new.more ≡ self.old.more }
         ensures source { self.new.source ≡ self.old.source }
+        ensures passed { self.new.passed ≡ self.old.passed }
     {
         self.weight = weight_behind(event, self.weight);
         match self.events.checked_add(1) {
@@ -85,11 +140,11 @@ impl PieceReader {
         }
     }
 
-    /// Goes back to the copy, reads its events again, and passes the lines without a token behind them. If memory runs
-    /// out, the reader stays.
+    /// Goes back to the copy, reads its events again, and passes the tokens behind them that make no event, and the
+    /// lines without a token. If memory runs out, the reader stays.
     pub(super) fn go_back(&mut self) -> Result<(), AllocError>
         ensures back { IfOk result
-            (λ _. spec.GoesBack self.old.copy self.old.events self.new.reader) }
+            (λ _. spec.GoesBack self.old.copy self.old.events self.old self.new) }
         ensures copy { self.new.copy ≡ None }
         ensures more { self.new.more ≡ self.old.more }
         ensures source { self.new.source ≡ self.old.source }
@@ -99,7 +154,7 @@ impl PieceReader {
             return Err(AllocError);
         };
         read_again(&mut copy, self.events)?;
-        pass_lines(&mut copy)?;
+        pass_on(&mut copy, &mut self.passed)?;
         drop(replace(&mut self.reader, copy));
         self.starved = true;
         Ok(())

@@ -55,6 +55,22 @@ pub(super) fn idle_lines(text: &str) -> usize {
     lines
 }
 
+/// Whether a token may come first that makes no event between two documents. A look at the text is cheaper than a copy.
+pub(super) fn may_be_idle(text: &str) -> bool {
+    let mut in_comment = false;
+    for b in text.bytes() {
+        match b {
+            b'\n' => in_comment = false,
+            _ if in_comment => {}
+            b' ' | b'\t' | b'\r' => {}
+            b'#' => in_comment = true,
+            // `...`, a directive, or the first byte of a byte order mark.
+            _ => return matches!(b, b'.' | b'%' | 0xEF),
+        }
+    }
+    false
+}
+
 /// What there is to copy behind an event.
 pub(super) fn weight_behind(event: &Event<'_>, weight: usize) -> usize {
     match event {

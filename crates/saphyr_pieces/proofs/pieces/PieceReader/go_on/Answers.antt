@@ -19,4 +19,4 @@ returns-in-Err-clause-next c later =
     (lacks c.take_in.new.self new.self c.args.next.now new.fault c.fail.result c.take_in.ensures.sound
     (ap wants_more_from c.take_in.ensures.source ∙ c.requires.wants)
     (ap (λ (p : PieceReader). is_over (cursor p.reader).machine.state) same ∙ sym c.if-is_over.ensures)
-    c.fail.ensures.reader c.fail.ensures.all c.fail.ensures.says later)
+    c.fail.ensures.reader c.fail.ensures.all c.fail.ensures.passed c.fail.ensures.says later)

@@ -14,4 +14,5 @@ pub returns-clause-sound : goal.returns-clause-sound
 returns-clause-sound c = record {
   source = (ap (λ (v : EventCursor). v.kept) (c.empty_reader.ensures []), tt);
   current = ap (λ (v : EventCursor). v.current) (c.empty_reader.ensures []);
+  idle = tt;
 }

@@ -10,9 +10,9 @@ use Rattle.saphyr_machine.specs.Cursor.{EventCursor}
 use Rattle.saphyr_machine.specs.declared.reader.EventReader.{EventReader}
 use Rattle.saphyr_machine.specs.Views.Readers.{cursor_in, cursor_over, scanning_of}
 use Rattle.saphyr_pieces.specs.declared.owned.OwnedText.{OwnedText}
-use Rattle.saphyr_pieces.specs.Pieces.{at}
-use Rattle.saphyr_pieces.specs.Views.{pieces_of}
-use Rattle.saphyr_pieces.proofs.Places.{sound_without_copy, takes_in}
+use Rattle.saphyr_pieces.specs.Passed.{passed_tokens}
+use Rattle.saphyr_pieces.proofs.IdleTokens.{idle_over}
+use Rattle.saphyr_pieces.proofs.Places.{reads_on, sound_without_copy, takes_in}
 use Rattle.saphyr_pieces.proofs.pieces.PieceReader.take_in.Goals as goal
 use Rattle.saphyr_pieces.proofs.pieces.PieceReader.take_in.Goals.{After-over}
 
@@ -39,11 +39,11 @@ text_is c =
     ∙ ap (λ (bs : List ℕ). (scanning_of c.args.self.now.reader).state.core.cursor.rest ++ chars bs) c.deref.ensures
 
 -- where the reader is over it
-there : (c : After-over) (later : List ℕ)
-    → cursor_in later c.over.result ≡ at (pieces_of c.args.self.now) (text_in c.args.growth later [])
+there : (c : After-over) (later : List ℕ) → cursor_in later c.over.result
+    ≡ cursor_in (chars (string_bytes c.args.self.now.more) ++ text_in c.args.growth later []) c.args.self.now.reader
 there c later =
     let rest = chars (drop c.new.result.start (string_bytes c.new.result.text)) in
-    takes_in c.args.self.now c.args.growth c.over.result rest c.requires.wants
+    reads_on c.args.self.now c.args.growth c.over.result rest
     (sym c.growth.ensures ∙ c.in-Growing.is)
     (c.over.ensures.scanner
     ∙ ap (λ (r : EventReader OwnedText). record (scanning_of r)
@@ -52,7 +52,9 @@ there c later =
     ∙ ap (λ (r : EventReader OwnedText). cursor_over rest r) c.replace-reader.ensures.value) (text_is c) later
 
 pub returns-clause-at : goal.returns-clause-at
-returns-clause-at c = there (goal.at.returns-clause-at c).After-over
+returns-clause-at c =
+    takes_in c.args.self.now c.args.growth c.over.result c.requires.wants
+    (there (goal.at.returns-clause-at c).After-over)
 
 pub returns-clause-more : goal.returns-clause-more
 returns-clause-more c = ap chars c.clear.ensures.bytes ∙ chars-nil
@@ -62,4 +64,7 @@ returns-clause-sound c =
     let same = c.over.ensures.cursor []
     ∙ ap (λ (r : EventReader OwnedText). cursor_over [] r) c.replace-reader.ensures.value in
     sound_without_copy c.args.self.now _ c.take.ensures.after (ap (λ (v : EventCursor). v.kept) same) refl
-    (ap (λ (v : EventCursor). v.current) same) c.requires.sound
+    (ap (λ (v : EventCursor). v.current) same)
+    (idle_over (passed_tokens c.args.self.now.passed) c.args.self.now.reader c.over.result
+    (λ later. chars (string_bytes c.args.self.now.more) ++ text_in c.args.growth later [])
+    (there (goal.at.returns-clause-sound c).After-over) c.requires.sound.idle) c.requires.sound

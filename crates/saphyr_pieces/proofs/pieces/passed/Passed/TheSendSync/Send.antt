@@ -1,0 +1,6 @@
+-- What is nothing at run time may go to another thread.
+use denote.Param.Send.{IsSend, owning_send, sendable}
+use Rattle.saphyr_pieces.specs.contracts.pieces.passed.Passed.{the_row, the_type}
+
+pub send : IsSend the_row
+send = owning_send the_type (search sendable) (λ d. tt) (λ k x w. tt)
