@@ -30,16 +30,19 @@ fn read_again(reader: &mut EventReader<'static, OwnedText>, events: usize) -> Re
 
 // How many tokens wait that make no event.
 fn idle_tokens(reader: &EventReader<'static, OwnedText>) -> usize {
-    let most = reader.input().as_str().len();
+    let text = reader.input().as_str();
+    if !reader.is_between() || !may_be_idle(text) {
+        return 0;
+    }
     let Ok(mut scout) = reader.try_clone() else {
         return 0;
     };
-    for count in 0..most {
+    for count in 0..text.len() {
         if scout.pass_token().is_none() {
             return count;
         }
     }
-    most
+    text.len()
 }
 
 // Passes so many tokens that make no event.
@@ -75,7 +78,7 @@ fn pass_lines(reader: &mut EventReader<'static, OwnedText>) -> Result<(), AllocE
 }
 
 // Passes the tokens that wait and make no event, and the lines without a token.
-#[tactic(auto, using(crate::proofs::IdleTokens::stays_here, crate::proofs::IdleTokens::stays_behind))]
+#[tactic(auto, using(crate::proofs::IdleTokens::stays_behind))]
 fn pass_on(
     reader: &mut EventReader<'static, OwnedText>,
     passed: &mut Option<Passed>,
@@ -83,10 +86,8 @@ fn pass_on(
     ensures { IfOk result (λ _. spec.PassesOn (passed_tokens passed.old) reader.old
         (passed_tokens passed.new) reader.new) }
 {
-    if reader.is_between() && may_be_idle(reader.input().as_str()) {
-        let tokens = idle_tokens(reader);
-        pass_tokens(reader, passed, tokens)?;
-    }
+    let tokens = idle_tokens(reader);
+    pass_tokens(reader, passed, tokens)?;
     pass_lines(reader)
 }
 
