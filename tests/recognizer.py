@@ -38,6 +38,9 @@ ALPHABETS = (
     (4, [*"[]{},:?a", '"a"', "- ", " ", "\n"]),
     (4, ["&a", "!", "!<a>", "*a", ":", "- ", "? ", "a", "|", '"', " ", "\n"]),
     (3, ["---", "...", "%a\n", "#", "a", "|", "- ", MARK, " ", "\n"]),
+    (4, ["&a", "!t", "!<>", *'[]{}"', '"":', "\\\n", "k: ", "#", " ", "\n"]),
+    (4, ["%TAG !", "%TAG !a!", "%TAG !a_b!", "%YAML 1.2", "!a!b", "b", "#", "---", "...", " ", "\n"]),
+    (4, ["- |\n", "k: >1\n", "|\n", "- a\n", "- ", "&a", "a", "#", "...", " ", "\t", "\n"]),
 )
 AMBIGUOUS, OTHERWISE = "with two forests", "read otherwise"
 LEFT_OUT_AND_READ = "read, and of the grammar without the exceptions alone"

@@ -1,15 +1,17 @@
 #!/usr/bin/env python3
 """Whether `check_yaml --standard` calls a text YAML 1.2.2 exactly where the grammar derives it.
 
-    tests/standard.py [--derivations COUNT] [--most N] [--suite FOLDER] [PROGRAM]
+    tests/standard.py [--derivations COUNT] [--most N [--deviating]] [--processes N] [--suite FOLDER] [PROGRAM]
 
 PROGRAM is the one that `rt ci` or `rt run` leaves in crates/check_yaml/out. These texts are checked:
 
 - each text of the table of docs/YAML.md on what the parser reads though the standard doesn't derive it: it has to be
-  refused by the rule of its row;
+  refused by the rule of its row, and each two of them that are documents of one text by both rules;
+- texts whose entries break rules: each that is named beside the text has to be told, and no other;
 - COUNT (2,000) random derivations of derivations.py: each has to be standard;
-- all texts of up to N (3) tokens of the alphabets of recognizer.py: each that the parser reads has to be standard
-  where the recognizer derives it, and else not;
+- all texts of up to N (3) tokens of each alphabet of recognizer.py: each that the parser reads has to be standard
+  where the recognizer derives it, and else not. With --deviating it is asked only of those that aren't standard: that
+  the others are derived is proved. Texts of up to 5 take two processes some ten minutes so;
 - with --suite the folder that suite.py takes: its valid cases have to be standard, and the others not.
 
 The grammar is wider than the standard in four rules (docs/YAML.md), which the program asks for all the same: `narrow`
@@ -17,7 +19,10 @@ tells them.
 """
 import argparse
 import collections
+import functools
+import itertools
 import json
+import multiprocessing
 import os
 import pathlib
 import re
@@ -31,12 +36,26 @@ import suite
 
 TOP = os.path.dirname(os.path.dirname(os.path.abspath(__file__)))
 PROGRAM = f"{TOP}/crates/check_yaml/out/check_yaml"
-AT_ONCE = 500
+AT_ONCE = 1000
 NAMES = {"LF": "\n", "TAB": "\t", "BOM": "\ufeff", "a key of 1,025 characters": "k" * 1025}
+# Texts that break rules in several entries, with the lines and rules.
+SEVERAL = (
+    ("k: [a\n]\nl: b\nm: [?]\n", "2 flow-indentation, 4 question-in-flow"),
+    ("- &a[]\n- a\n-\ta: b\n- !<>\n", "1 bracket-behind-property, 3 tab-indentation, 4 empty-verbatim-tag"),
+    ("a:\n  - b: [|]\n    c: {\"\":#\n     }\n  - d\ne: &a[]\n",
+     "2 block-indicator-in-flow, 3 comment-without-blank, 6 bracket-behind-property"),
+    ("? [|]\n: [|]\n? a\n: [?]\nb: [>]\n", "1 block-indicator-in-flow, 4 question-in-flow, 5 block-indicator-in-flow"),
+    ("a: [|,\n  b: c,\n  d]\ne:\r\n- [?]\r- f\a\n",
+     "1 block-indicator-in-flow, 5 question-in-flow, 6 unprintable-character"),
+    ("- |\n  a\n\t\n- \"\n\"\n- b\n", "3 tab-behind-block-scalar, 5 quoted-indentation"),
+    ("a: [|]\n---\nb\n--- |\n c\n...\n%TAG !!a\n--- [?]\n",
+     "1 block-indicator-in-flow, 7 prefix-without-blank, 8 question-in-flow"),
+)
 PART = re.compile(r"`([^`]*)`|\b(LF|TAB|BOM)\b|U\+([0-9A-F]{4})|(a key of 1,025 characters)")
 UNPRINTABLE = re.compile("[^\t\n\r -~\x85\xa0-\ud7ff\ue000-\ufffd\U00010000-\U0010ffff]")
 # what the grammar derives and the standard doesn't: a handle with `_`, and a line of a scalar that is an escaped break
 WIDER = re.compile(r"![A-Za-z0-9-]*_[A-Za-z0-9_-]*!|[\r\n][ \t]*\\[\r\n]")
+OF_WIDER = "underscore-in-handle", "escaped-empty-line"
 
 
 def rows():
@@ -53,66 +72,108 @@ def rows():
 
 
 def checked(program, texts):
-    """For each text None, if it is standard, or the rule that it breaks."""
+    """For each text the rules that it breaks, with their lines."""
     found = []
     with tempfile.TemporaryDirectory() as folder:
         for start in range(0, len(texts), AT_ONCE):
             paths = []
             for number, text in enumerate(texts[start : start + AT_ONCE]):
                 paths.append(f"{folder}/{number}.yaml")
-                with open(paths[-1], "w", encoding="utf-8", newline="") as file:
-                    file.write(text)
+                with open(paths[-1], "wb", buffering=0) as file:
+                    file.write(text.encode())
             ran = subprocess.run([program, "--standard", "--format", "json", *paths], capture_output=True)
             if ran.returncode > 1:
                 sys.exit(f"status {ran.returncode}: {ran.stderr.decode()}")
-            errors = {}
+            errors = {path: [] for path in paths}
             for line in ran.stdout.decode().splitlines():
                 told = json.loads(line)
                 if told["severity"] == "error":
-                    errors[told["file"]] = told["rule"]
-            found += [errors.get(path) for path in paths]
+                    errors[told["file"]].append((told["rule"], told["line"]))
+            found += errors.values()
     return found
 
 
-def small_texts(most):
-    """Each text of up to so many tokens of the alphabets once, with whether it is of the grammar."""
-    texts = dict.fromkeys(text for _, tokens in recognizer.ALPHABETS for text in recognizer.texts(tokens, most))
-    return {text: bool(recognizer.Grammar(text).forests()) for text in texts}
+def first_rules(program, texts):
+    """For each text None, if it is standard, or the first rule that it breaks."""
+    return [found[0][0] if found else None for found in checked(program, texts)]
+
+
+def judged(program, unasked, texts):
+    """For each text the rule that it breaks or None, and whether it is of the grammar. Where the rule is one of the
+    unasked, it alone tells."""
+    found = first_rules(program, texts)
+    return [(text, rule, rule is None if rule in unasked else bool(recognizer.Grammar(text).forests()))
+            for text, rule in zip(texts, found)]
+
+
+def is_right(text, rule, derived):
+    if rule in OF_WIDER:
+        return bool(WIDER.search(text))
+    return rule == "syntax" or derived == (rule is None)
+
+
+def judge_small(given, wrong, counts):
+    """Tells of each alphabet's texts of up to so many tokens how many are derived, and which rules the others break."""
+    rules = collections.Counter()
+    judge = functools.partial(judged, given.program, ("syntax", None) if given.deviating else ("syntax",))
+    with multiprocessing.Pool(given.processes, sys.setrecursionlimit, [100000]) as pool:
+        for number, (_, tokens) in enumerate(recognizer.ALPHABETS, 1):
+            texts = recognizer.texts(tokens, given.most)
+            parts = iter(lambda: list(itertools.islice(texts, AT_ONCE)), [])
+            seen = collections.Counter()
+            for text, rule, derived in itertools.chain.from_iterable(pool.imap(judge, parts)):
+                seen.update(("texts",) if rule == "syntax" else ("texts", "read", "derived")[:2 + derived])
+                rules[rule] += 1
+                if not is_right(text, rule, derived):
+                    wrong.append(f"{text!r}: {rule}, {'derived' if derived else 'not derived'}")
+            print(f"alphabet {number}: " + ", ".join(f"{count:,} {name}" for name, count in seen.items()), flush=True)
+            counts["small texts"] += seen["texts"]
+            counts["of them derived"] += seen["derived"]
+    print(", ".join(f"{count:,} {rule}" for rule, count in rules.most_common() if rule not in (None, "syntax")))
 
 
 def main():
     words = argparse.ArgumentParser(description=__doc__, formatter_class=argparse.RawDescriptionHelpFormatter)
     words.add_argument("--derivations", type=int, default=2000)
     words.add_argument("--most", type=int, default=3)
+    words.add_argument("--deviating", action="store_true")
+    words.add_argument("--processes", type=int, default=2)
     words.add_argument("--suite")
     words.add_argument("program", nargs="?", default=PROGRAM)
     given = words.parse_args()
     wrong, counts = [], collections.Counter()
 
     table = list(rows())
-    for (rule, text), found in zip(table, checked(given.program, [text for _, text in table])):
+    alone = [[rule for rule, _ in found] for found in checked(given.program, [text for _, text in table])]
+    for (rule, text), found in zip(table, alone):
         counts["rows"] += 1
-        if found != rule:
+        if found[:1] != [rule]:
             wrong.append(f"{text!r}: {found} in place of {rule}")
+
+    pairs = [(f"{one}\n...\n{other}", rules + others)
+             for (_, one), rules in zip(table, alone) for (_, other), others in zip(table, alone)]
+    for (text, rules), found in zip(pairs, checked(given.program, [text for text, _ in pairs])):
+        counts["of two rows"] += 1
+        if [rule for rule, _ in found] != rules:
+            wrong.append(f"{text!r}: {found} in place of {rules}")
+    for (text, rules), found in zip(SEVERAL, checked(given.program, [text for text, _ in SEVERAL])):
+        counts["of several entries"] += 1
+        if ", ".join(f"{line} {rule}" for rule, line in found) != rules:
+            wrong.append(f"{text!r}: {found} in place of {rules}")
 
     made = [derivations.Derivation(seed).text for seed in range(1, given.derivations + 1)]
     made = [text for text in made if not UNPRINTABLE.search(text) and not WIDER.search(text)]
-    for text, found in zip(made, checked(given.program, made)):
+    for text, found in zip(made, first_rules(given.program, made)):
         counts["derivations"] += 1
         if found:
             wrong.append(f"{text!r}: {found}, and is derived")
 
-    small = small_texts(given.most)
-    for (text, derived), found in zip(small.items(), checked(given.program, list(small))):
-        counts["small texts"] += 1
-        counts["of them derived"] += derived
-        if derived and found not in (None, "syntax") or not derived and found is None:
-            wrong.append(f"{text!r}: {found}, {'derived' if derived else 'not derived'}")
+    judge_small(given, wrong, counts)
 
     if given.suite:
         cases = list(suite.cases(pathlib.Path(given.suite)))
         texts = [(case / "in.yaml").read_bytes().decode() for _, case in cases]
-        for (name, case), found in zip(cases, checked(given.program, texts)):
+        for (name, case), found in zip(cases, first_rules(given.program, texts)):
             counts["cases of the suite"] += 1
             if bool(found) != (case / "error").exists():
                 wrong.append(f"{name}: {found}")

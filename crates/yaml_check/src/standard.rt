@@ -11,10 +11,10 @@ use crate::run::{CheckFault, judge_bytes, read_source, write_unless_quiet};
 use crate::telling::{Error, report_error};
 use std::alloc::Global;
 use std::io::{Read, Write};
-use yaml_standard::{Deviation, validate};
+use yaml_standard::{Deviation, deviations, validate};
 
-/// Does what `check_source` does. Where that finds no error, a text that is not YAML 1.2.2 is one, at the first place
-/// that shows it.
+/// Does what `check_source` does. Where that finds no error, each place is one that shows that a text is not YAML 1.2.2,
+/// as far as it can be read on.
 pub fn check_standard<R: Read, W: Write>(
     alloc: Global,
     name: &str,
@@ -47,8 +47,8 @@ fn judge_standard<W: Write>(
         (Verdict::Wrong, _) | (_, Err(_)) => Ok(Verdict::Wrong),
         (_, Ok(text)) => match validate(alloc, text)? {
             yaml_standard::Verdict::Standard => Ok(verdict),
-            yaml_standard::Verdict::Deviates(deviation) => {
-                tell_deviation(alloc, name, text, deviation, options, out)?;
+            yaml_standard::Verdict::Deviates(first) => {
+                tell_deviations(alloc, name, text, first, options, out)?;
                 Ok(Verdict::Wrong)
             }
             yaml_standard::Verdict::Refused(fault) => {
@@ -59,7 +59,27 @@ fn judge_standard<W: Write>(
     }
 }
 
-/// Writes where a text departs from the standard.
+/// Writes where a text departs from the standard, the first place at least.
+fn tell_deviations<W: Write>(
+    alloc: Global,
+    name: &str,
+    text: &str,
+    first: Deviation,
+    options: Options,
+    out: &mut W,
+) -> Result<(), CheckFault> {
+    let found = deviations(alloc, text, options.max_findings)?;
+    if found.is_empty() {
+        tell_deviation(alloc, name, text, first, options, out)?;
+    }
+    for i in 0..found.len() {
+        tell_deviation(alloc, name, text, found[i], options, out)?;
+    }
+    drop(found);
+    Ok(())
+}
+
+/// Writes one of these places.
 fn tell_deviation<W: Write>(
     alloc: Global,
     name: &str,

@@ -1,7 +1,10 @@
 //! What the parser says of the next node. Its events decide where the grammar has a choice. Nothing is claimed of
 //! them: a wrong hint leads to a refusal, and never to a wrong derivation.
 
-use saphyr_parser::{Event, Fault, Parser, Progress, ScalarStyle, Span, StrInput, no_event};
+use crate::goal::Goal;
+use saphyr_parser::{
+    Event, Fault, Marker, Parser, Progress, ScalarStyle, Span, StrInput, no_event,
+};
 use std::alloc::Global;
 
 /// What the next event is of.
@@ -66,6 +69,10 @@ pub(crate) struct Guide<'a> {
     fault: Fault,
     is_refused: bool,
     hint: Hint,
+    /// How many collections are open before the next event.
+    pub depth: usize,
+    /// What is open where the text can't be read on.
+    pub open: Vec<Goal<'a>>,
 }
 
 impl<'a> Guide<'a> {
@@ -77,6 +84,8 @@ impl<'a> Guide<'a> {
             fault: Fault::OutOfMemory,
             is_refused: false,
             hint: Hint::NONE,
+            depth: 0,
+            open: Vec::new(alloc),
         };
         guide.pass();
         guide
@@ -87,8 +96,18 @@ impl<'a> Guide<'a> {
         self.hint
     }
 
+    /// Where the next event begins.
+    pub(crate) fn start(&self) -> Marker {
+        self.next.1.start
+    }
+
     /// Goes on to the event after it.
     pub(crate) fn pass(&mut self) {
+        self.depth = match self.hint.kind {
+            HintKind::Sequence | HintKind::Mapping => self.depth.saturating_add(1),
+            HintKind::End => self.depth.saturating_sub(1),
+            _ => self.depth,
+        };
         self.hint = match self.parser.next_event_into(&mut self.next, &mut self.fault) {
             Progress::Event => hint_of(&self.next.0, self.next.1),
             Progress::Fault => {
@@ -113,8 +132,10 @@ impl<'a> Guide<'a> {
             fault,
             is_refused,
             hint: _hint,
+            depth: _depth,
+            open,
         } = self;
-        drop((parser, next));
+        drop((parser, next, open));
         if is_refused {
             Some(fault)
         } else {

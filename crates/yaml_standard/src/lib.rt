@@ -29,6 +29,7 @@ mod percent;
 mod place;
 mod plain;
 mod quoted;
+mod resume;
 mod rule;
 mod spaces;
 mod stream;
@@ -39,4 +40,4 @@ mod walk;
 mod words;
 
 pub use rule::Rule;
-pub use verdict::{Deviation, Verdict, validate};
+pub use verdict::{Deviation, Verdict, deviations, validate};

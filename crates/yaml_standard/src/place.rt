@@ -1,6 +1,6 @@
 //! Places of a text, as the parser's callers see them.
 
-use crate::front::{split, strip};
+use crate::front::{front_before, split, strip};
 use saphyr_scalar::Marker;
 
 /// The place behind a character, and what follows it. A CR before an LF is one break with it.
@@ -21,15 +21,41 @@ fn pass<'a>(mark: Marker, c: char, behind: &'a str) -> (Marker, &'a str) {
     }
 }
 
-/// The place in a text before which so many characters are, each break counted as one.
-pub(crate) fn place_behind(text: &str, count: usize) -> Marker {
-    let mut mark = Marker::new(0, 1, 0);
-    let mut rest = text;
-    for _ in 0..count {
-        let Some((c, behind)) = split(rest) else {
-            return mark;
-        };
-        (mark, rest) = pass(mark, c, behind);
+/// A place of a text, and what follows it.
+#[derive(Clone, Copy)]
+pub(crate) struct Here<'a> {
+    pub mark: Marker,
+    pub rest: &'a str,
+    /// How many characters come before it, each break counted as one.
+    pub passed: usize,
+}
+
+impl<'a> Here<'a> {
+    /// The start of a text.
+    pub(crate) fn new(text: &'a str) -> Here<'a> {
+        Here {
+            mark: Marker::new(0, 1, 0),
+            rest: text,
+            passed: 0,
+        }
     }
-    mark
+
+    /// The place behind so many characters, or this one if it is no earlier.
+    pub(crate) fn behind(self, count: usize) -> Here<'a> {
+        let mut here = self;
+        for _ in self.passed..count {
+            let Some((c, behind)) = split(here.rest) else {
+                break;
+            };
+            (here.mark, here.rest) = pass(here.mark, c, behind);
+            here.passed = here.passed.saturating_add(1);
+        }
+        here
+    }
+
+    /// The place before `rest`, which is what follows some place of the text, or this one if it is no earlier.
+    pub(crate) fn before(self, rest: &str) -> Here<'a> {
+        let front = front_before(self.rest, rest).unwrap_or("");
+        self.behind(self.passed.saturating_add(front.chars().count()))
+    }
 }

@@ -48,6 +48,7 @@ fn behind_content<'a>(
     ensures { IfOk result (λ read. IfOk read (λ rest. TakesBefore (spec.IsDocumentNode is_bare)
         (chars text.now) (chars rest.now))) }
 {
+    pass_document_start(guide);
     let place = place_of_content(is_bare);
     let read = close(alloc, Goal::BlockNode(place), text, guide)?;
     match read {
@@ -77,8 +78,10 @@ fn behind_document<'a>(
     ensures { IfOk result (λ read. IfOk read (λ rest. TakesBefore (spec.IsSomeDocument free)
         (chars text.now) (chars rest.now))) }
 {
-    pass_document_start(guide);
     let found = behind_marker(alloc, text, free)?;
+    if found.is_none() && text.starts_with("%") {
+        return Ok(Err(Stuck { goal: None, text }));
+    }
     match found {
         Some(content) => behind_content(alloc, content, false, guide),
         None if free => behind_content(alloc, text, true, guide),

@@ -9,7 +9,8 @@ ghost use Rattle.yaml_standard.specs.declared.verdict.Verdict.TheVariants.{Stand
 use crate::breaks::{has_return, with_line_feeds};
 use crate::broken::broken_rule;
 use crate::hint::Guide;
-use crate::place::place_behind;
+use crate::place::Here;
+use crate::resume::broken_rules;
 use crate::rule::Rule;
 use crate::stream::read_stream;
 use crate::strict::first_unprintable;
@@ -38,9 +39,9 @@ pub struct Deviation {
 fn deviates(text: &str, lines: &str, rule: Rule, rest: &str) -> Verdict
     ensures { result ≢ Standard }
 {
-    let count = lines.chars().count().saturating_sub(rest.chars().count());
+    let count = Here::new(lines).before(rest).passed;
     Verdict::Deviates(Deviation {
-        place: place_behind(text, count),
+        place: Here::new(text).behind(count).mark,
         rule,
     })
 }
@@ -96,4 +97,40 @@ pub fn validate(alloc: Global, text: &str) -> Result<Verdict, AllocError>
     let verdict = judge(alloc, text, lines.as_str());
     drop(lines);
     verdict
+}
+
+/// The deviations of a text with all breaks of `lines` made line feeds.
+fn deviations_by(
+    alloc: Global,
+    text: &str,
+    lines: &str,
+    most: usize,
+) -> Result<Vec<Deviation>, AllocError> {
+    let broken = broken_rules(alloc, lines, most)?;
+    let mut here = Here::new(text);
+    let mut found = Vec::new(alloc);
+    for i in 0..broken.len() {
+        let (rule, count) = broken[i];
+        here = here.behind(count);
+        found.push(Deviation {
+            place: here.mark,
+            rule,
+        })?;
+    }
+    drop(broken);
+    Ok(found)
+}
+
+/// Says where a text that deviates isn't YAML 1.2.2: the first `most` places, in their order. Behind each the text is
+/// read on from the next entry of a block collection that is open there, or from the next document.
+///
+/// Nothing is promised of this: [`validate`] says whether a text deviates.
+pub fn deviations(alloc: Global, text: &str, most: usize) -> Result<Vec<Deviation>, AllocError> {
+    if !has_return(text) {
+        return deviations_by(alloc, text, text, most);
+    }
+    let lines = with_line_feeds(alloc, text)?;
+    let found = deviations_by(alloc, text, lines.as_str(), most);
+    drop(lines);
+    found
 }

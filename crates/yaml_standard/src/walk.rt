@@ -49,7 +49,7 @@ fn open<'a>(goals: &mut Vec<Goal<'a>>, added: Goals<'a>) -> Result<(), AllocErro
     Ok(())
 }
 
-/// What follows the goal's piece, or the goal that can't be closed.
+/// What follows the goal's piece, or the goal that can't be closed. The guide keeps that one and those behind it.
 pub(crate) fn close<'a>(
     alloc: Global,
     goal: Goal<'a>,
@@ -66,6 +66,8 @@ pub(crate) fn close<'a>(
             return Ok(Ok(rest));
         };
         let Some(step) = step(next, rest, guide) else {
+            goals.push(next)?;
+            guide.open = goals;
             return Ok(Err(Stuck {
                 goal: Some(next),
                 text: rest,
