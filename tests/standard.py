@@ -10,6 +10,8 @@ PROGRAM is the one that `rt ci` or `rt run` leaves in crates/check_yaml/out. The
 - COUNT (2,000) random derivations of derivations.py: each has to be standard;
 - all texts of up to N (3) tokens of the alphabets of recognizer.py: each that the parser reads has to be standard
   where the recognizer derives it, and else not;
+- 20,000 keys behind a `?` in one another, and as many comments behind the last: standard, and told in ten seconds. For
+  each key what comes next is asked; if the comments were passed each time, they'd be 16,000,000,000 characters;
 - with --suite the folder that suite.py takes: its valid cases have to be standard, and the others not.
 
 The grammar is wider than the standard in four rules (docs/YAML.md), which the program asks for all the same: `narrow`
@@ -32,6 +34,7 @@ import suite
 TOP = os.path.dirname(os.path.dirname(os.path.abspath(__file__)))
 PROGRAM = f"{TOP}/crates/check_yaml/out/check_yaml"
 AT_ONCE = 500
+DEEP, SECONDS = "? " * 20000 + "a\n" + ("# " + "x" * 38 + "\n") * 20000, 10
 NAMES = {"LF": "\n", "TAB": "\t", "BOM": "\ufeff", "a key of 1,025 characters": "k" * 1025}
 PART = re.compile(r"`([^`]*)`|\b(LF|TAB|BOM)\b|U\+([0-9A-F]{4})|(a key of 1,025 characters)")
 UNPRINTABLE = re.compile("[^\t\n\r -~\x85\xa0-\ud7ff\ue000-\ufffd\U00010000-\U0010ffff]")
@@ -74,6 +77,14 @@ def checked(program, texts):
     return found
 
 
+def is_quick(program):
+    """Whether the deep text is standard, and told so in time."""
+    try:
+        return not subprocess.run([program, "--standard", "-"], input=DEEP.encode(), timeout=SECONDS).returncode
+    except subprocess.TimeoutExpired:
+        return False
+
+
 def small_texts(most):
     """Each text of up to so many tokens of the alphabets once, with whether it is of the grammar."""
     texts = dict.fromkeys(text for _, tokens in recognizer.ALPHABETS for text in recognizer.texts(tokens, most))
@@ -94,6 +105,9 @@ def main():
         counts["rows"] += 1
         if found != rule:
             wrong.append(f"{text!r}: {found} in place of {rule}")
+
+    if not is_quick(given.program):
+        wrong.append(f"20,000 keys: not told in {SECONDS} seconds that they are standard")
 
     made = [derivations.Derivation(seed).text for seed in range(1, given.derivations + 1)]
     made = [text for text in made if not UNPRINTABLE.search(text) and not WIDER.search(text)]

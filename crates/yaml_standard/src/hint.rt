@@ -1,6 +1,7 @@
 //! What the parser says of the next node. Its events decide where the grammar has a choice. Nothing is claimed of
 //! them: a wrong hint leads to a refusal, and never to a wrong derivation.
 
+use crate::goal::Kind;
 use saphyr_parser::{Event, Fault, Parser, Progress, ScalarStyle, Span, StrInput, no_event};
 use std::alloc::Global;
 
@@ -10,7 +11,7 @@ pub(crate) enum HintKind {
     /// The stream or a document, which begins or ends.
     Document,
     /// The end of a collection.
-    End,
+    End(Kind),
     Alias,
     /// A plain scalar without a text.
     Empty,
@@ -18,8 +19,7 @@ pub(crate) enum HintKind {
     Quoted,
     /// A literal or folded scalar.
     Block,
-    Sequence,
-    Mapping,
+    Collection(Kind),
     /// No event: the stream is over, the parser refuses the text, or memory ran out.
     Fault,
 }
@@ -49,12 +49,20 @@ impl Hint {
 
     /// Whether it is the end of a collection.
     pub(crate) fn is_end(&self) -> bool {
-        matches!(self.kind, HintKind::End)
+        matches!(self.kind, HintKind::End(_))
     }
 
     /// Whether it is the start of a collection.
     pub(crate) fn is_collection(&self) -> bool {
-        matches!(self.kind, HintKind::Sequence | HintKind::Mapping)
+        matches!(self.kind, HintKind::Collection(_))
+    }
+
+    /// The kind of the collection that it is the start of.
+    pub(crate) fn collection(&self) -> Option<Kind> {
+        match self.kind {
+            HintKind::Collection(kind) => Some(kind),
+            _ => None,
+        }
     }
 }
 
@@ -129,9 +137,10 @@ fn hint_of(event: &Event<'_>, span: Span) -> Hint {
     let kind = match event {
         Event::Alias(_) => HintKind::Alias,
         Event::Scalar(text, style, _, _) => kind_of(text.is_empty(), *style),
-        Event::SequenceStart(..) => HintKind::Sequence,
-        Event::MappingStart(..) => HintKind::Mapping,
-        Event::SequenceEnd | Event::MappingEnd => HintKind::End,
+        Event::SequenceStart(..) => HintKind::Collection(Kind::Sequence),
+        Event::MappingStart(..) => HintKind::Collection(Kind::Mapping),
+        Event::SequenceEnd => HintKind::End(Kind::Sequence),
+        Event::MappingEnd => HintKind::End(Kind::Mapping),
         _ => HintKind::Document,
     };
     Hint {
