@@ -8,6 +8,7 @@ PROGRAM is the one that `rt ci` or `rt run` leaves in crates/check_yaml/out. The
 - each text of the table of docs/YAML.md on what the parser reads though the standard doesn't derive it: it has to be
   refused by the rule of its row, and each two of them that are documents of one text by both rules;
 - texts whose entries break rules: each that is named beside the text has to be told, and no other;
+- 20,000 keys behind a `?` in one another, and as many comments behind the last: standard, in time that is linear;
 - COUNT (2,000) random derivations of derivations.py: each has to be standard;
 - all texts of up to N (3) tokens of each alphabet of recognizer.py: each that the parser reads has to be standard
   where the recognizer derives it, and else not. With --deviating it is asked only of those that aren't standard: that
@@ -51,6 +52,8 @@ SEVERAL = (
     ("a: [|]\n---\nb\n--- |\n c\n...\n%TAG !!a\n--- [?]\n",
      "1 block-indicator-in-flow, 7 prefix-without-blank, 8 question-in-flow"),
 )
+# Keys behind a `?` in one another, and as many comments behind the last: each key asks for what comes next.
+DEEP = "? " * 20000 + "a\n" + ("# " + "x" * 38 + "\n") * 20000
 PART = re.compile(r"`([^`]*)`|\b(LF|TAB|BOM)\b|U\+([0-9A-F]{4})|(a key of 1,025 characters)")
 UNPRINTABLE = re.compile("[^\t\n\r -~\x85\xa0-\ud7ff\ue000-\ufffd\U00010000-\U0010ffff]")
 # what the grammar derives and the standard doesn't: a handle with `_`, and a line of a scalar that is an escaped break
@@ -160,6 +163,9 @@ def main():
         counts["of several entries"] += 1
         if ", ".join(f"{line} {rule}" for rule, line in found) != rules:
             wrong.append(f"{text!r}: {found} in place of {rules}")
+
+    if any(checked(given.program, [DEEP])):
+        wrong.append("20,000 keys behind a `?`: not standard")
 
     made = [derivations.Derivation(seed).text for seed in range(1, given.derivations + 1)]
     made = [text for text in made if not UNPRINTABLE.search(text) and not WIDER.search(text)]

@@ -5,27 +5,14 @@ use Rattle.saphyr_scanner.specs.Grammar.Forest.{Node, Alias, Scalar, Seq, Map, N
 use Rattle.yaml_laws.specs.Grammar.FlowNodes.{IsFlowNode}
 use Rattle.yaml_laws.specs.Grammar.BlockNodes.{Position, BehindDash, indent_at, sequence_indent_at, is_start, AreOtherEntries, AreOtherPairs, IsBlockNode, IsBlockPair, IsEntryIndentation, IsFlowInBlock, IsGapAt}
 use Rattle.yaml_standard.specs.BlockScalars.{IsSomeScalarInBlock}
-use Rattle.yaml_standard.specs.Goals.{IsCollection, IsBlockNodeAt}
+use Rattle.yaml_standard.specs.declared.goal.Kind.{Kind}
+use Rattle.yaml_standard.specs.declared.goal.Kind.TheVariants as kind
+use Rattle.yaml_standard.specs.Goals.{AreBlockEntries, IsBlockEntry, IsBlockNodeAt, IsCollection, IsSomeCollection, IsSomeNode, least_at}
 use Rattle.yaml_standard.specs.Leads.{IsFlowGap, IsSomeLead}
 use Rattle.yaml_standard.specs.Leaves.{IsLeaf}
 use Rattle.yaml_standard.specs.Takes.{TakesOff, TakesBefore}
-
--- ## What goals stand for
-
-abbrev pub IsSomeNode : Position → List ℕ → List ℕ → Type 0
-IsSomeNode place t behind = (node : Node) × IsBlockNodeAt node place t behind
-
-abbrev pub IsSomeCollection : ℕ → List ℕ → Type 0
-IsSomeCollection indent t = (node : Node) × IsCollection node × IsFlowNode 255 node true indent t
-
-abbrev pub AreSomeEntries : ℕ → List ℕ → List ℕ → Type 0
-AreSomeEntries m t behind = (nodes : Nodes) × AreOtherEntries 255 nodes m t behind
-
-abbrev pub IsSomePair : ℕ → List ℕ → List ℕ → Type 0
-IsSomePair m t behind = (key value : Node) × IsBlockPair 255 key value (IsBlockNodeAt key) (IsBlockNodeAt value) m t behind
-
-abbrev pub AreSomePairs : ℕ → List ℕ → List ℕ → Type 0
-AreSomePairs m t behind = (pairs : Pairs) × AreOtherPairs 255 pairs m t behind
+use Rattle.yaml_standard.proofs.Collections.{flow}
+use Rattle.yaml_standard.proofs.Pieces.{known_then, nothing_taken}
 
 -- ## Pieces
 
@@ -77,7 +64,7 @@ outside_flow (Seq p nodes) indent t is h = h
 outside_flow (Map p pairs) indent t is h = h
 
 pub flow_collection : (place : Position) (indent : ℕ) (a b c d : List ℕ) → indent ≡ indent_at place
-    → TakesOff (IsFlowGap place a) a b → TakesOff (IsSomeCollection indent) b c → TakesBefore IsEol c d
+    → TakesOff (IsFlowGap place a) a b → TakesOff (IsSomeCollection (flow 255 indent)) b c → TakesBefore IsEol c d
     → TakesBefore (IsSomeNode place) a d
 flow_collection place indent a b c d e gap node end =
     flow_node place node.is.0 a b c d gap.piece node.piece end.piece gap.is
@@ -97,94 +84,55 @@ block_scalar place indent a b c e gap scalar =
       cut = cut_twice gap.piece scalar.piece c gap.cut scalar.cut;
     }
 
--- ## Sequences
+-- ## Collections
 
-pub no_entries : (m : ℕ) (a : List ℕ) → TakesBefore (AreSomeEntries m) a a
-no_entries m a = record { piece = []; is = (NoNode, refl); cut = refl }
+pub no_entries : (kind : Kind) (m : ℕ) (a : List ℕ) → TakesBefore (AreBlockEntries kind m) a a
+no_entries kind.Sequence m a = nothing_taken _ a (NoNode, refl)
+no_entries kind.Mapping m a = nothing_taken _ a (NoPair, refl)
 
-pub block_sequence : (place : Position) (least m : ℕ) (a b c d e : List ℕ) → least ≡ sequence_indent_at place
-    → TakesOff (IsSomeLead place least m) a b → b ≡ 45 ∷ c → TakesBefore (IsSomeNode (BehindDash m)) c d
-    → TakesBefore (AreSomeEntries m) d e → TakesBefore (IsSomeNode place) a e
-block_sequence place least m a b c d e same lead dash node others =
-    let is = subst (λ (n : ℕ). IsSomeLead place n m lead.piece) same lead.is in
-    let entries = 45 ∷ (node.piece ++ others.piece) in
+collection_of : (kind : Kind) (place : Position) (m : ℕ) (p q r behind : List ℕ) → IsSomeLead place (least_at kind place) m p
+    → IsBlockEntry kind m q (r ++ behind) → AreBlockEntries kind m r behind → IsSomeNode place (p ++ (q ++ r)) behind
+collection_of kind.Sequence place m p q r behind (properties, lead) (text, (node, h), e) (nodes, k) = (
+  Seq properties (MoreNodes node nodes),
+  inr (m, p, q ++ r, lead, (text, r, h, k, ap (λ x. x ++ r) e), refl),
+)
+collection_of kind.Mapping place m p q r behind (properties, lead) (key, value, h) (pairs, k) =
+    (Map properties (MorePairs key value pairs), inr (m, p, q ++ r, lead, (q, r, h, k, refl), refl))
+
+others_of : (kind : Kind) (m : ℕ) (p q r behind : List ℕ) → IsEntryIndentation m p → IsBlockEntry kind m q (r ++ behind)
+    → AreBlockEntries kind m r behind → AreBlockEntries kind m (p ++ (q ++ r)) behind
+others_of kind.Sequence m p q r behind front (text, (node, h), e) (nodes, k) =
+    (MoreNodes node nodes, (p, text, r, front, h, k, ap (λ x. p ++ (x ++ r)) e))
+others_of kind.Mapping m p q r behind front (key, value, h) (pairs, k) =
+    (MorePairs key value pairs, (p, q, r, front, h, k, refl))
+
+pub block_collection : (kind : Kind) (place : Position) (least m : ℕ) (a b c d : List ℕ) → least ≡ least_at kind place
+    → TakesOff (IsSomeLead place least m) a b → TakesBefore (IsBlockEntry kind m) b c
+    → TakesBefore (AreBlockEntries kind m) c d → TakesBefore (IsSomeNode place) a d
+block_collection kind place least m a b c d same lead entry others =
     record {
-      piece = lead.piece ++ entries;
-      is = (
-        Seq is.0 (MoreNodes node.is.0 others.is.0),
-        inr (
-          m,
-          lead.piece,
-          entries,
-          is.1,
-          (
-            node.piece,
-            others.piece,
-            subst (λ (x : List ℕ). IsBlockNode 255 node.is.0 (BehindDash m) node.piece x) others.cut node.is.1,
-            others.is.1,
-            refl,
-          ),
-          refl,
-        ),
-      );
-      cut = cut_twice lead.piece entries e lead.cut
-          (dash ∙ ap (λ x. 45 ∷ x) (cut_twice node.piece others.piece e node.cut others.cut));
+      piece = lead.piece ++ (entry.piece ++ others.piece);
+      is = collection_of kind place m lead.piece entry.piece others.piece d
+          (subst (λ (n : ℕ). IsSomeLead place n m lead.piece) same lead.is)
+          (subst (λ (x : List ℕ). IsBlockEntry kind m entry.piece x) others.cut entry.is) others.is;
+      cut = cut_twice lead.piece (entry.piece ++ others.piece) d lead.cut
+          (cut_twice entry.piece others.piece d entry.cut others.cut);
     }
 
-pub other_entries : (m : ℕ) (a b c d e : List ℕ) → TakesOff (IsEntryIndentation m) a b → b ≡ 45 ∷ c
-    → TakesBefore (IsSomeNode (BehindDash m)) c d → TakesBefore (AreSomeEntries m) d e
-    → TakesBefore (AreSomeEntries m) a e
-other_entries m a b c d e front dash node others =
-    let entries = 45 ∷ (node.piece ++ others.piece) in
+pub more_entries : (kind : Kind) (m : ℕ) (a b c d : List ℕ) → TakesOff (IsEntryIndentation m) a b
+    → TakesBefore (IsBlockEntry kind m) b c → TakesBefore (AreBlockEntries kind m) c d
+    → TakesBefore (AreBlockEntries kind m) a d
+more_entries kind m a b c d front entry others =
     record {
-      piece = front.piece ++ entries;
-      is = (
-        MoreNodes node.is.0 others.is.0,
-        (
-          front.piece,
-          node.piece,
-          others.piece,
-          front.is,
-          subst (λ (x : List ℕ). IsBlockNode 255 node.is.0 (BehindDash m) node.piece x) others.cut node.is.1,
-          others.is.1,
-          refl,
-        ),
-      );
-      cut = cut_twice front.piece entries e front.cut
-          (dash ∙ ap (λ x. 45 ∷ x) (cut_twice node.piece others.piece e node.cut others.cut));
+      piece = front.piece ++ (entry.piece ++ others.piece);
+      is = others_of kind m front.piece entry.piece others.piece d front.is
+          (subst (λ (x : List ℕ). IsBlockEntry kind m entry.piece x) others.cut entry.is) others.is;
+      cut = cut_twice front.piece (entry.piece ++ others.piece) d front.cut
+          (cut_twice entry.piece others.piece d entry.cut others.cut);
     }
 
--- ## Mappings
-
-pub no_pairs : (m : ℕ) (a : List ℕ) → TakesBefore (AreSomePairs m) a a
-no_pairs m a = record { piece = []; is = (NoPair, refl); cut = refl }
-
-pub block_mapping : (place : Position) (least m : ℕ) (a b c d : List ℕ) → least ≡ indent_at place
-    → TakesOff (IsSomeLead place least m) a b → TakesBefore (IsSomePair m) b c → TakesBefore (AreSomePairs m) c d
-    → TakesBefore (IsSomeNode place) a d
-block_mapping place least m a b c d same lead pair others =
-    let is = subst (λ (n : ℕ). IsSomeLead place n m lead.piece) same lead.is in
-    let first = subst (λ (x : List ℕ). IsSomePair m pair.piece x) others.cut pair.is in
-    let pairs = pair.piece ++ others.piece in
-    record {
-      piece = lead.piece ++ pairs;
-      is = (
-        Map is.0 (MorePairs first.0 first.1 others.is.0),
-        inr (m, lead.piece, pairs, is.1, (pair.piece, others.piece, first.2, others.is.1, refl), refl),
-      );
-      cut = cut_twice lead.piece pairs d lead.cut (cut_twice pair.piece others.piece d pair.cut others.cut);
-    }
-
-pub other_pairs : (m : ℕ) (a b c d : List ℕ) → TakesOff (IsEntryIndentation m) a b → TakesBefore (IsSomePair m) b c
-    → TakesBefore (AreSomePairs m) c d → TakesBefore (AreSomePairs m) a d
-other_pairs m a b c d front pair others =
-    let first = subst (λ (x : List ℕ). IsSomePair m pair.piece x) others.cut pair.is in
-    let pairs = pair.piece ++ others.piece in
-    record {
-      piece = front.piece ++ pairs;
-      is = (
-        MorePairs first.0 first.1 others.is.0,
-        (front.piece, pair.piece, others.piece, front.is, first.2, others.is.1, refl),
-      );
-      cut = cut_twice front.piece pairs d front.cut (cut_twice pair.piece others.piece d pair.cut others.cut);
-    }
+pub dash_and_node : (which : Kind) (m : ℕ) (a b c : List ℕ) → which ≡ kind.Sequence → a ≡ 45 ∷ b
+    → TakesBefore (IsSomeNode (BehindDash m)) b c → TakesBefore (IsBlockEntry which m) a c
+dash_and_node which m a b c is e t =
+    subst (λ (k : Kind). TakesBefore (IsBlockEntry k m) a c) (sym is)
+    (known_then {Q = λ x. IsSomeNode (BehindDash m) x c} (45 ∷ []) (λ q k. (q, k, refl)) e t)

@@ -4,6 +4,7 @@ pub mod BlockLines
 pub mod BlockNodes
 pub mod BlockPairs
 pub mod BlockScalars
+pub mod Collections
 pub mod Declarations
 pub mod Documents
 pub mod Escapes
@@ -23,7 +24,6 @@ pub mod PlainValues
 pub mod PlainWords
 pub mod Quotes
 pub mod Separation
-pub mod Sequences
 pub mod TagDirectives
 pub mod Verdicts
 pub mod Walks

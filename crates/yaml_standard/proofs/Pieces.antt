@@ -127,3 +127,18 @@ something_before s r n us ur shorter e none =
     let same : s ≡ r = sym (encodes-chars s us) ∙ ap encodes (e ∙ ap (λ x. x ++ chars r) none) ∙ encodes-chars r ur in
     let long : length s ≡ length r = ap length same in
     omega (arith, shorter, long)
+
+nothing : (t : List ℕ) → length t ≡ 0 → t ≡ []
+nothing [] e = refl
+nothing (c ∷ cs) e = absurd (cc)
+
+-- what is as long as its rest is the rest
+pub same_text : (s r n : List ℕ) → IsUtf8 s → IsUtf8 r → length s ≡ length r → chars s ≡ n ++ chars r
+    → chars s ≡ chars r
+same_text s r n us ur alike e =
+    let whole : s ≡ encodes n ++ r = sym (encodes-chars s us) ∙ ap encodes e ∙ encodes-append n (chars r)
+    ∙ ap (λ y. encodes n ++ y) (encodes-chars r ur) in
+    let long : length s ≡ length (encodes n ++ r) = ap length whole in
+    let sum = length-append (encodes n) r in
+    let none : length (encodes n) ≡ 0 = omega (arith, alike, long, sum) in
+    ap chars (whole ∙ ap (λ y. y ++ r) (nothing (encodes n) none))

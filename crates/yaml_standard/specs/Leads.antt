@@ -1,11 +1,13 @@
 -- What comes before nodes and entries in block style (YAML 1.2.2, chapter 8), whatever the properties are.
-use Rattle.std.specs.Prelude.{◌≡◌, ℕ, ◌+◌, ◌≤◌, Bool, true, false, not, ◌==◌, ◌&&◌, ◌||◌, List, [], ◌∷◌, ◌++◌, Option, Some, None, IsFalse, if◌then◌else◌}
-use Rattle.saphyr_input.specs.Classes.{is_alpha, is_blank, is_break, tab}
-use Rattle.saphyr_input.specs.Indicators.{number_sign}
+use Rattle.std.specs.Prelude.{◌≡◌, ℕ, ◌+◌, ◌≤◌, Bool, true, false, not, ◌==◌, ◌&&◌, ◌||◌, List, [], ◌∷◌, ◌++◌, slice_index, Option, Some, None, ◌≢◌, IsFalse, IsTrue, if◌then◌else◌}
+use Rattle.saphyr_input.specs.Classes.{is_alpha, is_blank, is_blank_or_breakz, is_break, tab}
+use Rattle.saphyr_input.specs.Indicators.{colon, number_sign}
 use Rattle.saphyr_scalar.specs.Reading.BlockLines.{spaces}
 use Rattle.scalar_laws.specs.Spelling.Spaces.{IsLineEnd}
 use Rattle.saphyr_scanner.specs.Grammar.Forest.{Properties}
-use Rattle.yaml_laws.specs.Grammar.BlockNodes.{Position, IsCollectionFront, IsGapAt, IsLead, is_lone_tab}
+use Rattle.yaml_laws.specs.Grammar.FlowNodes.{has_tab_outside}
+use Rattle.yaml_laws.specs.Grammar.BlockNodes.{Position, IsCollectionFront, IsGapAt, IsLead, has_tab_ahead, is_lone_tab, is_value_ahead}
+use Rattle.yaml_standard.specs.declared.ahead.Ahead.{Ahead}
 use Rattle.yaml_standard.specs.NodeProperties.{IsSomeProperties}
 
 -- properties up to the end of their line
@@ -46,3 +48,17 @@ comment_after false c =
 -- the column after such a character, where no comment begins there
 abbrev pub column_after : Bool → ℕ → ℕ → ℕ
 column_after in_comment c column = if not in_comment && is_blank c then column + 1 else 0
+
+-- the first token is not the colon of a value at column m
+abbrev pub IsNoValue : Ahead → ℕ → Type 0
+IsNoValue a m = a.value ≢ Some m
+
+-- whether a character that begins a token is the colon of a value at column m
+abbrev pub is_value_at : ℕ → ℕ → ℕ → List ℕ → Bool
+is_value_at m column c cs = (c == colon) && (column == m) && is_blank_or_breakz (slice_index cs 0)
+
+-- what is known of what comes up to the first token of a text
+pub record IsAhead (a : Ahead) (t : List ℕ) : Type 0 where
+  pub no_tab : IsFalse a.has_tab → IsFalse (has_tab_ahead false t)
+  pub no_tab_at_all : IsFalse a.has_tab → IsTrue a.is_end → IsFalse (has_tab_outside false t)
+  pub no_value : (m : ℕ) → IsNoValue a m → IsFalse (is_value_ahead false m 0 t)

@@ -1,43 +1,32 @@
-//! Steps of nodes and entries in block style (YAML 1.2.2, 8.2). Each takes a beginning of its goal's piece off the
-//! text, and names the goals of the rest.
+//! Steps in block style (YAML 1.2.2, 8.2). Each takes a beginning of its goal's piece off the text, and names the
+//! goals of the rest.
 ghost use Rattle.std.specs.Prelude.{false, IfSome};
 ghost use Rattle.std.specs.Str.{chars};
 ghost use Rattle.yaml_standard.specs.Goals as spec;
+ghost use Rattle.yaml_standard.specs.Leads.{IsAhead};
 ghost use Rattle.yaml_standard.specs.Leaves.{IsLeaf};
 ghost use Rattle.yaml_standard.specs.Takes.{TakesOff};
 ghost use Rattle.yaml_standard.specs.declared.goal.Goal.TheVariants as variant;
+ghost use Rattle.yaml_standard.specs.declared.goal.Kind.TheVariants.{Mapping};
 
-use crate::block_pair::{after_block_key, after_marked_key, block_pair};
+use crate::ahead::{Ahead, look_ahead};
+use crate::block_lines::first;
 use crate::block_scalar::behind_scalar_in_block;
-use crate::front::{front_before, strip};
-use crate::goal::{Flow, Goal, Goals, Place, Step};
+use crate::flow::{behind_key, collection};
+use crate::front::{front_before, is_past, strip};
+use crate::goal::{Flow, Goal, Goals, Kind, Place, Step};
 use crate::hint::{Guide, Hint, HintKind};
 use crate::lead::{
-    behind_entry_indentation, behind_flow_gap, behind_gap_at, behind_lead, indent_at, is_start,
-    sequence_indent_at,
+    behind_entry_indentation, behind_flow_gap, behind_gap_at, behind_lead, behind_value_mark,
+    indent_at, is_start, least_column,
 };
 use crate::leaf::behind_leaf;
 use crate::spaces::{behind_eol, behind_separation};
 use crate::tag::behind_properties;
+use saphyr_input::char_traits::is_blank_or_breakz;
 
 /// How many flow collections may be open at once.
-pub(crate) const MOST_OPEN: usize = 255;
-
-// A node that is left out.
-fn left_out<'a>(place: Place, text: &'a str, guide: &mut Guide<'a>) -> Option<Step<'a>>
-    ensures { IfSome result (λ s. spec.Replaces (variant.BlockNode place) (chars text.now)
-        (chars s.rest.now) s.goals) }
-{
-    if is_start(place) {
-        return None;
-    }
-    let rest = behind_eol(text)?;
-    guide.pass();
-    Some(Step {
-        rest,
-        goals: Goals::None,
-    })
-}
+const MOST_OPEN: usize = 255;
 
 // What follows a leaf in flow style. One without content is its properties alone: what comes next may be a document
 // marker.
@@ -51,87 +40,29 @@ fn behind_leaf_in_block(text: &str, indent: usize, is_empty: bool) -> Option<&st
     behind_leaf(text, false, indent)
 }
 
-// A leaf in flow style, up to the end of its line.
-fn leaf<'a>(place: Place, text: &'a str, guide: &mut Guide<'a>) -> Option<Step<'a>>
-    ensures { IfSome result (λ s. spec.Replaces (variant.BlockNode place) (chars text.now)
-        (chars s.rest.now) s.goals) }
+// What follows a node that is no collection, up to the end of its line.
+fn behind_node<'a>(place: Place, text: &'a str, hint: Hint) -> Option<&'a str>
+    ensures { IfSome result (λ rest. spec.Closes (variant.BlockNode place) (chars text.now)
+        (chars rest.now)) }
 {
     let indent = indent_at(place)?;
-    let node = behind_flow_gap(text, place)?;
-    let is_empty = matches!(guide.hint().kind, HintKind::Empty);
-    let end = behind_leaf_in_block(node, indent, is_empty)?;
-    let rest = behind_eol(end)?;
-    guide.pass();
-    Some(Step {
-        rest,
-        goals: Goals::None,
-    })
-}
-
-// A collection in flow style.
-fn flow_collection<'a>(place: Place, text: &'a str) -> Option<Step<'a>>
-    ensures { IfSome result (λ s. spec.Replaces (variant.BlockNode place) (chars text.now)
-        (chars s.rest.now) s.goals) }
-{
-    let indent = indent_at(place)?;
-    let rest = behind_flow_gap(text, place)?;
-    let at = Flow {
-        room: MOST_OPEN,
-        indent,
-    };
-    Some(Step {
-        rest,
-        goals: Goals::Two(Goal::Collection(at), Goal::LineEnd),
-    })
-}
-
-// A block scalar.
-fn block_scalar<'a>(place: Place, text: &'a str, guide: &mut Guide<'a>) -> Option<Step<'a>>
-    ensures { IfSome result (λ s. spec.Replaces (variant.BlockNode place) (chars text.now)
-        (chars s.rest.now) s.goals) }
-{
-    let indent = indent_at(place)?;
-    let scalar = behind_gap_at(text, place)?;
-    let rest = behind_scalar_in_block(scalar, indent)?;
-    guide.pass();
-    Some(Step {
-        rest,
-        goals: Goals::None,
-    })
-}
-
-// A block sequence, up to behind its first `-`.
-fn block_sequence<'a>(place: Place, text: &'a str, guide: &mut Guide<'a>) -> Option<Step<'a>>
-    ensures { IfSome result (λ s. spec.Replaces (variant.BlockNode place) (chars text.now)
-        (chars s.rest.now) s.goals) }
-{
-    let least = sequence_indent_at(place)?;
-    let has_properties = guide.hint().has_properties;
-    let (entries, column) = behind_lead(text, place, least, has_properties)?;
-    let rest = strip(entries, '-')?;
-    guide.pass();
-    Some(Step {
-        rest,
-        goals: Goals::Two(
-            Goal::BlockNode(Place::BehindDash(column)),
-            Goal::OtherEntries(column),
-        ),
-    })
-}
-
-// A block mapping, up to its first pair.
-fn block_mapping<'a>(place: Place, text: &'a str, guide: &mut Guide<'a>) -> Option<Step<'a>>
-    ensures { IfSome result (λ s. spec.Replaces (variant.BlockNode place) (chars text.now)
-        (chars s.rest.now) s.goals) }
-{
-    let least = indent_at(place)?;
-    let has_properties = guide.hint().has_properties;
-    let (rest, column) = behind_lead(text, place, least, has_properties)?;
-    guide.pass();
-    Some(Step {
-        rest,
-        goals: Goals::Two(Goal::BlockPair(column), Goal::OtherPairs(column)),
-    })
+    match hint.kind {
+        HintKind::Empty if hint.is_left_out() => {
+            if is_start(place) {
+                return None;
+            }
+            behind_eol(text)
+        }
+        HintKind::Block => {
+            let scalar = behind_gap_at(text, place)?;
+            behind_scalar_in_block(scalar, indent)
+        }
+        kind => {
+            let node = behind_flow_gap(text, place)?;
+            let end = behind_leaf_in_block(node, indent, matches!(kind, HintKind::Empty))?;
+            behind_eol(end)
+        }
+    }
 }
 
 // Whether a collection is in flow style: its start then covers its bracket too, and not its properties alone. The start
@@ -149,98 +80,141 @@ fn is_in_flow(hint: Hint, place: Place, text: &str) -> Option<bool> {
     Some(hint.covered > front_before(node, content)?.chars().count())
 }
 
-// A node.
-fn block_node<'a>(place: Place, text: &'a str, guide: &mut Guide<'a>) -> Option<Step<'a>>
-    ensures { IfSome result (λ s. spec.Replaces (variant.BlockNode place) (chars text.now)
-        (chars s.rest.now) s.goals) }
+/// A node.
+pub(crate) fn block_node<'a>(place: Place, text: &'a str, guide: &mut Guide<'a>) -> Option<Step<'a>>
+    ensures { spec.Steps (variant.BlockNode place) (chars text.now) result }
 {
     let hint = guide.hint();
-    match hint.kind {
-        HintKind::Empty if hint.is_left_out() => left_out(place, text, guide),
-        HintKind::Alias | HintKind::Empty | HintKind::Plain | HintKind::Quoted => {
-            leaf(place, text, guide)
-        }
-        HintKind::Block => block_scalar(place, text, guide),
-        HintKind::Sequence | HintKind::Mapping if is_in_flow(hint, place, text)? => {
-            flow_collection(place, text)
-        }
-        HintKind::Sequence => block_sequence(place, text, guide),
-        HintKind::Mapping => block_mapping(place, text, guide),
-        HintKind::Document | HintKind::End | HintKind::Fault => None,
-    }
-}
-
-// Further entries of the block sequence at this column.
-fn other_entries<'a>(column: usize, text: &'a str, guide: &mut Guide<'a>) -> Option<Step<'a>>
-    ensures { IfSome result (λ s. spec.Replaces (variant.OtherEntries column) (chars text.now)
-        (chars s.rest.now) s.goals) }
-{
-    if guide.hint().is_end() {
+    let Some(kind) = hint.collection() else {
+        let rest = behind_node(place, text, hint)?;
         guide.pass();
-        return Some(Step {
-            rest: text,
-            goals: Goals::None,
-        });
+        return Some((rest, Goals::None));
+    };
+    if is_in_flow(hint, place, text)? {
+        let indent = indent_at(place)?;
+        let room = MOST_OPEN;
+        let node = behind_flow_gap(text, place)?;
+        let (rest, entries) = collection(Flow { room, indent }, node, guide)?;
+        return Some((rest, Goals::Two(entries, Goal::LineEnd)));
     }
-    let entry = behind_entry_indentation(text, column)?;
-    let rest = strip(entry, '-')?;
-    Some(Step {
+    let least = least_column(place, kind)?;
+    let (rest, column) = behind_lead(text, place, least, hint.has_properties)?;
+    guide.pass();
+    Some((
         rest,
-        goals: Goals::Two(
-            Goal::BlockNode(Place::BehindDash(column)),
-            Goal::OtherEntries(column),
+        Goals::Two(
+            Goal::BlockEntry(kind, column),
+            Goal::BlockEntries(kind, column),
         ),
-    })
+    ))
 }
 
-// Further pairs of the block mapping at this column.
-fn other_pairs<'a>(column: usize, text: &'a str, guide: &mut Guide<'a>) -> Option<Step<'a>>
-    ensures { IfSome result (λ s. spec.Replaces (variant.OtherPairs column) (chars text.now)
-        (chars s.rest.now) s.goals) }
-{
-    if guide.hint().is_end() {
-        guide.pass();
-        return Some(Step {
-            rest: text,
-            goals: Goals::None,
-        });
-    }
-    let rest = behind_entry_indentation(text, column)?;
-    Some(Step {
-        rest,
-        goals: Goals::Two(Goal::BlockPair(column), Goal::OtherPairs(column)),
-    })
-}
-
-// The end of a line.
-fn line_end<'a>(text: &'a str) -> Option<Step<'a>>
-    ensures { IfSome result (λ s. spec.Replaces variant.LineEnd (chars text.now)
-        (chars s.rest.now) s.goals) }
-{
-    let rest = behind_eol(text)?;
-    Some(Step {
-        rest,
-        goals: Goals::None,
-    })
-}
-
-/// One step of a goal in block style.
-pub(crate) fn block_step<'a>(
-    goal: Goal<'a>,
+/// Further entries of a collection.
+pub(crate) fn block_entries<'a>(
+    kind: Kind,
+    column: usize,
     text: &'a str,
     guide: &mut Guide<'a>,
 ) -> Option<Step<'a>>
-    ensures { IfSome result (λ s. spec.Replaces goal.entry (chars text.now) (chars s.rest.now)
-        s.goals) }
+    ensures { spec.Steps (variant.BlockEntries kind column) (chars text.now) result }
 {
-    match goal {
-        Goal::BlockNode(place) => block_node(place, text, guide),
-        Goal::OtherEntries(column) => other_entries(column, text, guide),
-        Goal::BlockPair(column) => block_pair(column, text, guide),
-        Goal::OtherPairs(column) => other_pairs(column, text, guide),
-        Goal::AfterMarkedKey(column, start) => after_marked_key(column, start, text, guide),
-        Goal::AfterBlockKey(column, start) => after_block_key(column, start, text),
-        Goal::LineEnd => line_end(text),
-        _ => None,
+    if guide.hint().is_end() {
+        guide.pass();
+        return Some((text, Goals::None));
     }
+    let rest = behind_entry_indentation(text, column)?;
+    Some((
+        rest,
+        Goals::Two(
+            Goal::BlockEntry(kind, column),
+            Goal::BlockEntries(kind, column),
+        ),
+    ))
+}
+
+// A `?` before a blank, a break or the end.
+fn is_mark(text: &str) -> bool {
+    match strip(text, '?') {
+        None => false,
+        Some(rest) => is_blank_or_breakz(first(rest)),
+    }
+}
+
+// A pair of a mapping.
+fn block_pair<'a>(column: usize, text: &'a str, guide: &mut Guide<'a>) -> Option<Step<'a>>
+    ensures { spec.Steps (variant.BlockEntry Mapping column) (chars text.now) result }
+{
+    if is_mark(text) {
+        let rest = strip(text, '?')?;
+        let ahead = look_ahead(rest)?;
+        if ahead.has_tab {
+            return None;
+        }
+        return Some((
+            rest,
+            Goals::Two(
+                Goal::BlockNode(Place::BehindMark(column)),
+                Goal::AfterMarkedKey(column, rest),
+            ),
+        ));
+    }
+    let indent = column.checked_add(1)?;
+    if guide.hint().is_collection() {
+        let room = MOST_OPEN;
+        let (rest, entries) = collection(Flow { room, indent }, text, guide)?;
+        return Some((
+            rest,
+            Goals::Three(
+                entries,
+                Goal::Colon(text),
+                Goal::BlockNode(Place::BehindKey(column)),
+            ),
+        ));
+    }
+    let (rest, _) = behind_key(false, indent, true, text, guide)?;
+    Some((rest, Goals::One(Goal::BlockNode(Place::BehindKey(column)))))
+}
+
+/// An entry of a collection.
+pub(crate) fn block_entry<'a>(
+    kind: Kind,
+    column: usize,
+    text: &'a str,
+    guide: &mut Guide<'a>,
+) -> Option<Step<'a>>
+    ensures { spec.Steps (variant.BlockEntry kind column) (chars text.now) result }
+{
+    match kind {
+        Kind::Mapping => block_pair(column, text, guide),
+        Kind::Sequence => {
+            let rest = strip(text, '-')?;
+            Some((rest, Goals::One(Goal::BlockNode(Place::BehindDash(column)))))
+        }
+    }
+}
+
+/// After the key that follows a `?`, and begins at `start`: the colon of its value, or nothing. What comes next is
+/// looked at once for all keys that end here.
+pub(crate) fn after_marked_key<'a>(
+    column: usize,
+    start: &'a str,
+    text: &'a str,
+    ahead: Option<Ahead>,
+    guide: &mut Guide<'a>,
+) -> Option<Step<'a>>
+    requires { IfSome ahead (λ a. IsAhead a (chars text.now)) }
+    ensures { spec.Steps (variant.AfterMarkedKey column start.entry) (chars text.now) result }
+{
+    if !is_past(start, text) {
+        return None;
+    }
+    let Some(next) = ahead else {
+        return None;
+    };
+    if next.is_value_at(column) {
+        let rest = behind_value_mark(text, column)?;
+        return Some((rest, Goals::One(Goal::BlockNode(Place::BehindMark(column)))));
+    }
+    guide.pass();
+    Some((text, Goals::None))
 }

@@ -4,69 +4,30 @@ use crate::broken_parts::{broken_directive, broken_properties, broken_quoted, ta
 use crate::directive::behind_directive;
 use crate::front::split;
 use crate::goal::{Goal, Place};
+use crate::lead::indent_at;
 use crate::lines::{blank_lines_before, first_tab, has_break, last_line, tab_first};
 use crate::rule::Rule;
 use crate::spaces::behind_separation;
 use crate::walk::Stuck;
 
-/// Where a goal is.
-#[derive(Clone, Copy)]
-enum Style {
-    /// Inside brackets or braces, with the first column to the right of the enclosing block collection.
-    Flow(usize),
-    /// Before a node in block style.
-    Block(Place),
-    /// Before a pair of a block mapping.
-    Pair,
-    /// Between nodes.
-    Between,
-}
-
-/// Where a goal is.
-fn style_of(goal: Option<Goal<'_>>) -> Style {
-    match goal {
-        Some(
-            Goal::Node(at)
-            | Goal::Collection(at)
-            | Goal::Items(at)
-            | Goal::OtherItems(at)
-            | Goal::Item(at)
-            | Goal::SinglePair(at)
-            | Goal::FlowPairs(at)
-            | Goal::OtherFlowPairs(at)
-            | Goal::FlowPair(at)
-            | Goal::KeyOrValue(at)
-            | Goal::AfterKey(at)
-            | Goal::AfterKeyOnLine(at, _)
-            | Goal::Value(at, _),
-        ) => Style::Flow(at.indent),
-        Some(Goal::Separation(indent)) => Style::Flow(indent),
-        Some(Goal::Known(_) | Goal::PairEnd) => Style::Flow(0),
-        Some(Goal::BlockNode(place)) => Style::Block(place),
-        Some(Goal::BlockPair(_)) => Style::Pair,
-        _ => Style::Between,
-    }
-}
-
-/// The first column to the right of the block collection that a place is in.
-fn indent_at(place: Place) -> usize {
-    match place {
-        Place::BehindDash(column) | Place::BehindMark(column) | Place::BehindKey(column) =>
-            column.saturating_add(1),
-        Place::BehindMarker | Place::AtStart => 0,
-    }
-}
-
 /// The rule that a text breaks which can't be read on, and the text from the character on that breaks it.
 pub(crate) fn broken_rule<'a>(lines: &'a str, stuck: Stuck<'a>) -> (Rule, &'a str) {
     let text = stuck.text;
     let token = behind_separation(text, 0);
-    let found = match style_of(stuck.goal) {
+    let found = match stuck.goal {
         _ if token.starts_with("%") => broken_directives(token),
-        Style::Flow(indent) => broken_in_flow(text, token, indent),
-        Style::Block(place) => broken_in_block(text, token, place),
-        Style::Pair => broken_pair(text),
-        Style::Between => broken_between(lines, text, token),
+        Some(
+            Goal::Node(at)
+            | Goal::Entries(at, _)
+            | Goal::AfterEntry(at, _)
+            | Goal::Pair(at, _)
+            | Goal::KeyOrValue(at, _)
+            | Goal::AfterKey(at)
+            | Goal::Value(at, _),
+        ) => broken_in_flow(text, token, at.indent),
+        Some(Goal::BlockNode(place)) => broken_in_block(text, token, place),
+        Some(Goal::BlockEntry(..)) => broken_pair(text),
+        _ => broken_between(lines, text, token),
     };
     match found {
         None => (Rule::Unnamed, token),
@@ -101,7 +62,7 @@ fn is_long(text: &str) -> bool {
 
 /// The rule that is broken by a node in block style.
 fn broken_in_block<'a>(text: &'a str, token: &'a str, place: Place) -> Option<(Rule, &'a str)> {
-    let indent = indent_at(place);
+    let indent = indent_at(place)?;
     let (found, content) = broken_properties(token, indent);
     if found.is_some() {
         return found;

@@ -25,10 +25,7 @@ fn behind_property(text: &str) -> Option<&str> {
         let (_, rest) = name.split_once(">")?;
         return Some(rest);
     }
-    match behind_anchor_name(name) {
-        None => Some(name),
-        Some(rest) => Some(rest),
-    }
+    Some(behind_anchor_name(name).unwrap_or(name))
 }
 
 /// The rule that an anchor or a tag breaks, or what comes behind it up to the next token.

@@ -9,6 +9,13 @@ pub(crate) struct Flow {
     pub indent: usize,
 }
 
+/// What a collection is.
+#[derive(Clone, Copy)]
+pub(crate) enum Kind {
+    Sequence,
+    Mapping,
+}
+
 /// Where a node in block style is.
 #[derive(Clone, Copy)]
 pub(crate) enum Place {
@@ -29,49 +36,29 @@ pub(crate) enum Place {
 pub(crate) enum Goal<'a> {
     /// A node in flow style.
     Node(Flow),
-    /// A collection in flow style.
-    Collection(Flow),
-    /// The entries of a flow sequence.
-    Items(Flow),
-    /// Further entries of a flow sequence.
-    OtherItems(Flow),
-    /// One entry of a flow sequence, with the separation after it.
-    Item(Flow),
-    /// A pair in brackets, with the separation after it.
-    SinglePair(Flow),
-    /// The entries of a flow mapping.
-    FlowPairs(Flow),
-    /// Further entries of a flow mapping.
-    OtherFlowPairs(Flow),
-    /// One entry of a flow mapping, with the separation after it.
-    FlowPair(Flow),
-    /// A key, a value or both: a pair in braces that has no `?`, or what follows the `?` and its separation.
-    KeyOrValue(Flow),
+    /// The rest of a flow collection, behind its bracket or the comma of an entry.
+    Entries(Flow, Kind),
+    /// The rest of a flow collection, behind an entry.
+    AfterEntry(Flow, Kind),
+    /// A pair in flow style, which is in brackets if this says so.
+    Pair(Flow, bool),
+    /// A pair without `?`, or what follows the `?`: a key, a value or both. A pair in brackets has a colon, on one line
+    /// with its key.
+    KeyOrValue(Flow, bool),
     /// After a flow collection that is a key: nothing, or a colon and a value.
     AfterKey(Flow),
-    /// After a flow collection that is a key in brackets and begins here: a colon on its line, and a value.
-    AfterKeyOnLine(Flow, &'a str),
+    /// After a flow collection that is a key and begins here: a colon on one line with it.
+    Colon(&'a str),
     /// What follows a colon: nothing, or separation and a value, which may come at once if this says so.
     Value(Flow, bool),
-    /// Separation, with its indentation.
-    Separation(usize),
-    /// This character.
-    Known(char),
-    /// Nothing in the text: the parser's event for the end of a pair in brackets.
-    PairEnd,
     /// A node in block style.
     BlockNode(Place),
-    /// Further entries of the block sequence at this column.
-    OtherEntries(usize),
-    /// A pair of the block mapping at this column.
-    BlockPair(usize),
-    /// Further pairs of the block mapping at this column.
-    OtherPairs(usize),
+    /// An entry of the block collection at this column.
+    BlockEntry(Kind, usize),
+    /// Further entries of the block collection at this column.
+    BlockEntries(Kind, usize),
     /// After the key that follows a `?` of the block mapping at this column, and begins here: nothing, or its value.
     AfterMarkedKey(usize, &'a str),
-    /// After a flow collection that is a key of the block mapping at this column and begins here: a colon on its line,
-    /// and a value.
-    AfterBlockKey(usize, &'a str),
     /// The end of a line.
     LineEnd,
 }
@@ -86,8 +73,4 @@ pub(crate) enum Goals<'a> {
 }
 
 /// A goal is closed up to here, and these are open in its place.
-#[derive(Clone, Copy)]
-pub(crate) struct Step<'a> {
-    pub rest: &'a str,
-    pub goals: Goals<'a>,
-}
+pub(crate) type Step<'a> = (&'a str, Goals<'a>);

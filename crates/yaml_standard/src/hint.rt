@@ -1,7 +1,7 @@
 //! What the parser says of the next node. Its events decide where the grammar has a choice. Nothing is claimed of
 //! them: a wrong hint leads to a refusal, and never to a wrong derivation.
 
-use crate::goal::Goal;
+use crate::goal::{Goal, Kind};
 use saphyr_parser::{
     Event, Fault, Marker, Parser, Progress, ScalarStyle, Span, StrInput, no_event,
 };
@@ -13,7 +13,7 @@ pub(crate) enum HintKind {
     /// The stream or a document, which begins or ends.
     Document,
     /// The end of a collection.
-    End,
+    End(Kind),
     Alias,
     /// A plain scalar without a text.
     Empty,
@@ -21,8 +21,7 @@ pub(crate) enum HintKind {
     Quoted,
     /// A literal or folded scalar.
     Block,
-    Sequence,
-    Mapping,
+    Collection(Kind),
     /// No event: the stream is over, the parser refuses the text, or memory ran out.
     Fault,
 }
@@ -52,12 +51,20 @@ impl Hint {
 
     /// Whether it is the end of a collection.
     pub(crate) fn is_end(&self) -> bool {
-        matches!(self.kind, HintKind::End)
+        matches!(self.kind, HintKind::End(_))
     }
 
     /// Whether it is the start of a collection.
     pub(crate) fn is_collection(&self) -> bool {
-        matches!(self.kind, HintKind::Sequence | HintKind::Mapping)
+        matches!(self.kind, HintKind::Collection(_))
+    }
+
+    /// The kind of the collection that it is the start of.
+    pub(crate) fn collection(&self) -> Option<Kind> {
+        match self.kind {
+            HintKind::Collection(kind) => Some(kind),
+            _ => None,
+        }
     }
 }
 
@@ -104,8 +111,8 @@ impl<'a> Guide<'a> {
     /// Goes on to the event after it.
     pub(crate) fn pass(&mut self) {
         self.depth = match self.hint.kind {
-            HintKind::Sequence | HintKind::Mapping => self.depth.saturating_add(1),
-            HintKind::End => self.depth.saturating_sub(1),
+            HintKind::Collection(_) => self.depth.saturating_add(1),
+            HintKind::End(_) => self.depth.saturating_sub(1),
             _ => self.depth,
         };
         self.hint = match self.parser.next_event_into(&mut self.next, &mut self.fault) {
@@ -150,9 +157,10 @@ fn hint_of(event: &Event<'_>, span: Span) -> Hint {
     let kind = match event {
         Event::Alias(_) => HintKind::Alias,
         Event::Scalar(text, style, _, _) => kind_of(text.is_empty(), *style),
-        Event::SequenceStart(..) => HintKind::Sequence,
-        Event::MappingStart(..) => HintKind::Mapping,
-        Event::SequenceEnd | Event::MappingEnd => HintKind::End,
+        Event::SequenceStart(..) => HintKind::Collection(Kind::Sequence),
+        Event::MappingStart(..) => HintKind::Collection(Kind::Mapping),
+        Event::SequenceEnd => HintKind::End(Kind::Sequence),
+        Event::MappingEnd => HintKind::End(Kind::Mapping),
         _ => HintKind::Document,
     };
     Hint {

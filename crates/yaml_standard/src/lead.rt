@@ -3,14 +3,14 @@
 ghost use Rattle.std.specs.Prelude.{◌≡◌, ◌&&◌, IfSome};
 ghost use Rattle.std.specs.Str.{chars};
 ghost use Rattle.yaml_laws.specs.Grammar.BlockNodes as grammar;
-ghost use Rattle.yaml_standard.specs.Goals.{position};
+ghost use Rattle.yaml_standard.specs.Goals.{least_at, position};
 ghost use Rattle.yaml_standard.specs.Leads as spec;
 ghost use Rattle.yaml_standard.specs.NodeProperties.{IsSomeProperties};
 ghost use Rattle.yaml_standard.specs.Takes.{TakesOff};
 
 use crate::block_lines::split_spaces;
 use crate::front::{split, strip};
-use crate::goal::Place;
+use crate::goal::{Kind, Place};
 use crate::spaces::{behind_filler, behind_gap, behind_line_end, behind_spaces};
 use crate::tag::{behind_anchor, behind_properties, behind_tag};
 use saphyr_input::char_traits::is_alpha;
@@ -27,13 +27,13 @@ pub(crate) fn indent_at(place: Place) -> Option<usize>
     }
 }
 
-/// The first column at which a block sequence may be.
-pub(crate) fn sequence_indent_at(place: Place) -> Option<usize>
-    ensures { IfSome result (λ indent. indent ≡ grammar.sequence_indent_at (position place)) }
+/// The first column at which a block collection may be.
+pub(crate) fn least_column(place: Place, kind: Kind) -> Option<usize>
+    ensures { IfSome result (λ least. least ≡ least_at kind (position place)) }
 {
-    match place {
-        Place::BehindMark(column) | Place::BehindKey(column) => Some(column),
-        Place::BehindDash(_) | Place::BehindMarker | Place::AtStart => indent_at(place),
+    match (kind, place) {
+        (Kind::Sequence, Place::BehindMark(column) | Place::BehindKey(column)) => Some(column),
+        _ => indent_at(place),
     }
 }
 

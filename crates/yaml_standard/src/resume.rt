@@ -4,7 +4,7 @@
 use crate::block_lines::split_spaces;
 use crate::broken::broken_rule;
 use crate::front::is_document_marker;
-use crate::goal::Goal;
+use crate::goal::{Goal, Kind};
 use crate::hint::{Guide, HintKind};
 use crate::place::Here;
 use crate::rule::Rule;
@@ -18,8 +18,8 @@ use std::mem;
 fn begins_entry(goal: Goal<'_>, spaces: usize, entry: &str) -> Option<bool> {
     let is_entry = entry.starts_with("-");
     match goal {
-        Goal::OtherEntries(column) => Some(column == spaces && is_entry),
-        Goal::OtherPairs(column) => {
+        Goal::BlockEntries(Kind::Sequence, column) => Some(column == spaces && is_entry),
+        Goal::BlockEntries(Kind::Mapping, column) => {
             Some(column == spaces && !is_entry && !entry.starts_with(":"))
         }
         _ => None,

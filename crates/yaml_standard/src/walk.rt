@@ -3,12 +3,18 @@
 ghost use Rattle.std.specs.Prelude.{◌≡◌, ◌++◌, [], ◌∷◌, IfOk, IfSome};
 ghost use Rattle.std.specs.Str.{chars};
 ghost use Rattle.yaml_standard.specs.Goals as spec;
-ghost use Rattle.yaml_standard.specs.declared.goal.Goal.TheVariants as variant;
+ghost use Rattle.yaml_standard.specs.Leads.{IsAhead};
+ghost use Rattle.yaml_standard.specs.Takes.{TakesBefore};
+ghost use Rattle.yaml_standard.specs.declared.goal.Goal.{Goal};
 
-use crate::block::block_step;
-use crate::flow::flow_step;
+use crate::ahead::{Ahead, look_ahead};
+use crate::block::{after_marked_key, block_entries, block_entry, block_node};
+use crate::flow::{after_entry, after_key, entries, key_or_value, node, pair, value};
+use crate::front::strip;
 use crate::goal::{Goal, Goals, Step};
 use crate::hint::Guide;
+use crate::leaf::is_short_line;
+use crate::spaces::{behind_blanks, behind_eol};
 use std::alloc::{AllocError, Global};
 
 /// What can't be closed, which is a goal or a document, and the text where its piece would begin.
@@ -18,18 +24,72 @@ pub(crate) struct Stuck<'a> {
     pub text: &'a str,
 }
 
-/// One step of a goal.
-fn step<'a>(goal: Goal<'a>, text: &'a str, guide: &mut Guide<'a>) -> Option<Step<'a>>
-    ensures { IfSome result (λ s. spec.Replaces goal.entry (chars text.now) (chars s.rest.now)
-        s.goals) }
+// What follows blanks and a colon, on one line with the key that begins at `start`.
+fn behind_colon<'a>(start: &str, text: &'a str) -> Option<&'a str>
+    ensures { IfSome result (λ rest. TakesBefore (spec.IsColonBefore (chars start.now))
+        (chars text.now) (chars rest.now)) }
 {
-    match flow_step(goal, text, guide) {
-        None => block_step(goal, text, guide),
-        Some(step) => Some(step),
+    let colon = behind_blanks(text);
+    if is_short_line(start, colon) {
+        strip(colon, ':')
+    } else {
+        None
     }
 }
 
-/// Opens the goals, of which the first is the last of the list.
+// One step of a goal.
+fn step<'a>(
+    goal: Goal<'a>,
+    text: &'a str,
+    ahead: Option<Ahead>,
+    guide: &mut Guide<'a>,
+) -> Option<Step<'a>>
+    requires { IfSome ahead (λ a. IsAhead a (chars text.now)) }
+    ensures { spec.Steps goal.entry (chars text.now) result }
+{
+    match goal {
+        Goal::Node(at) => node(at, text, guide),
+        Goal::Entries(at, kind) => entries(at, kind, text, guide),
+        Goal::AfterEntry(at, kind) => after_entry(at, kind, text, guide),
+        Goal::Pair(at, in_brackets) => pair(at, in_brackets, text, guide),
+        Goal::KeyOrValue(at, in_brackets) => key_or_value(at, in_brackets, text, guide),
+        Goal::AfterKey(at) => after_key(at, text, guide),
+        Goal::Colon(start) => Some((behind_colon(start, text)?, Goals::None)),
+        Goal::Value(at, adjacent) => value(at, adjacent, text, guide),
+        Goal::BlockNode(place) => block_node(place, text, guide),
+        Goal::BlockEntry(kind, column) => block_entry(kind, column, text, guide),
+        Goal::BlockEntries(kind, column) => block_entries(kind, column, text, guide),
+        Goal::AfterMarkedKey(column, start) => {
+            after_marked_key(column, start, text, ahead, guide)
+        }
+        Goal::LineEnd => Some((behind_eol(text)?, Goals::None)),
+    }
+}
+
+// What comes next, which is looked at where a goal asks for it.
+fn looked(goal: Goal<'_>, text: &str, ahead: Option<Ahead>) -> Option<Ahead>
+    requires { IfSome ahead (λ a. IsAhead a (chars text.now)) }
+    ensures { IfSome result (λ a. IsAhead a (chars text.now)) }
+{
+    match goal {
+        Goal::AfterMarkedKey(..) if ahead.is_none() => look_ahead(text),
+        _ => ahead,
+    }
+}
+
+// The same behind a step: it is kept while nothing is taken off the text, so that this is looked at once.
+fn kept(ahead: Option<Ahead>, text: &str, rest: &str, added: Goals<'_>) -> Option<Ahead>
+    requires known { IfSome ahead (λ a. IsAhead a (chars text.now)) }
+    requires replaced { (goal : Goal) × spec.Replaces goal (chars text.now) (chars rest.now) added }
+    ensures { IfSome result (λ a. IsAhead a (chars rest.now)) }
+{
+    match added {
+        Goals::None if text.len() == rest.len() => ahead,
+        _ => None,
+    }
+}
+
+// Opens the goals, of which the first is the last of the list.
 fn open<'a>(goals: &mut Vec<Goal<'a>>, added: Goals<'a>) -> Result<(), AllocError>
     ensures { IfOk result (λ _. goals.new.items ≡ goals.old.items ++ spec.stack added.entry) }
 {
@@ -61,11 +121,13 @@ pub(crate) fn close<'a>(
 {
     let mut goals = vec![in alloc; goal]?;
     let mut rest = text;
+    let mut ahead = None;
     for _ in 0..usize::MAX {
         let Some(next) = goals.pop() else {
             return Ok(Ok(rest));
         };
-        let Some(step) = step(next, rest, guide) else {
+        ahead = looked(next, rest, ahead);
+        let Some((behind, added)) = step(next, rest, ahead, guide) else {
             goals.push(next)?;
             guide.open = goals;
             return Ok(Err(Stuck {
@@ -73,8 +135,9 @@ pub(crate) fn close<'a>(
                 text: rest,
             }));
         };
-        rest = step.rest;
-        open(&mut goals, step.goals)?;
+        ahead = kept(ahead, rest, behind, added);
+        rest = behind;
+        open(&mut goals, added)?;
     }
     Ok(Err(Stuck {
         goal: None,

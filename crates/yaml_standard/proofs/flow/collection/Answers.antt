@@ -1,8 +1,7 @@
-use Rattle.yaml_standard.proofs.Sequences.{a_sequence, a_mapping}
+use Rattle.yaml_standard.proofs.Collections.{bracket_first, collection_opened, one_less}
 use Rattle.yaml_standard.proofs.flow.collection.Goals as goal
 
-pub returns-then-is_sequence : goal.returns-then-is_sequence
-returns-then-is_sequence c = λ x end s t. a_sequence _ _ _ _ _ c.if-at-eq0.false c.in_ok-rest.ensures s t
-
 pub returns : goal.returns
-returns c = λ x end s t. a_mapping _ _ _ _ _ c.if-at-eq0.false c.in_ok-rest-2.ensures s t
+returns c = λ end t.
+    collection_opened _ _ _ _ _ _ _ (one_less _ _ c.in_ok-room.ensures.0 c.in_ok-room.ensures.1) c.behind_front.ensures
+    (bracket_first _ _ _ _ c.opening.ensures c.in_ok-rest.ensures) t
