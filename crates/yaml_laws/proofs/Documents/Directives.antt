@@ -1,7 +1,6 @@
 -- Directives are read.
 use Rattle.yaml_laws.proofs.Common.{Bool, List, Ok, [], ap, append-nil, append_assoc, arith, encode_utf8_all, false, inl, length, refl, slice_index, subst, sym, true, ℕ, ◌++◌, ◌+◌, ◌∙◌, ◌∷◌, ◌≡◌, ◌≤◌, map, Marker, Cursor, along, next_line, Reserved, TagPrefix, Version, Kind, directive_token, State, AreDirectives, IsDirective, cursor_at, eq-eqb, false≢true, percent_sign, line_feed, length-append, ReadDirective, version, tag_prefix, reserved, IsDirectiveText, IsLineTail, IsHandle}
 use Rattle.saphyr_scalar.specs.Steps.Directive as directives
-use Rattle.saphyr_scanner.specs.declared.engine.level.Context.TheVariants as context
 use Rattle.saphyr_scanner.specs.Grammar.Forest as forest
 use Rattle.saphyr_scanner.specs.Steps.Core.{remove_key}
 use Rattle.saphyr_scanner.specs.Steps.Unrolling.{unroll}

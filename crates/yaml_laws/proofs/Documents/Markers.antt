@@ -1,6 +1,5 @@
 -- Document markers, byte order marks and the text's end are read.
 use Rattle.yaml_laws.proofs.Common.{Bool, IsTrue, List, Ok, [], ap, arith, false, inl, inr, length, refl, slice_index, sym, true, ℕ, ◌++◌, ◌+◌, ◌∙◌, ◌∷◌, ◌≡◌, ◌≤◌, ◌⊎◌, ◌==◌, ◌||◌, nat_tests, is_blank_or_breakz, is_breakz, is_document_indicator, SkipTabs, Yes, Marker, along, separation, cursor_at, IsEol, Kind, Piece, State, LeadsTo, or-false, or-true, eq-eqb, full_stop, hyphen, place_kinds, place_kinds_append, length-append, cons_not_empty, state_at, fetches_stream_end, stream_end_place}
-use Rattle.saphyr_scanner.specs.declared.engine.level.Context.TheVariants as context
 use Rattle.saphyr_scanner.specs.Grammar.Tokens as tokens
 use Rattle.saphyr_scanner.specs.Steps.Core.{remove_key}
 use Rattle.saphyr_scanner.specs.Steps.Unrolling.{unroll}

@@ -4,7 +4,7 @@ use Rattle.saphyr_scanner.specs.declared.engine.level.Context.TheVariants as con
 use Rattle.saphyr_scanner.specs.Steps.Gap.{GapEnd, gap_here, stop}
 use Rattle.saphyr_scanner.specs.Steps.Passing.{goes_on_behind, pass_gap, check_comment, behind_gap}
 use Rattle.saphyr_scanner.specs.Steps.Fetch.{fetch_here, arrive, fetch}
-use Rattle.yaml_laws.proofs.InFlow.States.{alone, noted}
+use Rattle.yaml_laws.proofs.InFlow.States.{alone, moment, noted}
 use Rattle.yaml_laws.proofs.InBlock.States.{crosses, GoesOnAs, past, EndsDocument}
 use Rattle.yaml_laws.proofs.InBlock.Follows.{goes_on}
 use Rattle.yaml_laws.proofs.InBlock.Lines.{IsLined}
@@ -45,7 +45,7 @@ passes_noted : (co : Option Marker) (s : Cursor) (k : Option Candidate) (a : Boo
     → past 0 s.mark s.rest ≡ (m, y) → (co ≡ None) ⊎ EndsDocument m y → PassesNoted co s k a ad m y
 unfolding pass_gap check_comment stop
 passes_noted None s k a ad m y here h =
-    let g = passes_gap (alone 0) s context.Block k [] a ad m y here
+    let g = passes_gap (alone 0) (moment s context.Block k [] a ad []) m y here
     (ap (λ (p : Marker × List ℕ). is_blank (slice_index p.1 0)) (sym here) ∙ past_no_blank s.mark s.rest) in
     record { blank = g.blank; allowed = g.allowed; is = g.is false }
 passes_noted (Some comment) s k a ad m y here (inl e) = absurd (cc)

@@ -5,7 +5,7 @@ use Rattle.saphyr_scanner.specs.Grammar.Tokens as tokens
 use Rattle.saphyr_scanner.specs.Steps.Core.{Core, from_to, perform, completed_step, remove_key}
 use Rattle.saphyr_scanner.specs.Steps.Flow as flow
 use Rattle.saphyr_scanner.specs.Steps.Flow.{close_collection, behind_pair, next_flow_entry}
-use Rattle.yaml_laws.proofs.InFlow.States.{Around, core_at, state_at, Calm, opening_steps_open, open_collection_gives, close_collection_gives, deepened, kept_inside, FlowMoment, moment, moment_with, moment_in, Ready}
+use Rattle.yaml_laws.proofs.InFlow.States.{Around, arrived, at_cursor, closed, core_at, opened, state_at, with_key_saved, Calm, opening_steps_open, open_collection_gives, close_collection_gives, deepened, kept_inside, FlowMoment, moment_with, moment_in, Ready}
 use Rattle.yaml_laws.proofs.Flow.States.{IsFresh, Since, moved, past, IsClear, IsContentStart, IsParted, Known, fresh_key, PassesPiece, Fits, FitsAround, StandsBefore, key_behind}
 use Rattle.yaml_laws.proofs.Flow.KeyPieces.{fits_clear, fits_below, held_behind}
 use Rattle.yaml_laws.proofs.Flow.Places.{moved_index, right_one, clear_here}
@@ -61,19 +61,18 @@ pub open_passes : (around : Around) (y : Context) → is_block y ≡ false → (
     × ((t : List ℕ) → (key : Option Candidate) → (key ≡ None) ⊎ (key ≡ j) → Since now.key m t key)
     × ((k : Candidate) → around.held ≡ Some k → is_block now.context ≡ true → j ≡ Some k)
 open_passes around y in_flow kind ch mark begins m o now fits right parted low calm before start v =
+    let seen = arrived v in
     let key = saved v.allowed (length now.places) m v.key in
     let p = separates around.indent (cursor_at o (along m 1) false) parted.separation parted.first parted.others
     parted.is parted.parts
     (subst (λ (n : Marker). around.indent ≤ n.col) (sym (mark_moved m ch mark)) right) parted.ends in
     let stepped = λ (d : Bool). begins (slice_index o 0) (length now.places)
-    (core_at around d (cursor_at (ch ∷ o) m v.blank) now.context v.key now.outer v.allowed now.adjacent)
-    ∙ opening_steps_open y kind (length now.places) around d (cursor_at (ch ∷ o) m v.blank) now.context v.key now.outer
-    v.allowed now.adjacent v.placed
-    ∙ open_collection_gives y kind ch o m v.blank around (deepened around now.context d) now.context key now.outer
-    v.allowed now.adjacent p.found p.there p.is low in_flow calm in
+    (core_at around d seen) ∙ opening_steps_open y kind (length now.places) around d seen v.placed
+    ∙ open_collection_gives y kind ch o m v.blank around (deepened around now.context d)
+    (with_key_saved (length now.places) seen) p.found p.there p.is low in_flow calm in
     let below = fits_below fits in
     let new = token_place m p.there.mark kind ∷ [] in
-    let next = moment p.there y None (level_of now.context key ∷ now.outer) true now.adjacent now.places in
+    let next = opened y p.there (with_key_saved (length now.places) seen) in
     let came = step_comes around start now m (ch ∷ o) v None (moment_with new next)
     (from_to m p.there.mark kind ∷ []) (deepened around now.context)
     stepped refl (within_index around.indent around.limit p.there (along m 1) o p.lands (omega (arith, below)))
@@ -148,9 +147,8 @@ one_behind indent m c o ad low = grind (arith, one_on, past_low, moved)
 
 pub close_passes : (around : Around) (y : Context) → is_block y ≡ false → (ends : Bool) (kind : Kind) (ch : ℕ)
     → IsTokenMark ch
-    → ((second i : ℕ) (d : Bool) (s : Cursor) (k : Option Candidate) (ls : List Level) (a : Bool) (ad : ℕ)
-    → step ch second i (core_at around d s y k ls a ad)
-    ≡ close_collection ends kind (core_at around d s y k ls a ad))
+    → ((second i : ℕ) (d : Bool) (now : FlowMoment) → step ch second i (core_at around d (moment_in y now))
+    ≡ close_collection ends kind (core_at around d (moment_in y now)))
     → (m : Marker) (o : List ℕ) (x : Context) → Fits around x m (ch ∷ []) o → around.indent ≤ m.col
     → (found : SkipTabs) (there : Cursor)
     → separation Yes (cursor_at o (along m 1) false) ≡ Ok (found, there)
@@ -166,13 +164,11 @@ close_passes around y flows ends kind ch mark begins m o x fits right found ther
     let inside : FlowMoment = record now { context = y; outer = level_of x j ∷ ls } in
     let v = arrives around inside m (ch ∷ o) (text ∙ past_content around.indent m ch o
     mark.content) mark.content.blank (mark_begins m ch o mark (fits_clear fits)) flows right in
-    let stepped = λ (d : Bool). begins (slice_index o 0) (length now.places) d (cursor_at (ch ∷ o) m v.blank) v.key
-    (level_of x j ∷ ls) v.allowed now.adjacent
-    ∙ close_collection_gives ends kind ch o m v.blank around d y v.key j x ls v.allowed now.adjacent found there
-    is flows calm in
+    let stepped = λ (d : Bool). begins (slice_index o 0) (length now.places) d (arrived v)
+    ∙ close_collection_gives ends kind ch o m v.blank around d (arrived v) x j ls found there is flows calm in
     let below = fits_below fits in
     let new = mark_places ends m there.mark kind in
-    let next = moment there x j ls false (cond (is_block x) now.adjacent there.mark.index) now.places in
+    let next = closed x j ls there now in
     let end = right_one around.indent m ch mark.feed right in
     let on = le_next around.indent m.col right in
     let keeps = held_behind m (ch ∷ []) o fits end j there false held_key (λ _ w c cs o_is are content _.
@@ -205,22 +201,19 @@ close_passes around y flows ends kind ch mark begins m o x fits right found ther
 in_flow : (y : Context) → is_block y ≡ false → is_block (behind_entry y) ≡ false
 in_flow y e = grind arith
 
-next_entry_gives : (around : Around) (d : Bool) (o : List ℕ) (m : Marker) (b : Bool) (y : Context)
-    (k : Option Candidate)
-    (ls : List Level) (a : Bool) (ad : ℕ) → is_block y ≡ false → (found : SkipTabs) (there : Cursor)
+next_entry_gives : (around : Around) (d : Bool) (o : List ℕ) (m : Marker) (b : Bool) (now : FlowMoment)
+    → is_block now.context ≡ false → (found : SkipTabs) (there : Cursor)
     → separation Yes (cursor_at o (along m 1) false) ≡ Ok (found, there)
-    → next_flow_entry (core_at around d (cursor_at (comma ∷ o) m b) y k ls a ad)
-    ≡ completed_step (behind_pair (ends_pair y) m (from_to m there.mark tokens.FlowEntry))
-    (core_at around d there (behind_entry y) k ls true ad)
+    → next_flow_entry (core_at around d (at_cursor (cursor_at (comma ∷ o) m b) now))
+    ≡ completed_step (behind_pair (ends_pair now.context) m (from_to m there.mark tokens.FlowEntry))
+    (core_at around d (record now { cursor = there; context = behind_entry now.context; allowed = true }))
 unfolding next_flow_entry
-next_entry_gives around d o m b y k ls a ad flows found there is = grind arith
+next_entry_gives around d o m b now flows found there is = grind arith
 
-removes : (around : Around) (d : Bool) (o : List ℕ) (m : Marker) (b : Bool) (y : Context) (k : Option Candidate)
-    (ls : List Level) (a : Bool) (ad : ℕ) → is_block y ≡ false
-    → flow.flow_entry_steps (core_at around d (cursor_at (comma ∷ o) m b) y k ls a ad)
-    ≡ next_flow_entry (core_at around d (cursor_at (comma ∷ o) m b) y None ls a ad)
+removes : (around : Around) (d : Bool) (now : FlowMoment) → is_block now.context ≡ false
+    → flow.flow_entry_steps (core_at around d now) ≡ next_flow_entry (core_at around d (record now { key = None }))
 unfolding flow.flow_entry_steps remove_key
-removes around d o m b y k ls a ad e = grind arith
+removes around d now e = grind arith
 
 comma_is_mark : IsTokenMark 44
 comma_is_mark = search
@@ -239,12 +232,16 @@ comma_passes around y flows m o fits parted now before text =
     let p = separates around.indent (cursor_at o (along m 1) false) parted.separation parted.first parted.others
     parted.is parted.parts (le_next around.indent m.col fits.right) parted.ends in
     let stepped = λ (d : Bool). comma_begins (slice_index o 0) (length now.places)
-    (core_at around d (cursor_at (44 ∷ o) m v.blank) y v.key now.outer v.allowed now.adjacent)
-    ∙ removes around d o m v.blank y v.key now.outer v.allowed now.adjacent flows
-    ∙ next_entry_gives around d o m v.blank y None now.outer v.allowed now.adjacent flows p.found p.there p.is in
+    (core_at around d (arrived v)) ∙ removes around d (arrived v) flows
+    ∙ next_entry_gives around d o m v.blank (record (arrived v) { key = None }) flows p.found p.there p.is in
     let below = fits.below in
     let new = mark_places (ends_pair y) m p.there.mark tokens.FlowEntry in
-    let next = moment p.there (behind_entry y) None now.outer true now.adjacent now.places in
+    let next : FlowMoment = record now {
+      cursor = p.there;
+      context = behind_entry y;
+      key = None;
+      allowed = true;
+    } in
     let came = step_comes around (state_at around (moment_in y now)) (moment_in y now) m (44 ∷ o) v None
     (moment_with new next) (behind_pair (ends_pair y) m (from_to m p.there.mark tokens.FlowEntry)) (λ d. d) stepped
     (mark_puts (ends_pair y) now.places m p.there.mark tokens.FlowEntry)

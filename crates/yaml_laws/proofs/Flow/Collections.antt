@@ -5,7 +5,7 @@ use Rattle.saphyr_scanner.specs.declared.engine.level.Context.TheVariants as con
 use Rattle.saphyr_scanner.specs.Grammar.Tokens as tokens
 use Rattle.saphyr_scanner.specs.Steps.Flow as flow
 use Rattle.saphyr_scanner.specs.Steps.Fetch.{step}
-use Rattle.yaml_laws.proofs.InFlow.States.{Around, core_at, state_at, Calm, FlowMoment, Ready}
+use Rattle.yaml_laws.proofs.InFlow.States.{Around, core_at, state_at, Calm, FlowMoment, moment_in, Ready}
 use Rattle.yaml_laws.proofs.Flow.States.{crosses, Fits, IsFresh, keeping, moved, past, IsParted, IsBehindRoot, Known, PassesPiece, ended, StandsBefore, after, IsAfterNode, after_node, TextPasses}
 use Rattle.yaml_laws.proofs.Flow.Places.{moved_append, right_one}
 use Rattle.yaml_laws.proofs.Flow.GapSteps.{past_content, less_on}
@@ -99,9 +99,8 @@ pub record AreBrackets (b : Brackets) : Type 0 where
   pub closing_mark : IsTokenMark b.closing
   pub begins : (second i : ℕ) (c : Core) → step b.opening second i c ≡ flow.opening_steps b.context b.opens i c
   pub shuts : (around : Around) (z : Context) → is_block z ≡ false → behind_entry z ≡ b.context → (second i : ℕ)
-      (d : Bool) (s : Cursor) (k : Option Candidate) (ms : List Level) (a : Bool) (ad : ℕ)
-      → step b.closing second i (core_at around d s z k ms a ad)
-      ≡ close_collection (ends_pair z) b.closes (core_at around d s z k ms a ad)
+      (d : Bool) (now : FlowMoment) → step b.closing second i (core_at around d (moment_in z now))
+      ≡ close_collection (ends_pair z) b.closes (core_at around d (moment_in z now))
 
 abbrev pub square : Brackets
 square = record {
@@ -122,28 +121,26 @@ curly = record {
 }
 
 shuts_square : (around : Around) (z : Context) → is_block z ≡ false → behind_entry z ≡ context.FlowSequence
-    → (second i : ℕ) (d : Bool) (s : Cursor) (k : Option Candidate) (ms : List Level) (a : Bool) (ad : ℕ)
-    → step 93 second i (core_at around d s z k ms a ad)
-    ≡ close_collection (ends_pair z) tokens.FlowSequenceEnd (core_at around d s z k ms a ad)
+    → (second i : ℕ) (d : Bool) (now : FlowMoment) → step 93 second i (core_at around d (moment_in z now))
+    ≡ close_collection (ends_pair z) tokens.FlowSequenceEnd (core_at around d (moment_in z now))
 unfolding step flow.closing_steps
-shuts_square around context.Block e back second i d s k ms a ad = absurd (true≢false e)
-shuts_square around context.FlowSequence e back second i d s k ms a ad = refl
-shuts_square around context.FlowMapping e back second i d s k ms a ad = refl
-shuts_square around context.FlowPair e back second i d s k ms a ad = refl
-shuts_square around context.ExplicitFlowPair e back second i d s k ms a ad = refl
-shuts_square around context.MarkedFlowPair e back second i d s k ms a ad = refl
+shuts_square around context.Block e back second i d now = absurd (true≢false e)
+shuts_square around context.FlowSequence e back second i d now = refl
+shuts_square around context.FlowMapping e back second i d now = refl
+shuts_square around context.FlowPair e back second i d now = refl
+shuts_square around context.ExplicitFlowPair e back second i d now = refl
+shuts_square around context.MarkedFlowPair e back second i d now = refl
 
 shuts_curly : (around : Around) (z : Context) → is_block z ≡ false → behind_entry z ≡ context.FlowMapping
-    → (second i : ℕ) (d : Bool) (s : Cursor) (k : Option Candidate) (ms : List Level) (a : Bool) (ad : ℕ)
-    → step 125 second i (core_at around d s z k ms a ad)
-    ≡ close_collection (ends_pair z) tokens.FlowMappingEnd (core_at around d s z k ms a ad)
+    → (second i : ℕ) (d : Bool) (now : FlowMoment) → step 125 second i (core_at around d (moment_in z now))
+    ≡ close_collection (ends_pair z) tokens.FlowMappingEnd (core_at around d (moment_in z now))
 unfolding step flow.closing_steps
-shuts_curly around context.Block e back second i d s k ms a ad = absurd (true≢false e)
-shuts_curly around context.FlowSequence e back second i d s k ms a ad = absurd (cc)
-shuts_curly around context.FlowMapping e back second i d s k ms a ad = refl
-shuts_curly around context.FlowPair e back second i d s k ms a ad = absurd (cc)
-shuts_curly around context.ExplicitFlowPair e back second i d s k ms a ad = absurd (cc)
-shuts_curly around context.MarkedFlowPair e back second i d s k ms a ad = absurd (cc)
+shuts_curly around context.Block e back second i d now = absurd (true≢false e)
+shuts_curly around context.FlowSequence e back second i d now = absurd (cc)
+shuts_curly around context.FlowMapping e back second i d now = refl
+shuts_curly around context.FlowPair e back second i d now = absurd (cc)
+shuts_curly around context.ExplicitFlowPair e back second i d now = absurd (cc)
+shuts_curly around context.MarkedFlowPair e back second i d now = absurd (cc)
 
 pub are_square : AreBrackets square
 are_square = grind (arith, begins_sequence, shuts_square)

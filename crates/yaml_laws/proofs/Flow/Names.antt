@@ -1,15 +1,15 @@
 -- The anchors, aliases and tags of a text in flow style are passed.
-use Rattle.std.proofs.Common.{◌≡◌, ℕ, ◌≤◌, Bool, true, false, List, [], ◌∷◌, ◌++◌, length, slice_index, refl, sym, ap, ◌∙◌, arith, subst, encode_utf8_all, inl, inr}
-use Rattle.yaml_laws.proofs.Common.{◌==◌, not, Option, None, exclamation_mark, is_break, is_anchor_char, line_feed, Marker, along, mid_line, AreIn, IsAnchorName, IsTagText, EndsTag, IsHandleText, NoBreaks, Context, Kind, alias_token, anchor_token, tag_token, Tag, Handle, handle_text, NonSpecific, Verbatim, Shorthand, Core, from_to, completed_step, Candidate, Level, State, is_block, name_no_break, tag_no_break, IsTag, IsAnchor, IsAlias, cursor_at, no_break_no_feed, saved}
+use Rattle.std.proofs.Common.{◌≡◌, ℕ, ◌+◌, ◌≤◌, Bool, true, false, List, [], ◌∷◌, ◌++◌, length, slice_index, refl, sym, ap, ◌∙◌, arith, subst, encode_utf8_all, inl, inr}
+use Rattle.yaml_laws.proofs.Common.{◌==◌, not, Option, None, exclamation_mark, is_break, is_anchor_char, line_feed, Marker, along, mid_line, AreIn, IsAnchorName, IsTagText, EndsTag, IsHandleText, NoBreaks, Kind, alias_token, anchor_token, tag_token, Tag, Handle, handle_text, NonSpecific, Verbatim, Shorthand, Core, from_to, completed_step, Candidate, State, is_block, name_no_break, tag_no_break, IsTag, IsAnchor, IsAlias, cursor_at, no_break_no_feed}
 use Rattle.saphyr_scanner.specs.Grammar.Tokens as tokens
 use Rattle.saphyr_scanner.specs.Steps.Property as property
 use Rattle.saphyr_scanner.specs.Steps.Property.{read_name, read_tag}
 use Rattle.saphyr_scanner.specs.Steps.Fetch.{step}
-use Rattle.yaml_laws.proofs.InFlow.States.{Around, core_at, Placed, saves_key, FlowMoment, Ready}
+use Rattle.yaml_laws.proofs.InFlow.States.{Around, core_at, Placed, saves_key, FlowMoment, Ready, right_at}
 use Rattle.yaml_laws.proofs.Flow.States.{moved, ReaderPromises, Fits}
 use Rattle.yaml_laws.proofs.Flow.KeyPieces.{fits_reach}
 use Rattle.yaml_laws.proofs.Flow.Places.{moved_along, right_along}
-use Rattle.yaml_laws.proofs.Flow.Tokens.{token_passes, PassesToken}
+use Rattle.yaml_laws.proofs.Flow.Tokens.{passed, token_passes, PassesToken}
 use lib.Utf8.{encode}
 use Rattle.yaml_laws.specs.Grammar.TagSpelling as spelling
 use Rattle.yaml_laws.proofs.Flow.ContentStarts.{is_start, starts, tag_begins}
@@ -69,14 +69,22 @@ PassesName around kind now m t o =
 -- ## Names
 
 pub name_step : ReaderPromises → (around : Around) (d : Bool) (token_of : List ℕ
-    → Kind) (n : ℕ) (m : Marker) (b : Bool) (indicator : ℕ)
+    → Kind) (m : Marker) (b : Bool) (indicator : ℕ)
     (name o : List ℕ) → is_break indicator ≡ false → IsAnchorName name → is_anchor_char (slice_index o 0) ≡ false
-    → (x : Context) (k : Option Candidate) (ls : List Level) (a : Bool) (ad : ℕ) → Placed around x a m
-    → property.name_steps token_of n (core_at around d (cursor_at (indicator ∷ (name ++ o)) m b) x k ls a ad)
+    → (now : FlowMoment) (k : Option Candidate) (a : Bool) → Placed around now.context a m
+    → let here = right_at now (indicator ∷ (name ++ o)) m b k a in
+    property.name_steps token_of (length now.places) (core_at around d here)
     ≡ completed_step (from_to m (moved m (indicator ∷ name)) (token_of (encode_utf8_all name)) ∷ [])
-    (core_at around d (mid_line (moved m (indicator ∷ name)) o) x (saved a n m k) ls false ad)
+    (core_at around d (passed here (mid_line (moved m (indicator ∷ name)) o) false now.adjacent))
 unfolding property.name_steps read_name
-name_step reads around d token_of n m b indicator name o e h ends x k ls a ad placed = grind (arith, saves_key, unbroken_along, name_no_break)
+name_step reads around d token_of m b indicator name o e h ends now k a placed =
+    let here = right_at now (indicator ∷ (name ++ o)) m b k a in
+    let end : along m (1 + length name) ≡ moved m (indicator ∷ name) = grind (arith, unbroken_along, name_no_break) in
+    simp (
+      saves_key (length now.places) around d here placed,
+      reads.anchor here.cursor indicator name o refl h ends,
+      end,
+    )
 
 name_passes : ReaderPromises → (around : Around) (token_of : List ℕ → Kind) (indicator : ℕ) (name t o : List ℕ)
     (m : Marker) → ((second n : ℕ) (c : Core) → step indicator second n c ≡ property.name_steps token_of n c)
@@ -126,19 +134,18 @@ alias_token_passes reads around name t o m h =
 
 -- ## Tags
 
-pub tag_step : ReaderPromises → (around : Around) (d : Bool) (n : ℕ) (m : Marker) (b : Bool)
-    (t handle suffix o : List ℕ)
-    → IsTagText t handle suffix → (x : Context) (k : Option Candidate) (ls : List Level) (a : Bool) (ad : ℕ)
-    → EndsTag (not (is_block x)) o → Placed around x a m
-    → property.tag_steps n (core_at around d (cursor_at (t ++ o) m b) x k ls a ad)
+pub tag_step : ReaderPromises → (around : Around) (d : Bool) (m : Marker) (b : Bool) (t handle suffix o : List ℕ)
+    → IsTagText t handle suffix → (now : FlowMoment) (k : Option Candidate) (a : Bool)
+    → EndsTag (not (is_block now.context)) o → Placed around now.context a m
+    → let here = right_at now (t ++ o) m b k a in property.tag_steps (length now.places) (core_at around d here)
     ≡ completed_step (from_to m (moved m t) (tokens.Tag (encode_utf8_all handle) (encode_utf8_all suffix)) ∷ [])
-    (core_at around d (mid_line (moved m t) o) x (saved a n m k) ls false ad)
+    (core_at around d (passed here (mid_line (moved m t) o) false now.adjacent))
 unfolding property.tag_steps read_tag
-tag_step reads around d n m b t handle suffix o h x k ls a ad ends placed =
-    let s = cursor_at (t ++ o) m b in
+tag_step reads around d m b t handle suffix o h now k a ends placed =
+    let here = right_at now (t ++ o) m b k a in
     cc (
-      saves_key n around d s x k ls a ad placed,
-      reads.tag (not (is_block x)) s t handle suffix o refl h ends,
+      saves_key (length now.places) around d here placed,
+      reads.tag (not (is_block now.context)) here.cursor t handle suffix o refl h ends,
       unbroken_along m t (tag_no_break t handle suffix h),
     )
 
@@ -166,9 +173,9 @@ tag_passes reads around tag t o m h now ends fits from ready =
       allowed = false;
       adjacent = now.adjacent;
       to = λ d. d;
-      is = λ d. let c = core_at around d (cursor_at (t ++ o) m b) now.context j now.outer e now.adjacent in
+      is = λ d. let c = core_at around d (right_at now (t ++ o) m b j e) in
           ap (λ (z : ℕ). step z second n c) at_first ∙ begins_tag second n c
-          ∙ tag_step reads around d n m b t r.handle r.suffix o r.is now.context j now.outer e now.adjacent ends placed;
+          ∙ tag_step reads around d m b t r.handle r.suffix o r.is now j e ends placed;
       fits = refl;
       fresh = λ _ e. e;
       line = λ _ white c cs is are _ low. (

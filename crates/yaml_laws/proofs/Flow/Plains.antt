@@ -1,17 +1,17 @@
 -- The plain scalars of a text in flow style are passed.
-use Rattle.std.proofs.Common.{◌≡◌, ◌≢◌, ℕ, ◌<◌, ◌≤◌, Bool, true, false, List, [], ◌∷◌, ◌++◌, slice_index, Ok, refl, ap, ◌∙◌, arith, append_assoc, IsTrue, ◌⊎◌, inl, inr, encode_utf8_all}
-use Rattle.yaml_laws.proofs.Common.{◌||◌, ◌&&◌, ◌==◌, not, nat_lt, Option, None, nat_tests, normalized, is_blank, is_blank_or_breakz, is_flow, Marker, Cursor, ◌>>=◌, plain_value, AreIn, is_tabbed, past_white, EndsPlain, is_plain_safe, ArePlainSafe, IsPlainText, Context, Kind, scalar_token, Plain, Core, from_to, completed_step, Candidate, Level, State, is_block, along, begins_plain, IsPlain, IsPlainKey, other_than, and_false, cursor_at, ne_eqb, hyphen, question_mark, number_sign, saved}
+use Rattle.std.proofs.Common.{◌≡◌, ◌≢◌, ℕ, ◌<◌, ◌≤◌, Bool, true, false, List, [], ◌∷◌, ◌++◌, length, slice_index, Ok, refl, ap, ◌∙◌, arith, append_assoc, IsTrue, ◌⊎◌, inl, inr, encode_utf8_all}
+use Rattle.yaml_laws.proofs.Common.{◌||◌, ◌&&◌, ◌==◌, not, nat_lt, Option, None, nat_tests, normalized, is_blank, is_blank_or_breakz, is_flow, Marker, Cursor, ◌>>=◌, plain_value, AreIn, is_tabbed, past_white, EndsPlain, is_plain_safe, ArePlainSafe, IsPlainText, Kind, scalar_token, Plain, Core, from_to, completed_step, Candidate, State, is_block, along, begins_plain, IsPlain, IsPlainKey, other_than, and_false, cursor_at, ne_eqb, hyphen, question_mark, number_sign, StepResult}
 use Rattle.saphyr_scalar.specs.Steps.Plain.{PlainScalarRead, comment_of}
 use Rattle.saphyr_scanner.specs.Grammar.Tokens as tokens
 use Rattle.saphyr_scanner.specs.Steps.Scalar as scalar
 use Rattle.saphyr_scanner.specs.Steps.Scalar.{read_plain, disallow_key, behind_plain}
 use Rattle.saphyr_scanner.specs.Steps.Fetch.{step, is_value_adjacent}
-use Rattle.yaml_laws.proofs.InFlow.States.{Around, core_at, Placed, plain_placed, saves_key, FlowMoment, Ready}
+use Rattle.yaml_laws.proofs.InFlow.States.{Around, core_at, Placed, plain_placed, saves_key, FlowMoment, Ready, noted_core, right_at, with_key_saved}
 use Rattle.yaml_laws.proofs.InFlow.OnLine.{plain_lowers, plain_key_lowers}
 use Rattle.yaml_laws.proofs.Flow.States.{moved, past, IsClear, IsContentStart, ReaderPromises, Fits, PassesNoting, keeping}
 use Rattle.yaml_laws.proofs.Flow.KeyPieces.{fits_clear, fits_reach}
 use Rattle.yaml_laws.proofs.Flow.Fillers.{blanks_past, white_past}
-use Rattle.yaml_laws.proofs.Flow.Tokens.{adjacent_at, token_passes, after_token}
+use Rattle.yaml_laws.proofs.Flow.Tokens.{adjacent_at, passed, token_passes, after_token}
 use Rattle.yaml_laws.proofs.Flow.ContentStarts.{Begins}
 use Rattle.yaml_laws.proofs.Flow.WordGaps.{passed_moved, normalized_same}
 use Rattle.yaml_laws.proofs.Flow.Words.{safe_other, no_breakz_no_break, colon_is_safe, plain_text, key_text, plain_right, key_right}
@@ -159,47 +159,53 @@ found indent f o end v = Ok (
       false o,
 )
 
-plain_read : ReaderPromises → (around : Around) (d : Bool) (n : ℕ) (m : Marker) (b : Bool) (t o : List ℕ) (x : Context)
-    → IsPlainText (not (is_block x)) around.column m t o → IsClear m t o
-    → (k : Option Candidate) (ls : List Level) (a : Bool) (ad : ℕ) → Placed around x a m
-    → let u = past_white (moved m t) false o in scalar.plain_steps n
-    (core_at around d (cursor_at (t ++ o) m b) x k ls a ad)
-    ≡ completed_step (from_to m (moved m t) (plain_token t) ∷ [])
-    (record (core_at around false u x (saved a n m k) ls u.blank_so_far ad)
-    { comment = comment_of (not (is_block x)) (is_tabbed around.column o) u })
+-- what a plain scalar t at m, which is at a moment, gives before o
+abbrev pub plain_gives : Around → FlowMoment → Marker → List ℕ → List ℕ → StepResult
+plain_gives around here m t o =
+    let u = past_white (moved m t) false o in
+    completed_step (from_to m (moved m t) (plain_token t) ∷ []) (noted_core
+    (comment_of (not (is_block here.context)) (is_tabbed around.column o) u)
+    (core_at around false (passed here u u.blank_so_far here.adjacent)))
+
+plain_read : ReaderPromises → (around : Around) (d : Bool) (m : Marker) (b : Bool) (t o : List ℕ)
+    (now : FlowMoment) (k : Option Candidate) (a : Bool) → IsPlainText (not (is_block now.context)) around.column m t o
+    → IsClear m t o → Placed around now.context a m → let here = right_at now (t ++ o) m b k a in
+    scalar.plain_steps (length now.places) (core_at around d here) ≡ plain_gives around here m t o
 unfolding scalar.plain_steps read_plain
-plain_read reads around d n m b t o x h clear k ls a ad placed =
-    let s = cursor_at (t ++ o) m b in
-    let f = not (is_block x) in
-    let c = core_at around false s x (saved a n m k) ls false ad in
+plain_read reads around d m b t o now k a h clear placed =
+    let here = right_at now (t ++ o) m b k a in
+    let s = here.cursor in
+    let f = not (is_block now.context) in
+    let c = core_at around false (record (with_key_saved (length now.places) here) { allowed = false }) in
     let token = λ (z : List ℕ × Marker × Option Marker × Cursor). completed_step
     (from_to m z.1 (tokens.Scalar Plain z.0) ∷ []) (behind_plain z.2 z.3 c) in
-    let refused : (f && nat_lt m.col around.column) ≡ false = plain_placed around x a m placed in
+    let refused : (f && nat_lt m.col around.column) ≡ false = plain_placed around now.context a m placed in
     let got = reads.plain f around.column s t o refl h
     ∙ ap (λ (end : Marker). found around.column f o end (normalized t)) (passed_moved m t clear.no_return)
     ∙ ap (found around.column f o (moved m t)) (normalized_same t clear.no_return) in
     ap (λ (q : Core). read_plain (record (disallow_key q) { deeper = false }))
-    (saves_key n around d s x k ls a ad placed) ∙ rw refused (ap (λ q. q >>= token) got)
+    (saves_key (length now.places) around d here placed) ∙ rw refused (ap (λ q. q >>= token) got)
 
 -- ## The step
 
 -- no other token begins where a plain scalar does
-pub plain_dispatches : (around : Around) (d : Bool) (s : Cursor) (n : ℕ) (t o : List ℕ) (x : Context)
-    → BeginsWord (not (is_block x)) t o → (k : Option Candidate) (ls : List Level) (a : Bool) (ad : ℕ)
-    → (is_block x ≡ true) ⊎ (ad < s.mark.index)
-    → step (slice_index (t ++ o) 0) (slice_index (t ++ o) 1) n (core_at around d s x k ls a ad)
-    ≡ scalar.plain_steps n (core_at around d s x k ls a ad)
-plain_dispatches around d s n t o x w k ls a ad low =
-    let f = not (is_block x) in
+pub plain_dispatches : (around : Around) (d : Bool) (n : ℕ) (t o : List ℕ) (now : FlowMoment)
+    → BeginsWord (not (is_block now.context)) t o
+    → (is_block now.context ≡ true) ⊎ (now.adjacent < now.cursor.mark.index)
+    → step (slice_index (t ++ o) 0) (slice_index (t ++ o) 1) n (core_at around d now)
+    ≡ scalar.plain_steps n (core_at around d now)
+plain_dispatches around d n t o now w low =
+    let f = not (is_block now.context) in
     let first = slice_index (t ++ o) 0 in
     let second = slice_index (t ++ o) 1 in
     let at_first : first ≡ w.first = cc in
     let at_second : (first ≡ 45) ⊎ ((first ≡ 63) ⊎ (first ≡ 58)) → IsTrue (is_plain_safe f second) =
     λ e. second_safe f t o w (rw at_first at e) in
-    plain_begins first second n (core_at around d s x k ls a ad) (rw at_first w.begins)
+    plain_begins first second n (core_at around d now) (rw at_first w.begins)
     (lone_test f first 45 second (λ e. at_second (inl e))) (lone_test f first 63 second (λ e. at_second (inr (inl e))))
     (lone_test f first 58 second (λ e. at_second (inr (inr e))))
-    (value_test (is_block x) first second s.mark.index ad (λ e. at_second (inr (inr e))) low)
+    (value_test (is_block now.context) first second now.cursor.mark.index now.adjacent (λ e. at_second (inr (inr e)))
+    low)
   where
     second_safe : (f : Bool) (t o : List ℕ) (w : BeginsWord f t o)
         → (w.first ≡ hyphen) ⊎ ((w.first ≡ question_mark) ⊎ (w.first ≡ 58))
@@ -207,17 +213,17 @@ plain_dispatches around d s n t o x w k ls a ad low =
     second_safe f t o w e = rw w.is (w.further e)
 
 -- The premises of a step over a plain scalar: outside flow, or where no colon may come at once.
-pub plain_step : ReaderPromises → (around : Around) (d : Bool) (n : ℕ) (m : Marker) (b : Bool) (t o : List ℕ)
-    (x : Context)
-    → BeginsWord (not (is_block x)) t o → IsPlainText (not (is_block x)) around.column m t o → IsClear m t o
-    → (k : Option Candidate) (ls : List Level) (a : Bool) (ad : ℕ) → (is_block x ≡ true) ⊎ (ad < m.index)
-    → Placed around x a m → let u = past_white (moved m t) false o in
-    step (slice_index (t ++ o) 0) (slice_index (t ++ o) 1) n (core_at around d (cursor_at (t ++ o) m b) x k ls a ad)
-    ≡ completed_step (from_to m (moved m t) (plain_token t) ∷ [])
-    (record (core_at around false u x (saved a n m k) ls u.blank_so_far ad)
-    { comment = comment_of (not (is_block x)) (is_tabbed around.column o) u })
-plain_step reads around d n m b t o x begins text clear k ls a ad low placed =
-    grind (arith, plain_dispatches, cursor_at, plain_read)
+pub plain_step : ReaderPromises → (around : Around) (d : Bool) (m : Marker) (b : Bool) (t o : List ℕ)
+    (now : FlowMoment) (k : Option Candidate) (a : Bool) → BeginsWord (not (is_block now.context)) t o
+    → IsPlainText (not (is_block now.context)) around.column m t o → IsClear m t o
+    → (is_block now.context ≡ true) ⊎ (now.adjacent < m.index) → Placed around now.context a m
+    → let here = right_at now (t ++ o) m b k a in
+    step (slice_index (t ++ o) 0) (slice_index (t ++ o) 1) (length now.places) (core_at around d here)
+    ≡ plain_gives around here m t o
+plain_step reads around d m b t o now k a begins text clear low placed =
+    let here = right_at now (t ++ o) m b k a in
+    plain_dispatches around d (length now.places) t o here begins low
+    ∙ plain_read reads around d m b t o now k a text clear placed
 
 -- ## The scalar is passed
 
@@ -270,7 +276,7 @@ text_passes reads around t o m now begins plain fits ends past_blanks low from r
       allowed = u.blank_so_far;
       adjacent = now.adjacent;
       to = λ d. false;
-      is = grind (arith, plain_step);
+      is = λ d. plain_step reads around d m b t o now j e begins is.0 clear low placed;
       fits = white_past around.indent (moved m t) false o past_blanks;
       fresh = λ _ e. white_crosses (moved m t) false o e;
       line = λ _ white c cs is are content right. let there = ap (past_white (moved m t) false) is

@@ -1,19 +1,19 @@
 -- The quoted scalars of a text in flow style are passed.
 use Rattle.std.proofs.Common.{◌≡◌, ℕ, ◌≤◌, Bool, true, false, List, [], ◌∷◌, ◌++◌, length, slice_index, Ok, refl, sym, ap, ◌∙◌, subst, encode_utf8_all, ◌⊎◌, inl, inr, arith}
-use Rattle.yaml_laws.proofs.Common.{colon, eq-eqb, ◌||◌, ◌==◌, Option, None, is_blank, is_break, is_breakz, SkipTabs, Yes, Marker, Quote, Single, Double, Cursor, separation, mark, mid_line, Context, scalar_token, Style, Node, from_to, completed_step, AreIn, Candidate, Level, State, is_block, IsQuoted, or_left, apostrophe, cursor_at, clash, saved}
+use Rattle.yaml_laws.proofs.Common.{colon, eq-eqb, ◌||◌, ◌==◌, Option, None, is_blank, is_break, is_breakz, SkipTabs, Yes, Marker, Quote, Single, Double, Cursor, separation, mark, mid_line, Context, scalar_token, Style, Node, from_to, completed_step, AreIn, Candidate, State, is_block, IsQuoted, or_left, apostrophe, cursor_at, clash}
 use Rattle.saphyr_scanner.specs.declared.engine.level.Context.TheVariants as context
 use Rattle.saphyr_scanner.specs.Grammar.Tokens as tokens
 use Rattle.saphyr_scanner.specs.Steps.Scalar as scalar
 use Rattle.saphyr_scanner.specs.Steps.Scalar.{quote_style, behind_quotes, goes_on_behind_quotes}
 use Rattle.saphyr_scanner.specs.Steps.Fetch.{step}
-use Rattle.yaml_laws.proofs.InFlow.States.{Around, core_at, reach, reach_low, Placed, saves_key, FlowMoment, Ready}
+use Rattle.yaml_laws.proofs.InFlow.States.{Around, at_cursor, core_at, reach, reach_low, Placed, saves_key, FlowMoment, Ready, right_at}
 use Rattle.yaml_laws.proofs.InFlow.Tabs.{lands_on_content}
 use Rattle.yaml_laws.proofs.Flow.States.{moved, past, crosses, IsClear, IsContentStart, EndsNode, Fits, IsBehindNode, IsBehindRoot, ReaderPromises}
 use Rattle.yaml_laws.proofs.Flow.KeyPieces.{blanks_lands, fits_clear, fits_reach}
 use Rattle.yaml_laws.proofs.Flow.GapSteps.{past_again, past_content}
 use Rattle.yaml_laws.proofs.InBlock.Skips.{blanks_cross}
 use Rattle.yaml_laws.proofs.Flow.Fillers.{EndsLine, blanks_past, rest_past, separation_past}
-use Rattle.yaml_laws.proofs.Flow.Tokens.{PassesGap, passes_gap, adjacent_at, token_passes, PassesToken}
+use Rattle.yaml_laws.proofs.Flow.Tokens.{PassesGap, passes_gap, adjacent_at, passed, token_passes, PassesToken}
 use Rattle.yaml_laws.proofs.Flow.Separates.{blanks_moved, blanks_separated, separates, separates_rest}
 use Rattle.yaml_laws.proofs.InFlow.OnLine.{separation_of_blanks}
 use Rattle.yaml_laws.proofs.Flow.Quoted.{quoted_read, quoted_right}
@@ -30,8 +30,8 @@ pub record EndsQuotes (around : Around) (start : Marker) (s : Cursor) (x : Conte
   pub lands : past around.indent there.mark there.rest ≡ past around.indent s.mark s.rest
   pub past_blanks : is_blank (slice_index (past around.indent s.mark s.rest).1 0) ≡ false
   pub stays : is_block x ≡ true → crosses s.rest ≡ true → crosses there.rest ≡ true
-  pub goes : (d : Bool) (k : Option Candidate) (ls : List Level) (a : Bool) (ad : ℕ)
-      → goes_on_behind_quotes start (core_at around d there x k ls a ad) ≡ true
+  pub goes : (d : Bool) (now : FlowMoment) → now.context ≡ x
+      → goes_on_behind_quotes start (core_at around d (at_cursor there now)) ≡ true
 
 abbrev ends_entry : ℕ → Bool
 ends_entry c = is_breakz c || (c == 58) || (c == 44) || (c == 93) || (c == 125)
@@ -39,17 +39,15 @@ ends_entry c = is_breakz c || (c == 58) || (c == 44) || (c == 93) || (c == 125)
 break_entry : (c : ℕ) → is_break c ≡ true → ends_entry c ≡ true
 break_entry c e = rw e refl
 
-goes_in_flow : (around : Around) (d : Bool) (start : Marker) (s : Cursor) (x : Context) (k : Option Candidate)
-    (ls : List Level) (a : Bool) (ad : ℕ) → is_block x ≡ false → ends_entry (slice_index s.rest 0) ≡ true
-    → goes_on_behind_quotes start (core_at around d s x k ls a ad) ≡ true
+goes_in_flow : (around : Around) (d : Bool) (start : Marker) (now : FlowMoment) → is_block now.context ≡ false
+    → ends_entry (slice_index now.cursor.rest 0) ≡ true → goes_on_behind_quotes start (core_at around d now) ≡ true
 unfolding goes_on_behind_quotes
-goes_in_flow around d start s x k ls a ad flow e = rw (flow, e) refl
+goes_in_flow around d start now flow e = rw (flow, e) refl
 
-goes_at_root : (around : Around) (d : Bool) (start : Marker) (s : Cursor) (k : Option Candidate) (ls : List Level)
-    (a : Bool) (ad : ℕ) → is_breakz (slice_index s.rest 0) ≡ true
-    → goes_on_behind_quotes start (core_at around d s context.Block k ls a ad) ≡ true
+goes_at_root : (around : Around) (d : Bool) (start : Marker) (now : FlowMoment) → now.context ≡ context.Block
+    → is_breakz (slice_index now.cursor.rest 0) ≡ true → goes_on_behind_quotes start (core_at around d now) ≡ true
 unfolding goes_on_behind_quotes
-goes_at_root around d start s k ls a ad e = or_left (is_breakz (slice_index s.rest 0)) _ e
+goes_at_root around d start now block e = rw block (or_left (is_breakz (slice_index now.cursor.rest 0)) _ e)
 
 pub ends_node_content : (node : Node) (w others : List ℕ) (c : ℕ) → EndsNode node w c others → IsContentStart c
     × (ends_entry c ≡ true)
@@ -81,7 +79,8 @@ flow_ends_quotes around node start m o x flow h right =
       lands = p.lands;
       past_blanks = simp (reached, content.0.blank);
       stays = λ b _. absurd (clash (is_block x) b flow);
-      goes = λ d k ls a ad. goes_in_flow around d start p.there x k ls a ad flow (first p.there.rest content.1 p.ends);
+      goes = λ d now same. goes_in_flow around d start (at_cursor p.there now) (ap is_block same ∙ flow)
+          (first p.there.rest content.1 p.ends);
     }
   where
     first : (rest : List ℕ) → ends_entry h.first ≡ true
@@ -102,18 +101,18 @@ root_ends_quotes around start m o h right =
       past_blanks = lands_on_content around.column (past around.indent m o).0 (past around.indent m o).1
           (h.lands right);
       stays = λ _ e. line_rest_crosses h.rest h.more h.line h.break (ap crosses (sym h.is) ∙ e);
-      goes = λ d k ls a ad. goes_at_root around d start there k ls a ad (first h.more h.break);
+      goes = λ d now same. goes_at_root around d start (at_cursor there now) same (first h.more h.break);
     }
   where
     first : (more : List ℕ) → EndsLine more → is_breakz (slice_index more 0) ≡ true
     first more (inl e) = rw e refl
     first more (inr e) = rw e refl
 
-goes_before_colon : (around : Around) (d : Bool) (start : Marker) (s : Cursor) (r : List ℕ) (k : Option Candidate)
-    (ls : List Level) (a : Bool) (ad : ℕ) → s.rest ≡ colon ∷ r → start.line ≡ s.mark.line
-    → goes_on_behind_quotes start (core_at around d s context.Block k ls a ad) ≡ true
+goes_before_colon : (around : Around) (d : Bool) (start : Marker) (now : FlowMoment) (r : List ℕ)
+    → now.context ≡ context.Block → now.cursor.rest ≡ colon ∷ r → start.line ≡ now.cursor.mark.line
+    → goes_on_behind_quotes start (core_at around d now) ≡ true
 unfolding goes_on_behind_quotes
-goes_before_colon around d start s r k ls a ad is e = rw (is, eq-eqb start.line s.mark.line e) refl
+goes_before_colon around d start now r block is e = rw (block, is, eq-eqb start.line now.cursor.mark.line e) refl
 
 pub key_ends_quotes : (around : Around) (start m : Marker) (o w r : List ℕ) → o ≡ w ++ (colon ∷ r) → AreIn is_blank w
     → around.indent ≤ m.col → start.line ≡ m.line → EndsQuotes around start (mid_line m o) context.Block
@@ -129,45 +128,44 @@ key_ends_quotes around start m o w r is are right line =
       lands = p.lands;
       past_blanks = ap (λ (z : Marker × List ℕ). is_blank (slice_index z.1 0)) lands;
       stays = λ _ e. absurd (clash (crosses o) e (ap crosses is ∙ blanks_cross w (58 ∷ r) are));
-      goes = λ d k ls a ad. goes_before_colon around d start p.there r k ls a ad near.0
+      goes = λ d now same. goes_before_colon around d start (at_cursor p.there now) r same near.0
           (line ∙ sym (ap (λ (n : Marker). n.line) (near.1 ∙ blanks_moved m w are)));
     }
 
-pub behind_step : (around : Around) (d : Bool) (start : Marker) (style : Style) (text : List ℕ) (s : Cursor)
-    (x : Context) (k : Option Candidate) (ls : List Level) (ad : ℕ) (m : Marker) (y : List ℕ)
-    (p : EndsQuotes around start s x)
-    (g : PassesGap around p.there x k ls false ad m y)
-    → behind_quotes start style text (core_at around d s x k ls false ad)
+pub behind_step : (around : Around) (d : Bool) (start : Marker) (style : Style) (text : List ℕ) (now : FlowMoment)
+    (m : Marker) (y : List ℕ) (p : EndsQuotes around start now.cursor now.context)
+    (g : PassesGap around (at_cursor p.there now) m y)
+    → behind_quotes start style text (core_at around d now)
     ≡ completed_step (from_to start p.there.mark (tokens.Scalar style text) ∷ [])
-    (core_at around d (cursor_at y m g.blank) x k ls g.allowed m.index)
+    (core_at around d (record now { cursor = cursor_at y m g.blank; allowed = g.allowed; adjacent = m.index }))
 unfolding behind_quotes
-behind_step around d start style text s x k ls ad m y p g = grind arith
+behind_step around d start style text now m y p g = grind arith
 
 -- ## The scalar
 
-pub quoted_step : ReaderPromises → (around : Around) (d : Bool) (quote : Quote) (n : ℕ) (m : Marker) (b : Bool)
+pub quoted_step : ReaderPromises → (around : Around) (d : Bool) (quote : Quote) (m : Marker) (b : Bool)
     (value t o : List ℕ) → IsQuoted quote around.indent value t → IsClear m t o
-    → (slice_index o 0 == apostrophe) ≡ false
-    → (x : Context) (k : Option Candidate) (ls : List Level) (a : Bool) (ad : ℕ) (c : ℕ) → c ≡ mark quote
-    → Placed around x a m → step c (slice_index (t ++ o) 1) n (core_at around d (cursor_at (t ++ o) m b) x k ls a ad)
+    → (slice_index o 0 == apostrophe) ≡ false → (now : FlowMoment) (k : Option Candidate) (a : Bool) (c : ℕ)
+    → c ≡ mark quote → Placed around now.context a m → let here = right_at now (t ++ o) m b k a in
+    step c (slice_index (t ++ o) 1) (length now.places) (core_at around d here)
     ≡ behind_quotes m (quote_style quote) (encode_utf8_all value)
-    (core_at around d (mid_line (moved m t) o) x (saved a n m k) ls false ad)
+    (core_at around d (passed here (mid_line (moved m t) o) false now.adjacent))
 unfolding step scalar.quoted_steps
-quoted_step reads around d Single n m b value t o h clear ends x k ls a ad c first placed =
-    let s = cursor_at (t ++ o) m b in
-    let inner = core_at around d s x (saved a n m k) ls false ad in
+quoted_step reads around d Single m b value t o h clear ends now k a c first placed =
+    let here = right_at now (t ++ o) m b k a in
     simp (
       first,
-      saves_key n around d s x k ls a ad placed,
-      quoted_read reads (reach around d) around.indent (reach_low around d) Single s value t o refl h clear ends,
+      saves_key (length now.places) around d here placed,
+      quoted_read reads (reach around d) around.indent (reach_low around d) Single here.cursor value t o refl h clear
+          ends,
     )
-quoted_step reads around d Double n m b value t o h clear ends x k ls a ad c first placed =
-    let s = cursor_at (t ++ o) m b in
-    let inner = core_at around d s x (saved a n m k) ls false ad in
+quoted_step reads around d Double m b value t o h clear ends now k a c first placed =
+    let here = right_at now (t ++ o) m b k a in
     simp (
       first,
-      saves_key n around d s x k ls a ad placed,
-      quoted_read reads (reach around d) around.indent (reach_low around d) Double s value t o refl h clear ends,
+      saves_key (length now.places) around d here placed,
+      quoted_read reads (reach around d) around.indent (reach_low around d) Double here.cursor value t o refl h clear
+          ends,
     )
 
 pub quote_first : (quote : Quote) (inside : List ℕ) → Begins (mark quote ∷ inside)
@@ -184,28 +182,26 @@ quoted_passes reads around quote value t o m h now fits apart p from ready =
     let first = subst Begins (sym h.5) (quote_first quote h.0) in
     let at_first : slice_index (t ++ o) 0 ≡ mark quote = simp h.5 in
     let behind = past around.indent (moved m t) o in
-    let place = length now.places in
     let clear = fits_clear fits in
     let right = fits_reach m t o first (quoted_right around.indent quote m value t o h clear) fits in
     token_passes around None (adjacent_at behind.0.index) (scalar_token (quote_style quote) value) t o m now fits right
-    from ready (λ b j e placed. let g = passes_gap around p.there now.context (saved e place m j) now.outer false
-    now.adjacent behind.0 behind.1 p.lands p.past_blanks in
+    from ready (λ b j e placed. let read = passed (right_at now (t ++ o) m b j e) (mid_line (moved m t) o) false
+    now.adjacent in
+    let g = passes_gap around (at_cursor p.there read) behind.0 behind.1 p.lands p.past_blanks in
     record {
       there = cursor_at behind.1 behind.0 g.blank;
       end = p.there.mark;
       allowed = g.allowed;
       adjacent = behind.0.index;
       to = λ d. d;
-      is = λ d. quoted_step reads around d quote place m b value t o h clear apart now.context j now.outer e
-          now.adjacent (slice_index (t ++ o) 0) at_first placed
-          ∙ behind_step around d m (quote_style quote) (encode_utf8_all value) (mid_line (moved m t) o) now.context
-          (saved e place m j) now.outer now.adjacent behind.0 behind.1 p g;
+      is = λ d. quoted_step reads around d quote m b value t o h clear apart now j e (slice_index (t ++ o) 0) at_first
+          placed ∙ behind_step around d m (quote_style quote) (encode_utf8_all value) read behind.0 behind.1 p g;
       fits = past_again around.indent (moved m t) o;
       fresh = λ b e. or_left g.allowed (crosses behind.1) (g.fresh b (p.stays b e));
       line = λ block white c cs is are content right.
           let lands = blanks_lands around.indent (moved m t) o white c cs is are content right in
-          let near = blanks_separated around.indent (mid_line (moved m t) o) p.found p.there p.is white c cs is are right
-          content in (
+          let near = blanks_separated around.indent (mid_line (moved m t) o) p.found p.there p.is white c cs is are
+          right content in (
             g.still (ap crosses near.0 ∙ content_uncrossed c cs content),
             record {
               white = [];

@@ -1,8 +1,8 @@
 -- The next token of a text in flow style is reached, and read and passed by a step.
 use Rattle.std.proofs.Common.{◌≡◌, ◌⊎◌, inl, inr, ℕ, ◌≤◌, Bool, true, false, List, [], ◌∷◌, ◌++◌, length, slice_index, refl, sym, ap, ◌∙◌, arith, ◌+◌, Ok}
-use Rattle.yaml_laws.proofs.Common.{◌==◌, Option, None, Some, ◌||◌, ◌&&◌, AreIn, is_too_far, clash, percent_sign, is_blank, is_z, is_bom, Marker, Cursor, ◌>>=◌, Context, Kind, Piece, Place, bare_place, Queue, from_to, completed_step, Action, perform, Candidate, Level, is_block, cursor_at, token_place, queue_of, saved, zero-add, is_document_indicator, State, after_step, and_false, and_or_false, stop_here}
+use Rattle.yaml_laws.proofs.Common.{◌==◌, Option, None, Some, ◌||◌, ◌&&◌, AreIn, is_too_far, clash, percent_sign, is_blank, is_z, is_bom, Marker, Cursor, ◌>>=◌, Context, Kind, Piece, Place, bare_place, Queue, from_to, completed_step, Action, perform, Candidate, is_block, token_place, queue_of, saved, zero-add, is_document_indicator, State, after_step, and_false, and_or_false, stop_here}
 use Rattle.saphyr_scanner.specs.Steps.Fetch.{step, state_behind_content, fetch_here, arrive, fetch}
-use Rattle.yaml_laws.proofs.InFlow.States.{Around, Kept, Placed, core_at, state_at, FlowMoment, moment, noted_core, noted, reach, reach_low, in_column, inside, behind_key, kept_inside, kept_near, left_near, not_left, placed_right, drops_far_key, key_left, left_in_flow, left_or_none, none_unrolls, unrequired, ComesAround, comes, Ready}
+use Rattle.yaml_laws.proofs.InFlow.States.{Around, Kept, Placed, arrived, core_at, state_at, FlowMoment, moment_with, noted_core, noted, reach, reach_low, in_column, inside, behind_key, kept_inside, kept_near, left_near, not_left, placed_right, drops_far_key, key_left, left_in_flow, left_or_none, none_unrolls, unrequired, ComesAround, comes, Ready, right_at, with_key_saved}
 use Rattle.yaml_laws.proofs.Flow.States.{moved, past, IsClear, IsContentStart, IsFresh, Since, KeptKey, keeping, Known, PassesNoting, PassesPiece, Fits, fits_free, fits_key, FitsAround, Holds, IsBehindBlanks, StandsBefore, crosses}
 use Rattle.yaml_laws.proofs.Flow.KeyPieces.{begin_near, fits_below, held_behind, unheld_so}
 use Rattle.yaml_laws.proofs.InBlock.Skips.{blanks_cross}
@@ -13,21 +13,23 @@ use Rattle.saphyr_scanner.specs.Steps.Passing.{pass_gap, check_comment}
 use Rattle.yaml_laws.proofs.InBlock.Untabbed.{gap_past}
 
 -- What is between two tokens is passed, up to the place m, where y is.
-pub record PassesGap (around : Around) (s : Cursor) (x : Context) (k : Option Candidate) (ls : List Level) (a : Bool)
-    (ad : ℕ) (m : Marker) (y : List ℕ) : Type 0 where
+pub record PassesGap (around : Around) (now : FlowMoment) (m : Marker) (y : List ℕ) : Type 0 where
   pub blank : Bool
   pub allowed : Bool
-  pub is : (d : Bool) → pass_gap (core_at around d s x k ls a ad)
-      ≡ Ok (core_at around d (cursor_at y m blank) x k ls allowed ad)
-  pub same : is_block x ≡ false → allowed ≡ a
-  pub fresh : is_block x ≡ true → crosses s.rest ≡ true → allowed ≡ true
-  pub still : crosses s.rest ≡ false → allowed ≡ a
+  pub is : (d : Bool) → pass_gap (core_at around d now)
+      ≡ Ok (core_at around d (right_at now y m blank now.key allowed))
+  pub same : is_block now.context ≡ false → allowed ≡ now.allowed
+  pub fresh : is_block now.context ≡ true → crosses now.cursor.rest ≡ true → allowed ≡ true
+  pub still : crosses now.cursor.rest ≡ false → allowed ≡ now.allowed
 
-pub passes_gap : (around : Around) (s : Cursor) (x : Context) (k : Option Candidate) (ls : List Level) (a : Bool)
-    (ad : ℕ) (m : Marker) (y : List ℕ) → past around.indent s.mark s.rest ≡ (m, y)
-    → is_blank (slice_index y 0) ≡ false → PassesGap around s x k ls a ad m y
+pub passes_gap : (around : Around) (now : FlowMoment) (m : Marker) (y : List ℕ)
+    → past around.indent now.cursor.mark now.cursor.rest ≡ (m, y) → is_blank (slice_index y 0) ≡ false
+    → PassesGap around now m y
 unfolding pass_gap check_comment
-passes_gap around s x k ls a ad m y here past_blanks =
+passes_gap around now m y here past_blanks =
+    let s = now.cursor in
+    let x = now.context in
+    let a = now.allowed in
     let g = gap_past around.indent s.mark s.blank_so_far s.rest in
     let stands = ap (λ (p : Marker × List ℕ). is_blank (slice_index p.1 0)) here ∙ past_blanks in
     record {
@@ -45,7 +47,7 @@ pub record Arrives (around : Around) (now : FlowMoment) (m : Marker) (y : List �
   pub key : Option Candidate
   pub allowed : Bool
   pub is : (d : Bool) → arrive (state_at around now d)
-      ≡ Ok (state_at around (record now { cursor = cursor_at y m blank; key = key; allowed = allowed }) d)
+      ≡ Ok (state_at around (right_at now y m blank key allowed) d)
   pub same : is_block now.context ≡ false → (key ≡ now.key) × (allowed ≡ now.allowed)
   pub kept : (key ≡ None) ⊎ (key ≡ now.key)
   pub stays : is_too_far now.key m ≡ false → key ≡ now.key
@@ -56,14 +58,17 @@ arrives_at : (around : Around) (now : FlowMoment) (m : Marker) (y : List ℕ) �
     → Kept around now.context now.key m → Arrives around now m y
 unfolding arrive
 arrives_at around now m y text past_blanks right kept =
-    let g = passes_gap around now.cursor now.context now.key now.outer now.allowed now.adjacent m y text past_blanks in
-    let there = cursor_at y m g.blank in
+    let g = passes_gap around now m y text past_blanks in
     let left = key_left now.context now.key m in
     record {
       blank = g.blank;
       key = left;
       allowed = g.allowed;
-      is = grind (arith, drops_far_key, queue_of, none_unrolls);
+      is = λ d. cc (
+        g.is d,
+        drops_far_key around None d (right_at now y m g.blank now.key g.allowed) kept,
+        none_unrolls around m.col m (right_at now y m g.blank left g.allowed) d right,
+      );
       same = λ e. (left_in_flow now.context now.key m e, g.same e);
       kept = left_or_none now.context now.key m;
       stays = left_near now.context now.key m;
@@ -90,21 +95,16 @@ token_ready : (around : Around) (now : FlowMoment) (m : Marker) (y : List ℕ) �
     → (v.key ≡ Some k) × (v.allowed ≡ false)) → Ready around (state_at around now) now m y
 unfolding fetch state_behind_content
 token_ready around now m y v h right placed holds =
-    let seen = cursor_at y m v.blank in
+    let seen = right_at now y m v.blank v.key v.allowed in
     record {
       blank = v.blank;
       key = v.key;
       allowed = v.allowed;
       to = λ d. d;
       running = λ d. refl;
-      fetches = λ d. let c = core_at around d seen now.context v.key now.outer v.allowed now.adjacent in
-          ap (λ r. r >>= fetch_here) (v.is d) ∙ begins_here around d (record now {
-            cursor = seen;
-            key = v.key;
-            allowed = v.allowed;
-          }) h right
-          ∙ ap (λ (n : ℕ). after_step (step (slice_index y 0) (slice_index y 1) n c) (queue_of now.places))
-          (zero-add (length now.places));
+      fetches = λ d. ap (λ r. r >>= fetch_here) (v.is d) ∙ begins_here around d seen h right
+          ∙ ap (λ (n : ℕ). after_step (step (slice_index y 0) (slice_index y 1) n (core_at around d seen))
+          (queue_of now.places)) (zero-add (length now.places));
       placed = placed;
       same = v.same;
       kept = v.kept;
@@ -124,10 +124,8 @@ arrives around now m y text past_blanks begins flow right =
 pub step_comes : (around : Around) (start : Bool → State) (now : FlowMoment) (m : Marker) (y : List ℕ)
     (v : Ready around start now m y) → (comment : Option Marker) (next : FlowMoment) (actions : List Action)
     (to : Bool → Bool)
-    → ((d : Bool) → step (slice_index y 0) (slice_index y 1) (length now.places)
-    (core_at around d (cursor_at y m v.blank) now.context v.key now.outer v.allowed now.adjacent)
-    ≡ completed_step actions (noted_core comment
-    (core_at around (to d) next.cursor next.context next.key next.outer next.allowed next.adjacent)))
+    → ((d : Bool) → step (slice_index y 0) (slice_index y 1) (length now.places) (core_at around d (arrived v))
+    ≡ completed_step actions (noted_core comment (core_at around (to d) next)))
     → perform actions (queue_of now.places) ≡ queue_of next.places → next.cursor.mark.index ≤ around.limit
     → Kept around next.context next.key next.cursor.mark → ComesAround around start comment next
 step_comes around start now m y v comment next actions to is done low kept =
@@ -157,22 +155,26 @@ begins_token m p o b clear =
     record { nul = b.nul; byte_order_mark = b.content.byte_order_mark; directive = b.directive; marker = here } in
     rw (ap (λ (t : List ℕ). t ++ o) b.is) token
 
--- A step over a token that is at m: y is what is there, and after the token o is at n. A comment may have ended it.
--- `says` tells whether a key may begin after it, and where a colon may come at once.
-pub record TokenStep (around : Around) (comment : Option Marker) (says : Bool → ℕ → Type 0) (kind : Kind) (y : List ℕ)
-    (m n : Marker) (o : List ℕ) (x : Context) (ls : List Level) (ad place : ℕ) (b : Bool) (j : Option Candidate)
-    (e : Bool) : Type 0 where
+-- the moment after a token that the scanner is at now
+abbrev pub passed : FlowMoment → Cursor → Bool → ℕ → FlowMoment
+passed now there allowed adjacent =
+    record (with_key_saved (length now.places) now) { cursor = there; allowed = allowed; adjacent = adjacent }
+
+-- A step over the token that the scanner is at now: after the token o is at n. A comment may have ended it. `says`
+-- tells whether a key may begin after it, and where a colon may come at once.
+pub record TokenStep (around : Around) (comment : Option Marker) (says : Bool → ℕ → Type 0) (kind : Kind)
+    (n : Marker) (o : List ℕ) (now : FlowMoment) : Type 0 where
   pub there : Cursor
   pub end : Marker
   pub allowed : Bool
   pub adjacent : ℕ
   pub to : Bool → Bool
-  pub is : (d : Bool) → step (slice_index y 0) (slice_index y 1) place (core_at around d (cursor_at y m b) x j ls e ad)
-      ≡ completed_step (from_to m end kind ∷ [])
-      (noted_core comment (core_at around (to d) there x (saved e place m j) ls allowed adjacent))
+  pub is : (d : Bool) → step (slice_index now.cursor.rest 0) (slice_index now.cursor.rest 1) (length now.places)
+      (core_at around d now) ≡ completed_step (from_to now.cursor.mark end kind ∷ [])
+      (noted_core comment (core_at around (to d) (passed now there allowed adjacent)))
   pub fits : past around.indent there.mark there.rest ≡ past around.indent n o
-  pub fresh : IsFresh x o allowed there
-  pub line : is_block x ≡ true → (white : List ℕ) (c : ℕ) (cs : List ℕ) → o ≡ white ++ (c ∷ cs)
+  pub fresh : IsFresh now.context o allowed there
+  pub line : is_block now.context ≡ true → (white : List ℕ) (c : ℕ) (cs : List ℕ) → o ≡ white ++ (c ∷ cs)
       → AreIn is_blank white → IsContentStart c → around.indent ≤ n.col
       → (allowed ≡ false) × IsBehindBlanks around.indent there (moved n white) (c ∷ cs)
   pub holds : says allowed adjacent
@@ -254,8 +256,7 @@ pub token_passes : (around : Around) (comment : Option Marker) (says : Bool → 
     (m : Marker) (now : FlowMoment) → Fits around now.context m p o → around.indent ≤ (moved m p).col
     → (start : Bool → State) → Ready around start now m (p ++ o) → ((b : Bool) (j : Option Candidate) (e : Bool)
     → Placed around now.context e m
-    → TokenStep around comment says kind (p ++ o) m (moved m p) o now.context now.outer now.adjacent
-    (length now.places) b j e)
+    → TokenStep around comment says kind (moved m p) o (right_at now (p ++ o) m b j e))
     → PassesNoting comment around start (after_token says now.context (keeping now m p)) now.context
     now.outer now.places (moved m p) o (kind ∷ [])
 token_passes around comment says kind p o m now fits right start v steps =
@@ -267,9 +268,9 @@ token_passes around comment says kind p o m now fits right start v steps =
     let keeps = held_behind m p o fits right (saved v.allowed (length now.places) m v.key) w.there w.allowed
     (λ k held block. let h = v.holds k held block in
     ap (λ (a : Bool). saved a (length now.places) m v.key) h.1 ∙ h.0) w.line in
-    let came = step_comes around start now m (p ++ o) v comment (moment w.there now.context
-    (saved v.allowed (length now.places) m v.key) now.outer w.allowed w.adjacent
-    (now.places ++ new)) (from_to m w.end kind ∷ []) w.to w.is refl low keeps.0 in
+    let came = step_comes around start now m (p ++ o) v comment
+    (moment_with new (passed (arrived v) w.there w.allowed w.adjacent)) (from_to m w.end kind ∷ []) w.to w.is refl low
+    keeps.0 in
     record {
       there = w.there;
       key = came.key;

@@ -4,7 +4,7 @@ use Rattle.yaml_laws.proofs.Common.{Option, Some, None, ◌==◌, Marker, Cursor
 use Rattle.saphyr_scanner.specs.Grammar.Tokens as tokens
 use Rattle.saphyr_scanner.specs.Steps.Value as value
 use Rattle.saphyr_scanner.specs.Steps.Value.{value_alone, opening_actions, check_tab, refuse_lone_tab, value_of_key, behind_key}
-use Rattle.yaml_laws.proofs.InFlow.States.{Around, core_at, state_at, chains, moment, FlowMoment, moment_in, moment_with, kept_inside}
+use Rattle.yaml_laws.proofs.InFlow.States.{Around, arrived, at_cursor, core_at, state_at, chains, FlowMoment, moment_in, moment_with, kept_inside}
 use Rattle.yaml_laws.proofs.Flow.States.{moved, past, IsParted, ends_colon, KeptKey, no_key, after_node, PassesPiece, FitsAround, after, StandsBefore}
 use Rattle.yaml_laws.proofs.Flow.Places.{right_one}
 use Rattle.yaml_laws.proofs.Flow.GapSteps.{past_content}
@@ -20,42 +20,39 @@ use Rattle.yaml_laws.proofs.Flow.Separates.{separates}
 -- ## A colon is an indicator
 
 -- where a colon may come at once, or before what ends it
-pub colon_reads_value : (around : Around) (d : Bool) (second i : ℕ) (s : Cursor) (y : Context) (k : Option Candidate)
-    (ls : List Level) (a : Bool) (ad : ℕ) → is_block y ≡ false → (s.mark.index ≡ ad) ⊎ IsTrue (ends_colon second)
-    → step 58 second i (core_at around d s y k ls a ad) ≡ value.value_steps (core_at around d s y k ls a ad)
+pub colon_reads_value : (around : Around) (d : Bool) (second i : ℕ) (now : FlowMoment) → is_block now.context ≡ false
+    → (now.cursor.mark.index ≡ now.adjacent) ⊎ IsTrue (ends_colon second)
+    → step 58 second i (core_at around d now) ≡ value.value_steps (core_at around d now)
 unfolding step flow_value_steps
-colon_reads_value around d second i s y k ls a ad e (inl f) = grind arith
-colon_reads_value around d second i s y k ls a ad e (inr h) = grind arith
+colon_reads_value around d second i now e (inl f) = grind arith
+colon_reads_value around d second i now e (inr h) = grind arith
 
 -- ## After the colon
 
-pub record Tabbed (around : Around) (o : List ℕ) (m : Marker) (y : Context) (k : Option Candidate) (ls : List Level)
-    (a : Bool) (ad : ℕ) : Type 0 where
+pub record Tabbed (around : Around) (o : List ℕ) (m : Marker) (now : FlowMoment) : Type 0 where
   pub there : Cursor
-  pub is : (d : Bool) → check_tab (core_at around d (cursor_at o m false) y k ls a ad)
-      ≡ Ok (core_at around d there y k ls a ad)
+  pub is : (d : Bool) → check_tab (core_at around d (at_cursor (cursor_at o m false) now))
+      ≡ Ok (core_at around d (at_cursor there now))
   pub lands : past around.indent there.mark there.rest ≡ past around.indent m o
 
-no_refusal : (around : Around) (d : Bool) (found : SkipTabs) (there : Cursor) (y : Context) (k : Option Candidate)
-    (ls : List Level) (a : Bool) (ad : ℕ) → is_block y ≡ false
-    → refuse_lone_tab (found, core_at around d there y k ls a ad) ≡ Ok (core_at around d there y k ls a ad)
-no_refusal around d found there y k ls a ad e = rw e refl
+no_refusal : (around : Around) (d : Bool) (found : SkipTabs) (now : FlowMoment) → is_block now.context ≡ false
+    → refuse_lone_tab (found, core_at around d now) ≡ Ok (core_at around d now)
+no_refusal around d found now e = rw e refl
 
-pub tabbed : (around : Around) (o : List ℕ) (m : Marker) (y : Context) (k : Option Candidate) (ls : List Level)
-    (a : Bool) (ad : ℕ) → is_block y ≡ false → IsParted around.indent o → around.indent ≤ m.col
-    → Tabbed around o m y k ls a ad
+pub tabbed : (around : Around) (o : List ℕ) (m : Marker) (now : FlowMoment) → is_block now.context ≡ false
+    → IsParted around.indent o → around.indent ≤ m.col → Tabbed around o m now
 unfolding check_tab
-tabbed around o m y k ls a ad flows parted right = by_tab (slice_index o 0 == 9) refl
+tabbed around o m now flows parted right = by_tab (slice_index o 0 == 9) refl
   where
-    by_tab : (b : Bool) → (slice_index o 0 == tab) ≡ b → Tabbed around o m y k ls a ad
+    by_tab : (b : Bool) → (slice_index o 0 == tab) ≡ b → Tabbed around o m now
     by_tab true e =
         let p = separates around.indent (cursor_at o m false) parted.separation parted.first parted.others parted.is
         parted.parts right parted.ends in
         record {
           there = p.there;
           is = λ d. rw e (ap (λ q. (q >>= λ (z : SkipTabs × Cursor). Ok
-              (z.0, with_cursor z.1 (core_at around d (cursor_at o m false) y k ls a ad))) >>= refuse_lone_tab) p.is
-              ∙ no_refusal around d p.found p.there y k ls a ad flows);
+              (z.0, with_cursor z.1 (core_at around d (at_cursor (cursor_at o m false) now)))) >>= refuse_lone_tab) p.is
+              ∙ no_refusal around d p.found (at_cursor p.there now) flows);
           lands = p.lands;
         }
     by_tab false e = record { there = cursor_at o m false; is = λ d. rw e refl; lands = refl }
@@ -69,24 +66,29 @@ abbrev pub key_kinds : Bool → List Kind
 key_kinds true = tokens.FlowMappingStart ∷ tokens.Key ∷ []
 key_kinds false = tokens.Key ∷ []
 
-pub opens_key : (around : Around) (d : Bool) (k : Candidate) (start : Marker) (there : Cursor) (y : Context)
-    (ls : List Level) (a : Bool) (ad : ℕ) → is_block y ≡ false → (begins_pair y ≡ true → k.mark.line ≡ start.line)
-    → value_of_key k (begins_pair y) start (core_at around d there (behind_colon y) (Some k) ls a ad)
-    ≡ completed_step (Open k.place (opened_key (begins_pair y)) ∷ at_mark start tokens.Value ∷ [])
-    (core_at around d there (behind_colon y) None ls false ad)
+-- the moment behind a colon
+abbrev pub colon_read : Cursor → FlowMoment → FlowMoment
+colon_read there now = record now { cursor = there; context = behind_colon now.context; key = None; allowed = false }
+
+pub opens_key : (around : Around) (d : Bool) (k : Candidate) (start : Marker) (there : Cursor) (now : FlowMoment)
+    → is_block now.context ≡ false → (begins_pair now.context ≡ true → k.mark.line ≡ start.line)
+    → value_of_key k (begins_pair now.context) start
+    (core_at around d (record now { cursor = there; context = behind_colon now.context; key = Some k }))
+    ≡ completed_step (Open k.place (opened_key (begins_pair now.context)) ∷ at_mark start tokens.Value ∷ [])
+    (core_at around d (colon_read there now))
 unfolding value_of_key
-opens_key around d k start there y ls a ad e line = grind arith
+opens_key around d k start there now e line = grind arith
 
 pub colon_flows : (y : Context) → is_block y ≡ false → is_block (behind_colon y) ≡ false
 colon_flows y e = grind arith
 
-pub fetches : (around : Around) (d : Bool) (o : List ℕ) (m : Marker) (b : Bool) (y : Context) (k : Option Candidate)
-    (ls : List Level) (a : Bool) (ad : ℕ) → is_block y ≡ false
-    → (p : Tabbed around o (along m 1) (behind_colon y) k ls a ad)
-    → value.value_steps (core_at around d (cursor_at (colon ∷ o) m b) y k ls a ad)
-    ≡ behind_key k (begins_pair y) m (core_at around d p.there (behind_colon y) k ls a ad)
+pub fetches : (around : Around) (d : Bool) (o : List ℕ) (m : Marker) (b : Bool) (now : FlowMoment)
+    → is_block now.context ≡ false → (p : Tabbed around o (along m 1) (moment_in (behind_colon now.context) now))
+    → value.value_steps (core_at around d (at_cursor (cursor_at (colon ∷ o) m b) now))
+    ≡ behind_key now.key (begins_pair now.context) m
+    (core_at around d (at_cursor p.there (moment_in (behind_colon now.context) now)))
 unfolding value.value_steps
-fetches around d o m b y k ls a ad flows p = grind arith
+fetches around d o m b now flows p = grind arith
 
 pub behind_some : (k : Candidate) (begins : Bool) (m : Marker) (c : Core)
     → behind_key (Some k) begins m c ≡ value_of_key k begins m c
@@ -144,21 +146,22 @@ colon_passes around y flows first e node w o parts fits parted ends same_line st
     flows fits.right in
     let k = key_at first ps in
     let same_key : v.key ≡ Some k = (v.same flows).0 ∙ n.keeps flows ∙ first_kept in
-    let seen = cursor_at (58 ∷ o) m v.blank in
-    let t = tabbed around o (along m 1) (behind_colon y) (Some k) ls v.allowed p.adjacent (colon_flows y flows) parted
+    let seen = arrived v in
+    let held : FlowMoment = record seen { key = Some k } in
+    let t = tabbed around o (along m 1) (moment_in (behind_colon y) held) (colon_flows y flows) parted
     (le_next around.indent m.col fits.right) in
-    let stepped = λ (d : Bool). colon_reads_value around d (slice_index o 0) (length qs) seen y v.key ls v.allowed
-    p.adjacent flows (by_place ends (n.near flows w o refl parts))
-    ∙ ap (λ (j : Option Candidate). value.value_steps (core_at around d seen y j ls v.allowed p.adjacent)) same_key
-    ∙ fetches around d o m v.blank y (Some k) ls v.allowed p.adjacent flows t
-    ∙ behind_some k (begins_pair y) m (core_at around d t.there (behind_colon y) (Some k) ls v.allowed p.adjacent)
-    ∙ opens_key around d k m t.there y ls v.allowed p.adjacent flows same_line in
+    let stepped = λ (d : Bool). colon_reads_value around d (slice_index o 0) (length qs) seen flows
+    (by_place ends (n.near flows w o refl parts))
+    ∙ ap (λ (j : Option Candidate). value.value_steps (core_at around d (record seen { key = j }))) same_key
+    ∙ fetches around d o m v.blank held flows t
+    ∙ behind_some k (begins_pair y) m (core_at around d (at_cursor t.there (moment_in (behind_colon y) held)))
+    ∙ opens_key around d k m t.there seen flows same_line in
     let below = fits.below in
     let op = opened_key (begins_pair y) in
     let new = pair_places op n.piece n.others (empty_piece m tokens.Value) in
     let came = step_comes around (state_at around (after p)) (after p) m (58 ∷ o) v None
-    (moment t.there (behind_colon y) None ls false p.adjacent (ps ++ new)) (Open (length ps) op ∷ at_mark m tokens.Value
-    ∷ []) (λ d. d) stepped (performs ps n.others p.new op n.piece (empty_piece m tokens.Value) n.is)
+    (record (colon_read t.there seen) { places = ps ++ new }) (Open (length ps) op ∷ at_mark m tokens.Value ∷ [])
+    (λ d. d) stepped (performs ps n.others p.new op n.piece (empty_piece m tokens.Value) n.is)
     (within_index around.indent around.limit t.there (along m 1) o t.lands (omega (arith, below)))
     (kept_inside (colon_flows y flows)) in
     record {
@@ -197,11 +200,12 @@ abbrev alone_actions : Bool → Marker → List Action
 alone_actions true m = at_mark m tokens.FlowMappingStart ∷ at_mark m tokens.Value ∷ []
 alone_actions false m = at_mark m tokens.Value ∷ []
 
-alone_step : (around : Around) (d : Bool) (m : Marker) (there : Cursor) (y : Context) (ls : List Level) (a : Bool)
-    (ad : ℕ) → is_block y ≡ false → value_alone (begins_pair y) m (core_at around d there (behind_colon y) None ls a ad)
-    ≡ completed_step (alone_actions (begins_pair y) m) (core_at around d there (behind_colon y) None ls false ad)
+alone_step : (around : Around) (d : Bool) (m : Marker) (there : Cursor) (now : FlowMoment)
+    → is_block now.context ≡ false → value_alone (begins_pair now.context) m
+    (core_at around d (record now { cursor = there; context = behind_colon now.context; key = None }))
+    ≡ completed_step (alone_actions (begins_pair now.context) m) (core_at around d (colon_read there now))
 unfolding value_alone opening_actions
-alone_step around d m there y ls a ad e = grind arith
+alone_step around d m there now e = grind arith
 
 alone_puts : (begins : Bool) (ps : List Place) (m : Marker)
     → perform (alone_actions begins m) (queue_of ps) ≡ queue_of (ps ++ alone_places begins m)
@@ -222,18 +226,18 @@ value_passes around y flows m o fits parted now none ends before text =
     let v = arrives around (moment_in y now) m (58 ∷ o)
     (text ∙ past_content around.indent m 58 o colon_is_mark.content) refl
     (mark_begins m 58 o colon_is_mark fits.clear) flows fits.right in
-    let seen = cursor_at (58 ∷ o) m v.blank in
-    let t = tabbed around o (along m 1) (behind_colon y) None now.outer v.allowed now.adjacent (colon_flows y flows)
-    parted (le_next around.indent m.col fits.right) in
-    let stepped = λ (d : Bool). colon_reads_value around d (slice_index o 0) (length now.places) seen y v.key now.outer
-    v.allowed now.adjacent flows ends
-    ∙ ap (λ (j : Option Candidate). value.value_steps (core_at around d seen y j now.outer v.allowed now.adjacent))
-    ((v.same flows).0 ∙ none) ∙ fetches around d o m v.blank y None now.outer v.allowed now.adjacent flows t
-    ∙ behind_none (begins_pair y) m (core_at around d t.there (behind_colon y) None now.outer v.allowed now.adjacent)
-    ∙ alone_step around d m t.there y now.outer v.allowed now.adjacent flows in
+    let seen = arrived v in
+    let bare : FlowMoment = record seen { key = None } in
+    let t = tabbed around o (along m 1) (moment_in (behind_colon y) bare) (colon_flows y flows) parted
+    (le_next around.indent m.col fits.right) in
+    let stepped = λ (d : Bool). colon_reads_value around d (slice_index o 0) (length now.places) seen flows ends
+    ∙ ap (λ (j : Option Candidate). value.value_steps (core_at around d (record seen { key = j })))
+    ((v.same flows).0 ∙ none) ∙ fetches around d o m v.blank bare flows t
+    ∙ behind_none (begins_pair y) m (core_at around d (at_cursor t.there (moment_in (behind_colon y) bare)))
+    ∙ alone_step around d m t.there seen flows in
     let below = fits.below in
     let new = alone_places (begins_pair y) m in
-    let next = moment t.there (behind_colon y) None now.outer false now.adjacent now.places in
+    let next = colon_read t.there seen in
     let came = step_comes around (state_at around (moment_in y now)) (moment_in y now) m (58 ∷ o) v None
     (moment_with new next) (alone_actions (begins_pair y) m) (λ d. d) stepped (alone_puts (begins_pair y) now.places m)
     (within_index around.indent around.limit t.there (along m 1) o t.lands (omega (arith, below)))

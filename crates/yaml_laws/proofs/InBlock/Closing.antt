@@ -4,7 +4,7 @@ use Rattle.saphyr_scanner.specs.Steps.Document as document
 use Rattle.saphyr_scanner.specs.Grammar.Tokens as tokens
 use Rattle.saphyr_scanner.specs.Steps.Unrolling.{unroll}
 use Rattle.saphyr_scanner.specs.Steps.Fetch.{fetch, fetch_here}
-use Rattle.yaml_laws.proofs.InBlock.States.{Frame, Moment, frame_at_column, moment_at, state_of, EndsDocument, At}
+use Rattle.yaml_laws.proofs.InBlock.States.{Frame, Moment, frame_at_column, moment_there, state_of, EndsDocument, At}
 use Rattle.yaml_laws.proofs.InBlock.Follows.{goes_alike, arrives_at, stays_open}
 
 -- the token that ends a collection
@@ -161,7 +161,7 @@ unfolding fetch
 closes_block {limit} {start} {ts} f c m y inside ends v = by_column (nat_lt m.col c) refl
   where
     seen : Bool → Moment
-    seen deeper = moment_at m y v.blank v.key v.allowed v.adjacent deeper
+    seen deeper = moment_there v deeper
 
     arrived : (g : Frame) (deeper : Bool) (ps : List Place) → fetch (state_of g (seen deeper) ps)
         ≡ fetch_here (unroll (Some m.col) m (state_of g (seen deeper) ps))

@@ -6,7 +6,7 @@ use Rattle.saphyr_scanner.specs.Steps.Value as value
 use Rattle.saphyr_scanner.specs.Steps.Fetch.{fetch, fetch_here, state_behind_content, step}
 use Rattle.yaml_laws.specs.Grammar.BlockNodes as yaml
 use Rattle.yaml_laws.proofs.Flow.Values.{pair_places, performs}
-use Rattle.yaml_laws.proofs.InBlock.States.{Frame, Moment, moment_at, moment_with, core_of, state_of, tabbed, IsUntabbed, crosses, GoesOnAs, At, Before, past}
+use Rattle.yaml_laws.proofs.InBlock.States.{Frame, Moment, moment_at, moment_there, moment_with, core_of, state_of, tabbed, IsUntabbed, crosses, GoesOnAs, At, Before, past}
 use Rattle.yaml_laws.proofs.InBlock.Follows.{steps_from, begins_here, deeper_at, lands_key}
 use Rattle.yaml_laws.proofs.InBlock.Entries.{IsBehindIndicator, front_end, separates, frame_behind, steps_on, start_places, start_performs, start_kinds, start_are, least_within, before_next}
 use Rattle.yaml_laws.proofs.InBlock.Questions.{colon_begins, key_kinds}
@@ -128,7 +128,7 @@ reads_value {limit} {start} {ts} f m o further e far h count v none allowed =
     ∙ ap (λ (q : Queue). Ok (let r : State = record { core = core_of g t; queue = q } in r))
     (value_performs f n further m v.places e) in
     let there : state_behind_content 58 (slice_index o 0)
-    (state_of f (moment_at m (58 ∷ o) v.blank v.key v.allowed v.adjacent deeper) v.places) ≡ Ok (state_of g t qs) =
+    (state_of f (moment_there v deeper) v.places) ≡ Ok (state_of g t qs) =
     grind (arith, state_of, moment_at) in
     before_next (yaml.BehindMark m.col) g t qs (along m 1) o
     (steps_on f g m (58 ∷ o) v (colon_begins m o) far t qs there refl

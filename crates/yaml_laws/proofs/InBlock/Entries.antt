@@ -8,7 +8,7 @@ use Rattle.yaml_laws.proofs.Flow.GapSteps.{past_low}
 use Rattle.yaml_laws.specs.Grammar.BlockNodes as yaml
 use Rattle.yaml_laws.specs.Grammar.BlockNodes.{Position as Position}
 use Rattle.yaml_laws.proofs.Flow.Separates.{StopsLine, line_separated}
-use Rattle.yaml_laws.proofs.InBlock.States.{Frame, Moment, frame_at_column, moment_at, core_of, state_of, IsUntabbed, crosses, is_compact, IsPlaced, At, Before, past}
+use Rattle.yaml_laws.proofs.InBlock.States.{Frame, Moment, frame_at_column, moment_at, moment_there, core_of, state_of, IsUntabbed, crosses, is_compact, IsPlaced, At, Before, past}
 use Rattle.yaml_laws.proofs.InBlock.Gaps.{past_stops}
 use Rattle.yaml_laws.proofs.InBlock.Skips.{IsCleanBehind}
 use Rattle.yaml_laws.proofs.InBlock.Follows.{follows_itself, steps_from, goes_alike, left_key, left_again, lands, BeginsToken, begins_with, begins_here, arrives_at, stays_open, deeper_at, left_none}
@@ -58,7 +58,7 @@ separates o h m b = line_separated (cursor_at o m b) h.blanks h.comment h.more h
 pub steps_on : {limit : ℕ} {start : State} {ts : List Kind} (f g : Frame) (m : Marker) (y : List ℕ)
     (v : At limit start f m y ts) → BeginsToken m y → f.indent ≤ m.col + 1 → (n : Moment) (qs : List Place)
     → state_behind_content (slice_index y 0) (slice_index y 1)
-    (state_of f (moment_at m y v.blank v.key v.allowed v.adjacent (deeper_at f v.deeper m)) v.places)
+    (state_of f (moment_there v (deeper_at f v.deeper m)) v.places)
     ≡ Ok (state_of g n qs) → n.key ≡ None → n.cursor.mark.index ≤ limit → LeadsTo limit (state_of g n qs) start
 unfolding fetch
 steps_on f g m y v begins far n qs is none low = search (arrives_at, stays_open, begins_here, steps_from)
@@ -220,7 +220,7 @@ reads_dash {limit} {start} {ts} f m o further e far h count v allowed =
     ≡ Ok (state_of g t (start_places further m tokens.BlockSequenceStart n n tokens.BlockEntry v.places)) =
     grind (arith, queue_of, core_of, start_performs) in
     let there : state_behind_content 45 (slice_index o 0)
-    (state_of f (moment_at m (45 ∷ o) v.blank v.key v.allowed v.adjacent deeper) v.places)
+    (state_of f (moment_there v deeper) v.places)
     ≡ Ok (state_of g t (start_places further m tokens.BlockSequenceStart n n tokens.BlockEntry v.places)) =
     grind (arith, state_of, moment_at) in
     let size = ap length h.is ∙ length-append h.blanks (h.comment ++ h.more) in

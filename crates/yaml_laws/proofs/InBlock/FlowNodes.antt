@@ -1,8 +1,8 @@
 -- Keys on one line are read at block level, and nodes in flow style, up to what is left of them (YAML 1.2.2, 8.2.3).
-use Rattle.yaml_laws.proofs.Common.{Bool, List, [], ap, append_assoc, arith, false, inl, inr, length, refl, slice_index, subst, suc, sym, true, ℕ, ◌++◌, ◌+◌, ◌<◌, ◌^◌, ◌∙◌, ◌∷◌, ◌≡◌, ◌≤◌, ◌⊎◌, None, Option, Some, if◌then◌else◌, nat_le, nat_lt, not, ◌&&◌, ◌-◌, ◌==◌, ◌||◌, is_z, line_feed, can_be_plain, is_document_indicator, Marker, IsEol, least_column, Candidate, Place, State, Node, Kind, most_open, IsFlowInBlock, IsFlowNode, IsOnLine, or_true_swap, cursor_at, place_kinds_append, length-append}
+use Rattle.yaml_laws.proofs.Common.{Bool, List, [], ap, append_assoc, arith, false, inl, inr, length, refl, slice_index, subst, suc, sym, true, ℕ, ◌++◌, ◌+◌, ◌<◌, ◌^◌, ◌∙◌, ◌∷◌, ◌≡◌, ◌≤◌, ◌⊎◌, None, Option, Some, if◌then◌else◌, nat_le, nat_lt, not, ◌&&◌, ◌-◌, ◌==◌, ◌||◌, is_z, line_feed, can_be_plain, is_document_indicator, Marker, IsEol, least_column, Candidate, Place, State, Node, Kind, most_open, IsFlowInBlock, IsFlowNode, IsOnLine, or_true_swap, place_kinds_append, length-append}
 use Rattle.saphyr_scanner.specs.declared.engine.level.Context.TheVariants as context
 use Rattle.saphyr_scanner.specs.Steps.Passing.{goes_on_behind}
-use Rattle.yaml_laws.proofs.InFlow.States.{Around, moment, state_at, not_more, least_low, least}
+use Rattle.yaml_laws.proofs.InFlow.States.{Around, state_at, not_more, least_low, least}
 use Rattle.yaml_laws.proofs.Flow.States as flow
 use Rattle.yaml_laws.proofs.Flow.Places.{moved_append, moved_count, moved_along}
 use Rattle.yaml_laws.proofs.Flow.Fillers.{rest_past}
@@ -10,7 +10,7 @@ use Rattle.yaml_laws.proofs.Flow.ContentStarts.{node_begins, node_content, colon
 use Rattle.yaml_laws.proofs.Flow.Tokens.{text_ready}
 use Rattle.yaml_laws.proofs.Documents.Lines.{eol}
 use Rattle.yaml_laws.proofs.Flow.NodesPass.{nodes_close}
-use Rattle.yaml_laws.proofs.InBlock.States.{Frame, Moment, core_of, IsStop, IsLeftOf, At, Before, moment_at, state_of, tabbed, GoesOnAs, moved, past, crosses, EndsDocument, IsLeft, IsBehindRoot, Since, ReaderPromises}
+use Rattle.yaml_laws.proofs.InBlock.States.{Frame, Moment, core_of, IsStop, IsLeftOf, At, Before, flow_moment, moment_there, state_of, tabbed, GoesOnAs, moved, past, crosses, EndsDocument, IsLeft, IsBehindRoot, Since, ReaderPromises}
 use Rattle.yaml_laws.proofs.InBlock.Gaps.{past_stops}
 use Rattle.yaml_laws.proofs.InBlock.Follows.{goes_alike, goes_on, IsQuiet, lands, left_key, left_again}
 use Rattle.yaml_laws.proofs.InBlock.Lines.{IsLined, FitsOnLines, fits_front, fits_back, fits_so, later_line, moved_lined, past_line}
@@ -61,8 +61,8 @@ reads_key reads limit node f m t o n far h line apart short white fits start ts 
       required = is_required around (deeper_at around v.deeper m) m;
       comment = None;
     } in
-    let before : GoesOnAs limit start (state_of f (moment_at m y v.blank v.key true v.adjacent v.deeper) v.places) =
-    subst (λ (b : Bool). GoesOnAs limit start (state_of f (moment_at m y v.blank v.key b v.adjacent v.deeper) v.places))
+    let before : GoesOnAs limit start (state_of f (record (moment_there v v.deeper) { allowed = true }) v.places) =
+    subst (λ (b : Bool). GoesOnAs limit start (state_of f (record (moment_there v v.deeper) { allowed = b }) v.places))
     allowed v.follows in
     let place : moved (moved m t) n.text ≡ moved m (t ++ n.text) = sym (moved_append m t n.text) in
     let right = further f.indent m.col r.there.mark.col far a.right in
@@ -187,9 +187,8 @@ behind_piece {comment} c d = record {
 -- The scanner goes on after a piece in flow style as from the token at q.
 abbrev pub goes_behind : {limit : ℕ} {start : State} {f : Frame} {m : Marker} {y : List ℕ} {ts us : List Kind}
     (v : At limit start f m y ts) {comment : Option Marker} {known : flow.Known} {n : Marker} {o : List ℕ}
-    → (c : flow.PassesNoting comment (around_of limit f) (state_at (around_of limit f)
-    (moment (cursor_at y m v.blank) context.Block v.key [] v.allowed v.adjacent v.places)) known context.Block []
-    v.places n o us) → c.adjacent ≤ (past f.indent n o).0.index
+    → (c : flow.PassesNoting comment (around_of limit f) (state_at (around_of limit f) (flow_moment v)) known
+    context.Block [] v.places n o us) → c.adjacent ≤ (past f.indent n o).0.index
     → (q : Marker × List ℕ) → past f.indent n o ≡ q → IsStop q.1 → ((d : Bool) → IsQuiet f (behind_piece c d) q.0 q.1)
     → At limit start f q.0 q.1 (ts ++ us)
 goes_behind {limit} {start} {f} {ts = ts} {us} v {n = n} {o} c low q lands_at stop quiet =
@@ -238,7 +237,7 @@ reads_flow reads limit short node place f same m t o (gap, text, end, gap_is, no
     λ right. eol_moved f.indent n end o end_is right ∙ ap (λ (k : Marker). past f.indent k o) (sym place_is)
     ∙ clean_past f.indent (moved m t) o behind.clean in
     let root = behind_root limit f n end o end_is q lands_at (past_stops (moved m t) o) behind.left in
-    let now = moment (cursor_at (text ++ rest) at v.blank) context.Block v.key [] v.allowed v.adjacent v.places in
+    let now = flow_moment v in
     let r = nodes_close reads around refl node at text rest is now refl refl (flow.fits_free (inr (refl, refl)) inside)
     (flow.follows_outside refl root) (v.low, inl refl) (state_at around now)
     (text_ready around now at text rest (node_begins f.indent most_open node false text is) refl refl inside refl) in

@@ -1,7 +1,6 @@
 -- After the document marker of the last line nothing that was read may yet be a key, so all tokens up to its own are
 -- handed out.
 use Rattle.yaml_laws.proofs.Common.{Bool, List, [], ap, append-nil, arith, false, inl, inr, length, refl, sym, ℕ, ◌++◌, ◌∙◌, ◌∷◌, ◌≡◌, ◌≤◌, None, line_feed, full_stop, hyphen, Marker, Cursor, along, next_line, cursor_at, IsLineRest, Kind, Piece, Place, bare_place, State, LeadsTo, leads_on, onward, stay, place_kinds, place_kinds_append, length-append, is_open, known_before, DocumentMarker, Starts, Ends, marker_text, marker_token, cons_not_empty, state_at}
-use Rattle.saphyr_scanner.specs.declared.engine.level.Context.TheVariants as context
 use Rattle.saphyr_scanner.specs.Grammar.Tokens as tokens
 use Rattle.yaml_laws.proofs.Flow.Fillers.{rest_past}
 use Rattle.yaml_laws.proofs.Flow.Places.{moved_count}

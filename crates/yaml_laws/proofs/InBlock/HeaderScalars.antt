@@ -7,7 +7,7 @@ use Rattle.saphyr_scanner.specs.Steps.Scalar as scalar
 use Rattle.saphyr_scanner.specs.Grammar.Tokens as kind
 use Rattle.yaml_laws.proofs.Flow.GapSteps.{past_low}
 use Rattle.yaml_laws.proofs.Flow.Places.{moved_append, moved_count}
-use Rattle.yaml_laws.proofs.InBlock.States.{Frame, Moment, moment_at, core_of, state_of, tabbed, IsUntabbed, crosses, GoesOnAs, At, EndsDocument, moved, past}
+use Rattle.yaml_laws.proofs.InBlock.States.{Frame, Moment, moment_at, moment_there, core_of, state_of, tabbed, IsUntabbed, crosses, GoesOnAs, At, EndsDocument, moved, past}
 use Rattle.yaml_laws.proofs.InBlock.Gaps.{past_stops}
 use Rattle.yaml_laws.proofs.InBlock.Skips.{skipped_past, spaces_skipped}
 use Rattle.yaml_laws.proofs.InBlock.Follows.{follows_itself, goes_alike, first_step, left_key, left_again, drops, lands, BeginsToken, begins_with, begins_here, arrives_at, stays_open, deeper_at}
@@ -124,11 +124,11 @@ reads_scalar laws {limit} {start} {ts} f style value m more t o short low begins
     let n = behind_scalar b.left (saved v.allowed i m v.key) v.adjacent in
     let piece : Piece = record { span = b.span; kind = kind.Scalar (style_of style) (encode_utf8_all value) } in
     let qs = v.places ++ bare_place piece ∷ [] in
-    let c = core_of f (moment_at m y v.blank v.key v.allowed v.adjacent deeper) in
+    let c = core_of f (moment_there v deeper) in
     let far = le_next f.indent m.col low in
     let begun : BeginsToken m y = subst (BeginsToken m) (sym start_is) (header_begins style m (more ++ o)) in
     let stepped = ap (λ (x : List ℕ). step (slice_index x 0) (slice_index y 1) i c) start_is
-    ∙ style_at_sign f style (moment_at m y v.blank v.key v.allowed v.adjacent deeper) (slice_index y 1) i
+    ∙ style_at_sign f style (moment_there v deeper) (slice_index y 1) i
     ∙ block_step f style m y v.blank v.key v.allowed v.adjacent deeper (encode_utf8_all value) b.span b.left low b.read
     i in
     let there =

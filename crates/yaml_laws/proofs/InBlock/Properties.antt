@@ -1,9 +1,8 @@
 -- Properties at block level are read: before a block scalar, and before a collection on the next lines
 -- (YAML 1.2.2, 6.9 and 8.2.3).
-use Rattle.yaml_laws.proofs.Common.{IsTrue, List, [], ap, append_assoc, arith, false, inl, inr, length, refl, slice_index, subst, sym, true, ℕ, ◌++◌, ◌<◌, ◌^◌, ◌∙◌, ◌∷◌, ◌≡◌, ◌≤◌, None, Option, is_blank_or_breakz, line_feed, Marker, spaces, IsGap, IsLineRest, is_too_far, Candidate, Properties, State, Kind, IsProperties, indent_at, or_true_swap, cursor_at, length-append}
+use Rattle.yaml_laws.proofs.Common.{IsTrue, List, [], ap, append_assoc, arith, false, inl, inr, length, refl, slice_index, subst, sym, true, ℕ, ◌++◌, ◌<◌, ◌^◌, ◌∙◌, ◌∷◌, ◌≡◌, ◌≤◌, None, Option, is_blank_or_breakz, line_feed, Marker, spaces, IsGap, IsLineRest, is_too_far, Candidate, Properties, State, Kind, IsProperties, indent_at, or_true_swap, length-append}
 use Rattle.saphyr_scanner.specs.Grammar.TokenGrammar as grammar
-use Rattle.saphyr_scanner.specs.declared.engine.level.Context.TheVariants as context
-use Rattle.yaml_laws.proofs.InFlow.States.{moment, state_at}
+use Rattle.yaml_laws.proofs.InFlow.States.{state_at}
 use Rattle.yaml_laws.proofs.Flow.ContentStarts.{StartsContent, properties_begin, properties_content, behind_low}
 use Rattle.yaml_laws.proofs.Flow.Tokens.{text_ready}
 use Rattle.yaml_laws.proofs.Flow.States.{fits_free}
@@ -11,7 +10,7 @@ use Rattle.yaml_laws.proofs.Flow.GapSteps.{past_content}
 use Rattle.yaml_laws.proofs.Flow.Fillers.{separation_past}
 use Rattle.yaml_laws.proofs.Flow.Ends.{white_ends_tag}
 use Rattle.yaml_laws.proofs.Flow.Places.{moved_append}
-use Rattle.yaml_laws.proofs.InBlock.States.{Frame, crosses, At, moved, past, Since, FitsAround, ReaderPromises}
+use Rattle.yaml_laws.proofs.InBlock.States.{Frame, crosses, At, flow_moment, moved, past, Since, FitsAround, ReaderPromises}
 use Rattle.yaml_laws.proofs.InBlock.Skips.{IsSkipped, IsClean, Passes, skipped_clean, skipped_append, spaces_skipped, line_end_skipped, line_end_crosses, filler_skipped, skipped_passes, text_gap_passes}
 use Rattle.yaml_laws.proofs.InBlock.Lines.{moved_line, later_line, FitsOnLines, fits_front, fits_back, fits_so}
 use Rattle.yaml_laws.proofs.InBlock.Statements.{IsNextLineText, PropertiesRead, ReadsProperties}
@@ -77,7 +76,7 @@ properties_passed reads {limit} short f p t h m o low white fits lands v late =
     let q = past 0 n o in
     let inside : FitsAround around m t o =
     record { clear = fits.clear; below = fits.below; right = low } in
-    let now = moment (cursor_at (t ++ o) m v.blank) context.Block v.key [] v.allowed v.adjacent v.places in
+    let now = flow_moment v in
     let r = properties_read reads around p.anchor p.tag m t o h now (white_ends_tag false o white)
     (fits_free (inr (refl, refl)) inside) (state_at around now)
     (text_ready around now m t o (properties_begin p f.indent t h) refl refl inside refl) in

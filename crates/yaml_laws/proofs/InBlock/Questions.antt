@@ -7,7 +7,7 @@ use Rattle.saphyr_scanner.specs.Grammar.Tokens as tokens
 use Rattle.saphyr_scanner.specs.Steps.Fetch.{state_behind_content, step}
 use Rattle.yaml_laws.specs.Grammar.BlockNodes as yaml
 use Rattle.yaml_laws.proofs.Flow.GapSteps.{past_count, past_again}
-use Rattle.yaml_laws.proofs.InBlock.States.{Frame, Moment, moment_at, core_of, state_of, IsStop, crosses, At, Before, past}
+use Rattle.yaml_laws.proofs.InBlock.States.{Frame, Moment, moment_at, moment_there, core_of, state_of, IsStop, crosses, At, Before, past}
 use Rattle.yaml_laws.proofs.InBlock.Gaps.{past_stops, stop_tabbed}
 use Rattle.yaml_laws.proofs.InBlock.Skips.{has_tab, spaces_end, spaces_reach}
 use Rattle.yaml_laws.proofs.InBlock.Follows.{BeginsToken, begins_with, deeper_at}
@@ -118,7 +118,7 @@ reads_question {limit} {start} {ts} f m o further e far h clean count v allowed 
     (state_of f (moment_at m (63 ∷ o) v.blank v.key true v.adjacent deeper) v.places) ≡ Ok (state_of g t qs) =
     cc (start_performs further m tokens.BlockMappingStart m n tokens.Key v.places) in
     let there : state_behind_content 63 (slice_index o 0)
-    (state_of f (moment_at m (63 ∷ o) v.blank v.key v.allowed v.adjacent deeper) v.places) ≡ Ok (state_of g t qs) =
+    (state_of f (moment_there v deeper) v.places) ≡ Ok (state_of g t qs) =
     cc in
     let counted = past_count 0 (along m 1) o in
     let stop = past_stops (along m 1) o in

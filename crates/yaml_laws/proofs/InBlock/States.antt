@@ -4,6 +4,7 @@ use Rattle.yaml_laws.proofs.Common.{Bool, IsFalse, List, [], arith, false, slice
 use Rattle.saphyr_scanner.specs.declared.engine.level.Context.TheVariants as context
 use Rattle.yaml_laws.specs.Grammar.BlockNodes as yaml
 use Rattle.yaml_laws.specs.Grammar.BlockNodes.{Position as Position}
+use Rattle.yaml_laws.proofs.InFlow.States.{FlowMoment, moment}
 pub use Rattle.yaml_laws.proofs.Flow.States.{EndsDocument, crosses, crosses_comment, FitsAround, IsBehindRoot, IsClear}
 pub use Rattle.yaml_laws.proofs.Flow.States.{IsContentStart, IsLeft, ReaderPromises, Since, marks_line, moved, past}
 
@@ -127,6 +128,16 @@ pub record At (limit : ℕ) (start : State) (f : Frame) (m : Marker) (y : List �
   pub near : is_too_far key m ≡ false
   pub are : place_kinds places ≡ ts
   pub low : adjacent ≤ m.index
+
+-- the moment there, by whether content has to be further right
+abbrev pub moment_there : {limit : ℕ} {start : State} {f : Frame} {m : Marker} {y : List ℕ} {ts : List Kind}
+    → At limit start f m y ts → Bool → Moment
+moment_there {m = m} {y = y} v deeper = moment_at m y v.blank v.key v.allowed v.adjacent deeper
+
+-- the same for a piece in flow style
+abbrev pub flow_moment : {limit : ℕ} {start : State} {f : Frame} {m : Marker} {y : List ℕ} {ts : List Kind}
+    → At limit start f m y ts → FlowMoment
+flow_moment {m = m} {y = y} v = moment (cursor_at y m v.blank) context.Block v.key [] v.allowed v.adjacent v.places
 
 -- ## Before a node
 

@@ -7,7 +7,7 @@ use Rattle.saphyr_scanner.specs.Steps.Flow as flow
 use Rattle.saphyr_scanner.specs.Steps.Flow.{open_collection}
 use Rattle.saphyr_scanner.specs.Steps.Fetch.{step}
 use Rattle.yaml_laws.specs.Grammar.FlowNodes as yaml
-use Rattle.yaml_laws.proofs.InFlow.States.{Around}
+use Rattle.yaml_laws.proofs.InFlow.States.{Around, moment}
 use Rattle.yaml_laws.proofs.InFlow.KeyLines.{Fresh, requiring, KeepsPlace}
 use Rattle.yaml_laws.proofs.Flow.Names.{begins_anchor, begins_alias}
 use Rattle.yaml_laws.proofs.Flow.Plains.{BeginsWord, word_begins, key_begins, plain_dispatches}
@@ -41,9 +41,9 @@ unfolding step property.tag_steps
 fresh_properties around indent anchor tag t o h = grind (arith, fresh_so, append_assoc, begins_anchor, name_fresh)
 
 fresh_word : (around : Around) (t o : List ℕ) → BeginsWord false t o → Fresh around (t ++ o)
-fresh_word around t o w = λ d s k ad n. plain_dispatches around d s n t o context.Block w k [] true ad (inl refl)
-    ∙ plain_fresh around d s k ad n ∙ sym (plain_dispatches (requiring around d s.mark) d s n t o context.Block w
-    (Some (record { mark = s.mark; place = n })) [] false ad (inl refl))
+fresh_word around t o w = λ d s k ad n. plain_dispatches around d n t o (moment s context.Block k [] true ad []) w
+    (inl refl) ∙ plain_fresh around d s k ad n ∙ sym (plain_dispatches (requiring around d s.mark) d n t o
+    (moment s context.Block (Some (record { mark = s.mark; place = n })) [] false ad []) w (inl refl))
 
 fresh_content : (around : Around) (indent : ℕ) (style : Style) (value t o : List ℕ)
     → IsFlowScalar style value false indent t → Fresh around (t ++ o)

@@ -1,11 +1,11 @@
 -- A key on one line at block level: how its first token is read.
-use Rattle.yaml_laws.proofs.Common.{Bool, List, Ok, ap, arith, false, length, refl, slice_index, suc, true, ℕ, ◌+◌, ◌∙◌, ◌∷◌, ◌≡◌, ◌≤◌, [], None, Option, Some, inr, true≢false, nat_le, nat_lt, not, ◌&&◌, ◌-◌, ◌==◌, nat_tests, is_blank, AreIn, Marker, Cursor, ◌>>=◌, GapEnd, stop, Place, Candidate, State, on_core, cursor_at, queue_of, no_return, Core, StepResult, zero-add, end_of_gap, gap_here, stop_here}
+use Rattle.yaml_laws.proofs.Common.{after_step, Bool, List, Ok, ap, arith, false, length, refl, slice_index, suc, true, ℕ, ◌+◌, ◌∙◌, ◌∷◌, ◌≡◌, ◌≤◌, [], None, Option, Some, inr, true≢false, nat_le, nat_lt, not, ◌&&◌, ◌-◌, ◌==◌, nat_tests, is_blank, AreIn, Marker, Cursor, ◌>>=◌, GapEnd, stop, Place, Candidate, State, on_core, cursor_at, queue_of, no_return, Core, StepResult, zero-add, end_of_gap, gap_here, stop_here}
 use Rattle.saphyr_scanner.specs.declared.engine.level.Context.TheVariants as context
 use Rattle.saphyr_scanner.specs.Steps.Core.{drop_far_key}
 use Rattle.saphyr_scanner.specs.Steps.Passing.{pass_gap, check_comment, behind_gap}
 use Rattle.saphyr_scanner.specs.Steps.Unrolling.{unroll}
 use Rattle.saphyr_scanner.specs.Steps.Fetch.{step, state_behind_content, fetch_here, arrive, fetch}
-use Rattle.yaml_laws.proofs.InFlow.States.{Around, core_at, state_at, least, reach, drops_far_key, key_left, no_ends, moment, behind_key, unrequired, Ready}
+use Rattle.yaml_laws.proofs.InFlow.States.{Around, core_at, state_at, least, reach, drops_far_key, key_left, no_ends, moment, FlowMoment, behind_key, unrequired, Ready}
 use Rattle.yaml_laws.proofs.Flow.States.{IsContentStart}
 use Rattle.yaml_laws.proofs.Flow.Tokens.{BeginsToken}
 
@@ -22,13 +22,11 @@ content_gap low c cs content m blank =
     rw (content.blank, content.break, content.comment, no_return c content.break) refl
 
 -- content is no further left than its collection's entries
-begins_low : (around : Around) (d : Bool) (s : Cursor) (k : Option Candidate) (a : Bool) (ad : ℕ) (ps : List Place)
-    → BeginsToken s.mark s.rest → nat_lt s.mark.col (reach around d) ≡ false
-    → fetch_here (state_at around (moment s context.Block k [] a ad ps) d)
-    ≡ state_behind_content (slice_index s.rest 0) (slice_index s.rest 1)
-    (state_at around (moment s context.Block k [] a ad ps) d)
+begins_low : (around : Around) (d : Bool) (now : FlowMoment) → BeginsToken now.cursor.mark now.cursor.rest
+    → nat_lt now.cursor.mark.col (reach around d) ≡ false → fetch_here (state_at around now d)
+    ≡ state_behind_content (slice_index now.cursor.rest 0) (slice_index now.cursor.rest 1) (state_at around now d)
 unfolding fetch_here
-begins_low around d s k a ad ps h right = grind arith
+begins_low around d now h right = grind arith
 
 -- whether a key has to be at a column
 abbrev pub is_required : Around → Bool → Marker → Bool
@@ -62,8 +60,8 @@ still_least around d m h = grind arith
 -- A step gives the same where a key may begin and where that key is kept already.
 abbrev pub KeepsPlace : Around → (ℕ → Core → StepResult) → Type 0
 KeepsPlace around does = (d : Bool) (s : Cursor) (k : Option Candidate) (ad n : ℕ)
-    → does n (core_at around d s context.Block k [] true ad) ≡ does n (core_at (requiring around d s.mark) d s
-    context.Block (Some (record { mark = s.mark; place = n })) [] false ad)
+    → does n (core_at around d (moment s context.Block k [] true ad [])) ≡ does n (core_at (requiring around d s.mark)
+    d (moment s context.Block (Some (record { mark = s.mark; place = n })) [] false ad []))
 
 -- the step at the first token of a key keeps the key's place
 abbrev pub Fresh : Around → List ℕ → Type 0
@@ -82,17 +80,17 @@ pub first_ready : (around : Around) → around.pending ≡ false
 unfolding fetch arrive pass_gap check_comment unroll state_behind_content
 first_ready around calm d blank k ad ps m c cs content right token fresh =
     let there = cursor_at (c ∷ cs) m blank in
-    let here = core_at around d there context.Block k [] true ad in
+    let begun = moment there context.Block k [] true ad ps in
     let left = key_left context.Block k m in
+    let kept = moment there context.Block left [] true ad ps in
     let e = deeper_at around d m in
     let gapped = ap stop (content_gap (least around.column d) c cs content m blank)
     ∙ stop_here m blank false (c ∷ cs) in
-    let passed = ap (λ r. r >>= λ (p : GapEnd). check_comment (behind_gap here p)) gapped in
-    let reached = ap (λ r. r >>= drop_far_key) passed ∙ drops_far_key around None d there context.Block k [] true ad
-    (unrequired calm) in
+    let passed = ap (λ r. r >>= λ (p : GapEnd). check_comment (behind_gap (core_at around d begun) p)) gapped in
+    let reached = ap (λ r. r >>= drop_far_key) passed ∙ drops_far_key around None d begun (unrequired calm) in
     let arrived = ap (λ r. on_core r (queue_of ps) >>= λ (t : State). Ok
     (unroll (Some t.core.cursor.mark.col) t.core.cursor.mark t)) reached
-    ∙ ap Ok (no_ends m.col m around.outers (state_at around (moment there context.Block left [] true ad ps) e)
+    ∙ ap Ok (no_ends m.col m around.outers (state_at around kept e)
     (one_less around.column m.col right)) in
     let here : Candidate = record { mark = m; place = length ps } in
     record {
@@ -101,7 +99,9 @@ first_ready around calm d blank k ad ps m c cs content right token fresh =
       allowed = false;
       to = λ _. e;
       running = λ _. refl;
-      fetches = λ _. grind (arith, begins_low, still_least, core_at, queue_of, zero-add);
+      fetches = λ _. ap (λ r. r >>= fetch_here) arrived ∙ begins_low around e kept token (still_least around d m right)
+          ∙ ap (λ (n : ℕ). after_step (step c (slice_index cs 0) n (core_at around e kept)) (queue_of ps))
+          (zero-add (length ps)) ∙ ap (λ r. after_step r (queue_of ps)) (fresh e there left ad (length ps));
       placed = behind_key refl refl;
       same = λ flow. absurd (true≢false flow);
       kept = inr refl;

@@ -5,7 +5,7 @@ use Rattle.saphyr_scanner.specs.Grammar.TokenGrammar as grammar
 use Rattle.yaml_laws.proofs.InFlow.States.{Around, FlowMoment, state_at, moment}
 use Rattle.yaml_laws.proofs.InFlow.KeyLines.{Blanks, Fresh, keyed, deeper_at, first_ready}
 use Rattle.yaml_laws.proofs.InFlow.KeyFirsts.{plain_key_fresh, key_node_fresh}
-use Rattle.yaml_laws.proofs.Flow.States.{moved, fits_key, follows_key, FitsKey, IsBehindBlanks, IsClear, ReaderPromises, ReadsText}
+use Rattle.yaml_laws.proofs.Flow.States.{after, moved, fits_key, follows_key, FitsKey, IsBehindBlanks, IsClear, ReaderPromises, ReadsText}
 use Rattle.yaml_laws.proofs.Flow.Places.{clear_front}
 use Rattle.yaml_laws.proofs.Flow.Tokens.{begins_token}
 use Rattle.yaml_laws.proofs.Flow.KeyPieces.{blanks_lands}
@@ -56,13 +56,13 @@ pub record KeyRead (around : Around) (start : State) (k : Candidate) (ps : List 
   pub node_are : grammar.YieldsNode node grammar.InBlockMapping tokens
   pub low : adjacent ≤ m.index
 
-kept_leads : (around : Around) (there : Cursor) (adjacent : ℕ) (d : Bool) (start : State) (ps new : List Place)
-    (key : Option Candidate) (allowed : Bool) (k : Candidate) (piece : Piece) (others : List Place) → key ≡ Some k
-    → allowed ≡ false → new ≡ bare_place piece ∷ others
-    → LeadsTo around.limit (state_at around (moment there context.Block key [] allowed adjacent (ps ++ new)) d) start
-    → LeadsTo around.limit
-    (state_at around (moment there context.Block (Some k) [] false adjacent (ps ++ bare_place piece ∷ others)) d) start
-kept_leads around there adjacent d start ps new key allowed k piece others e f g h = rw (e, f, g) at h
+kept_leads : (around : Around) (d : Bool) (start : State) (now : FlowMoment) (k : Candidate) (ps : List Place)
+    → now.key ≡ Some k → now.allowed ≡ false → now.places ≡ ps → LeadsTo around.limit (state_at around now d) start
+    → LeadsTo around.limit (state_at around (record now { key = Some k; allowed = false; places = ps }) d) start
+kept_leads around d start now k ps e f g h =
+    let same : LeadsTo around.limit
+    (state_at around (record now { key = now.key; allowed = now.allowed; places = now.places }) d) start = h in
+    rw (e, f, g) at same
 
 -- A key on one line is read from its first character on, up to the blanks before its colon. A key has to be there
 -- where that is the column of the innermost collection.
@@ -116,9 +116,8 @@ key_read reads around calm node m p n r h line apart short white right clear bel
       line = rw lands at held.line;
       piece = known.piece;
       others = known.others;
-      leads = kept_leads inner c.there c.adjacent ran.deeper _ ps c.new c.key c.allowed here known.piece known.others
-          held.is
-          held.closed known.is ran.leads;
+      leads = kept_leads inner ran.deeper _ (after c) here (ps ++ bare_place known.piece ∷ known.others) held.is
+          held.closed (ap (λ (new : List Place). ps ++ new) known.is) ran.leads;
       tokens = t.tokens;
       are = ap place_kinds (sym known.is) ∙ c.are;
       node_are = t.are grammar.InBlockMapping;

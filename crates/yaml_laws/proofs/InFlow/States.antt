@@ -43,23 +43,6 @@ alone limit = record {
 abbrev pub required_at : Around → Context → Bool
 required_at around x = if is_block x then around.pending else around.required
 
-abbrev pub core_at : Around → Bool → Cursor → Context → Option Candidate → List Level → Bool → ℕ → Core
-core_at around d s x k ls a ad =
-    record {
-      cursor = s;
-      level = record { context = x; key = k };
-      outer = ls;
-      required = required_at around x;
-      key_allowed = a;
-      adjacent = ad;
-      indent = around.column;
-      deeper = d;
-      outer_indents = around.outers;
-      comment = None;
-      started = true;
-      ended = false;
-    }
-
 -- What a step changes: the text that is left and where it is, the level with the key that is kept at it, the levels
 -- around it, whether a key may begin, where a colon may come at once, and the places in the queue.
 pub record FlowMoment : Type 0 where
@@ -80,17 +63,39 @@ moment s x k ls a ad ps =
 abbrev pub moment_in : Context → FlowMoment → FlowMoment
 moment_in x now = record now { context = x }
 
+-- the same with another cursor
+abbrev pub at_cursor : Cursor → FlowMoment → FlowMoment
+at_cursor cursor now = record now { cursor = cursor }
+
 -- the same with further places
 abbrev pub moment_with : List Place → FlowMoment → FlowMoment
 moment_with new now = record now { places = now.places ++ new }
 
+-- right at a token at m, where the text is y
+abbrev pub right_at : FlowMoment → List ℕ → Marker → Bool → Option Candidate → Bool → FlowMoment
+right_at now y m blank key allowed = record now { cursor = cursor_at y m blank; key = key; allowed = allowed }
+
+abbrev pub core_at : Around → Bool → FlowMoment → Core
+core_at around d now =
+    record {
+      cursor = now.cursor;
+      level = record { context = now.context; key = now.key };
+      outer = now.outer;
+      required = required_at around now.context;
+      key_allowed = now.allowed;
+      adjacent = now.adjacent;
+      indent = around.column;
+      deeper = d;
+      outer_indents = around.outers;
+      comment = None;
+      started = true;
+      ended = false;
+    }
+
 -- The state at a moment, and whether content has to be one column further right, which comes last: it is so after a
 -- bracket, and not after a plain scalar, and nothing that is read depends on it. So runs are told for both.
 abbrev pub state_at : Around → FlowMoment → Bool → State
-state_at around now d = record {
-  core = core_at around d now.cursor now.context now.key now.outer now.allowed now.adjacent;
-  queue = queue_of now.places;
-}
+state_at around now d = record { core = core_at around d now; queue = queue_of now.places }
 
 -- a core and a state with the comment that ended a plain scalar outside flow
 abbrev pub noted_core : Option Marker → Core → Core
@@ -146,14 +151,17 @@ pub data Kept (around : Around) (x : Context) (k : Option Candidate) (m : Marker
   kept_inside : is_block x ≡ false → Kept around x k m
   kept_near : is_too_far k m ≡ false → Kept around x k m
 
-pub drops_far_key : (around : Around) (comment : Option Marker) (d : Bool) (s : Cursor) (x : Context)
-    (k : Option Candidate) (ls : List Level) (a : Bool) (ad : ℕ) → Kept around x k s.mark
-    → drop_far_key (noted_core comment (core_at around d s x k ls a ad))
-    ≡ Ok (noted_core comment (core_at around d s x (key_left x k s.mark) ls a ad))
+-- a moment with the key that is left
+abbrev pub with_key_left : FlowMoment → FlowMoment
+with_key_left now = record now { key = key_left now.context now.key now.cursor.mark }
+
+pub drops_far_key : (around : Around) (comment : Option Marker) (d : Bool) (now : FlowMoment)
+    → Kept around now.context now.key now.cursor.mark → drop_far_key (noted_core comment (core_at around d now))
+    ≡ Ok (noted_core comment (core_at around d (with_key_left now)))
 unfolding drop_far_key
-drops_far_key around comment d s x k ls a ad (unrequired calm) = grind arith
-drops_far_key around comment d s x k ls a ad (kept_inside flow) = grind arith
-drops_far_key around comment d s x k ls a ad (kept_near near) = grind arith
+drops_far_key around comment d now (unrequired calm) = grind arith
+drops_far_key around comment d now (kept_inside flow) = grind arith
+drops_far_key around comment d now (kept_near near) = grind arith
 
 pub left_near : (x : Context) (k : Option Candidate) (m : Marker) → is_too_far k m ≡ false → key_left x k m ≡ k
 left_near x k m near = grind arith
@@ -171,11 +179,10 @@ pub no_ends : (col : ℕ) (m : Marker) (is : List ℕ) (s : State) → nat_lt co
 no_ends col m [] s h = rw h refl
 no_ends col m (i ∷ is) s h = rw h refl
 
-pub none_unrolls : (around : Around) (col : ℕ) (m : Marker) (s : Cursor) (x : Context) (k : Option Candidate)
-    (ls : List Level) (a : Bool) (ad : ℕ) (ps : List Place) (d : Bool) → around.indent ≤ col
-    → unroll (Some col) m (state_at around (moment s x k ls a ad ps) d) ≡ state_at around (moment s x k ls a ad ps) d
+pub none_unrolls : (around : Around) (col : ℕ) (m : Marker) (now : FlowMoment) (d : Bool) → around.indent ≤ col
+    → unroll (Some col) m (state_at around now d) ≡ state_at around now d
 unfolding unroll
-none_unrolls around col m s x k ls a ad ps d h = grind (arith, no_ends)
+none_unrolls around col m now d h = grind (arith, no_ends)
 
 -- ## Steps
 
@@ -211,7 +218,7 @@ comes around start comment next to going is low kept =
     }
   where
     there : Bool → State
-    there d = noted comment (state_at around (record next { key = key_left next.context next.key next.cursor.mark }) d)
+    there d = noted comment (state_at around (with_key_left next) d)
 
     one : (d : Bool) → Run around there (start d)
     one d =
@@ -221,8 +228,7 @@ comes around start comment next to going is low kept =
           deeper = to d;
           leads = onward (start d) st (there (to d)) (going d)
               (ap (λ r. r >>= check_limit around.limit) (is d) ∙ fits) (ap (λ r. on_core r (queue_of next.places))
-              (drops_far_key around comment (to d) next.cursor next.context next.key next.outer next.allowed
-              next.adjacent kept)) stay;
+              (drops_far_key around comment (to d) next kept)) stay;
         }
 
 -- ## Keys and brackets
@@ -238,10 +244,14 @@ pub placed_right : {around : Around} {m : Marker} (x : Context) (a : Bool) → a
     → around.indent ≤ m.col → Placed around x a m
 placed_right x a calm h = right calm h
 
-pub saves_key : (n : ℕ) (around : Around) (d : Bool) (s : Cursor) (x : Context) (k : Option Candidate) (ls : List Level)
-    (a : Bool) (ad : ℕ) → Placed around x a s.mark
-    → save_key n (core_at around d s x k ls a ad) ≡ core_at around d s x (saved a n s.mark k) ls a ad
-saves_key n around d s x k ls a ad h = grind arith
+-- a moment with the key that a token at a place of the queue may be
+abbrev pub with_key_saved : ℕ → FlowMoment → FlowMoment
+with_key_saved n now = record now { key = saved now.allowed n now.cursor.mark now.key }
+
+pub saves_key : (n : ℕ) (around : Around) (d : Bool) (now : FlowMoment)
+    → Placed around now.context now.allowed now.cursor.mark
+    → save_key n (core_at around d now) ≡ core_at around d (with_key_saved n now)
+saves_key n around d now h = grind arith
 
 -- a plain scalar inside flow is right of the block collections
 pub plain_placed : (around : Around) (x : Context) (a : Bool) (m : Marker) → Placed around x a m
@@ -257,42 +267,63 @@ pub record Ready (around : Around) (start : Bool → State) (now : FlowMoment) (
   pub running : (d : Bool) → (start d).core.ended ≡ false
   pub fetches : (d : Bool) → fetch (start d)
       ≡ after_step (step (slice_index y 0) (slice_index y 1) (length now.places)
-      (core_at around (to d) (cursor_at y m blank) now.context key now.outer allowed now.adjacent))
-      (queue_of now.places)
+      (core_at around (to d) (right_at now y m blank key allowed))) (queue_of now.places)
   pub placed : Placed around now.context allowed m
   pub same : is_block now.context ≡ false → (key ≡ now.key) × (allowed ≡ now.allowed)
   pub kept : (key ≡ None) ⊎ (key ≡ now.key)
   pub holds : (k : Candidate) → around.held ≡ Some k → is_block now.context ≡ true
       → (key ≡ Some k) × (allowed ≡ false)
 
-pub opening_steps_open : (y : Context) (kind : Kind) (n : ℕ) (around : Around) (d : Bool) (s : Cursor) (x : Context)
-    (k : Option Candidate) (ls : List Level) (a : Bool) (ad : ℕ) → Placed around x a s.mark
-    → flow.opening_steps y kind n (core_at around d s x k ls a ad)
-    ≡ open_collection y kind (core_at around (deepened around x d) s x (saved a n s.mark k) ls a ad)
+-- the moment right at that token
+abbrev pub arrived : {around : Around} {start : Bool → State} {now : FlowMoment} {m : Marker} {y : List ℕ}
+    → Ready around start now m y → FlowMoment
+arrived {now = now} {m = m} {y = y} v = right_at now y m v.blank v.key v.allowed
+
+pub opening_steps_open : (y : Context) (kind : Kind) (n : ℕ) (around : Around) (d : Bool) (now : FlowMoment)
+    → Placed around now.context now.allowed now.cursor.mark → flow.opening_steps y kind n (core_at around d now)
+    ≡ open_collection y kind (core_at around (deepened around now.context d) (with_key_saved n now))
 unfolding flow.opening_steps
-opening_steps_open y kind n around d s x k ls a ad h = grind arith
+opening_steps_open y kind n around d now h = grind arith
 
 -- what is required around a collection is so inside it
 abbrev pub Calm : Around → Context → Type 0
 Calm around x = is_block x ≡ true → around.pending ≡ around.required
 
+-- inside a collection of context y
+abbrev pub opened : Context → Cursor → FlowMoment → FlowMoment
+opened y there now = record now {
+  cursor = there;
+  context = y;
+  key = None;
+  outer = level_of now.context now.key ∷ now.outer;
+  allowed = true;
+}
+
 pub open_collection_gives : (y : Context) (kind : Kind) (ch : ℕ) (r : List ℕ) (m : Marker) (b : Bool) (around : Around)
-    (d : Bool)
-    (x : Context) (k : Option Candidate) (ls : List Level) (a : Bool) (ad : ℕ) (found : SkipTabs) (there : Cursor)
-    → separation Yes (cursor_at r (along m 1) false) ≡ Ok (found, there) → length ls < most_open → is_block y ≡ false
-    → Calm around x
-    → open_collection y kind (core_at around d (cursor_at (ch ∷ r) m b) x k ls a ad)
-    ≡ completed_step (from_to m there.mark kind ∷ []) (core_at around d there y None (level_of x k ∷ ls) true ad)
+    (d : Bool) (now : FlowMoment) (found : SkipTabs) (there : Cursor)
+    → separation Yes (cursor_at r (along m 1) false) ≡ Ok (found, there) → length now.outer < most_open
+    → is_block y ≡ false → Calm around now.context
+    → open_collection y kind (core_at around d (at_cursor (cursor_at (ch ∷ r) m b) now))
+    ≡ completed_step (from_to m there.mark kind ∷ []) (core_at around d (opened y there now))
 unfolding open_collection
-open_collection_gives y kind ch r m b around d x k ls a ad found there is low flows calm = grind arith
+open_collection_gives y kind ch r m b around d now found there is low flows calm = grind arith
+
+-- behind a collection, where the level around it is that of context x with the key j, inside ls
+abbrev pub closed : Context → Option Candidate → List Level → Cursor → FlowMoment → FlowMoment
+closed x j ls there now = record now {
+  cursor = there;
+  context = x;
+  key = j;
+  outer = ls;
+  allowed = false;
+  adjacent = cond (is_block x) now.adjacent there.mark.index;
+}
 
 pub close_collection_gives : (ends : Bool) (kind : Kind) (ch : ℕ) (r : List ℕ) (m : Marker) (b : Bool) (around : Around)
-    (d : Bool)
-    (y : Context) (k j : Option Candidate) (x : Context) (ls : List Level) (a : Bool) (ad : ℕ) (found : SkipTabs)
-    (there : Cursor) → separation Yes (cursor_at r (along m 1) false) ≡ Ok (found, there) → is_block y ≡ false
-    → Calm around x
-    → close_collection ends kind (core_at around d (cursor_at (ch ∷ r) m b) y k (level_of x j ∷ ls) a ad)
-    ≡ completed_step (behind_pair ends m (from_to m there.mark kind))
-    (core_at around d there x j ls false (cond (is_block x) ad there.mark.index))
+    (d : Bool) (now : FlowMoment) (x : Context) (j : Option Candidate) (ls : List Level) (found : SkipTabs)
+    (there : Cursor) → separation Yes (cursor_at r (along m 1) false) ≡ Ok (found, there) → is_block now.context ≡ false
+    → Calm around x → close_collection ends kind
+    (core_at around d (record now { cursor = cursor_at (ch ∷ r) m b; outer = level_of x j ∷ ls }))
+    ≡ completed_step (behind_pair ends m (from_to m there.mark kind)) (core_at around d (closed x j ls there now))
 unfolding close_collection
-close_collection_gives ends kind ch r m b around d y k j x ls a ad found there is flows calm = grind arith
+close_collection_gives ends kind ch r m b around d now x j ls found there is flows calm = grind arith
