@@ -26,7 +26,7 @@ use Rattle.saphyr_pieces.specs.declared.pieces.PieceReader.{PieceReader}
 use Rattle.saphyr_pieces.specs.declared.pieces.Source.{Source}
 use Rattle.saphyr_pieces.specs.declared.pieces.Source.TheVariants as source
 use Rattle.saphyr_pieces.specs.Pieces.{HandsOutOrWaits, at, cursor_from, wants_more, wants_more_from}
-use Rattle.saphyr_pieces.specs.Views.{AdvancesBy, CountsOne, FailsOrWaits, GoesBack, IsLack, IsReachedFrom, IsSoundFrom, IsSoundReader, failed, pieces_of}
+use Rattle.saphyr_pieces.specs.Views.{AdvancesBy, CountsOne, FailsOrWaits, GoesBack, GoesBackFrom, IsLack, IsReachedFrom, IsSoundFrom, IsSoundReader, LeadsTo, failed, pieces_of}
 use Rattle.saphyr_pieces.proofs.Places.{is_text, same_readers, sound_without_copy}
 
 -- ## An event
@@ -40,23 +40,33 @@ same_behind None None e c d none h =
 
 -- what is known of a reader of a text
 known : (p : PieceReader) → IsSoundReader p → wants_more (pieces_of p) ≡ true
-    → ((cursor p.reader).kept ≡ None) × IsReachedFrom p.copy p.events p.reader
+    → ((cursor p.reader).kept ≡ None) × LeadsTo p p.reader
 known p h wants = subst (λ (s : Source). IsSoundFrom s p) (is_text p.source wants) h.source
+
+-- a reader that goes on, with a copy that leads to it
+pub sound_leading : (p q : PieceReader) → wants_more (pieces_of p) ≡ true → q.source ≡ p.source
+    → (cursor q.reader).kept ≡ (cursor p.reader).kept → (cursor q.reader).current ≡ (cursor p.reader).current
+    → (LeadsTo p p.reader → LeadsTo q q.reader) → IsSoundReader p → IsSoundReader q
+sound_leading p q wants text kept current leads h =
+    let old = known p h wants in
+    record {
+      source = subst (λ (s : Source). IsSoundFrom s q) (sym (text ∙ is_text p.source wants))
+          (kept ∙ old.0, leads old.1);
+      current = current ∙ h.current;
+    }
 
 -- the same reader, with another copy
 pub renewed : (p q : PieceReader) → q.reader ≡ p.reader → q.source ≡ p.source → wants_more (pieces_of p) ≡ true
-    → IsReachedFrom q.copy q.events q.reader → IsSoundReader p → IsSoundReader q
-renewed p q same text wants reached h = record {
-  source = subst (λ (s : Source). IsSoundFrom s q) (sym (text ∙ is_text p.source wants))
-      (ap (λ (r : EventReader OwnedText). (cursor r).kept) same ∙ (known p h wants).0, reached);
-  current = ap (λ (r : EventReader OwnedText). (cursor r).current) same ∙ h.current;
-}
+    → LeadsTo q q.reader → IsSoundReader p → IsSoundReader q
+renewed p q same text wants reached =
+    sound_leading p q wants text (ap (λ (r : EventReader OwnedText). (cursor r).kept) same)
+    (ap (λ (r : EventReader OwnedText). (cursor r).current) same) (λ _. reached)
 
 -- the reader hands out an event, which is counted
 pub sound_behind_event : (p q : PieceReader) (r : EventReader OwnedText) (next : Event × Span)
     → wants_more (pieces_of p) ≡ true
     → ((more : List ℕ) → GivesNext (Some (Ok next)) (cursor_in more p.reader) (cursor_in more r))
-    → CountsOne p.copy p.events q.copy q.events → q.reader ≡ r → q.source ≡ p.source → IsSoundReader p → IsSoundReader q
+    → CountsOne p q → q.reader ≡ r → q.source ≡ p.source → IsSoundReader p → IsSoundReader q
 sound_behind_event p q r next wants gives counts same text h =
     let old = known p h wants in
     let c : EventCursor = cursor p.reader in
@@ -64,7 +74,7 @@ sound_behind_event p q r next wants gives counts same text h =
     record {
       source = subst (λ (s : Source). IsSoundFrom s q) (sym (text ∙ is_text p.source wants)) (
         ap (λ (v : EventReader OwnedText). (cursor v).kept) same ∙ stays.0 ∙ old.0,
-        subst (IsReachedFrom q.copy q.events) (sym same)
+        subst (LeadsTo q) (sym same)
             (counts p.reader r old.1 (λ more. (event_of next, gives more))),
       );
       current = ap (λ (v : EventReader OwnedText). (cursor v).current) same ∙ stays.1 ∙ h.current;
@@ -142,10 +152,14 @@ lacks p q next f x h wants goes_on is given (reported, lack) =
 
 -- ## A fault, or the reader went back
 
-went_back : (copy : Option (EventReader OwnedText)) (n : ℕ) (a b : EventReader OwnedText) → IsReachedFrom copy n a
-    → GoesBack copy n b → (more : List ℕ) → cursor_in more b ≡ cursor_in more a
-went_back None n a b from to more = absurd to
-went_back (Some copy) n a b from to more = same_readers n copy a b from to more
+went_back_from : (copy : Option (EventReader OwnedText)) (since : List ℕ) (n : ℕ) (a b : EventReader OwnedText)
+    → IsReachedFrom copy since n a → GoesBackFrom copy since n b → (more : List ℕ) → cursor_in more b ≡ cursor_in more a
+went_back_from None since n a b from to more = absurd to
+went_back_from (Some copy) since n a b from to more = same_readers since n copy a b from to more
+
+went_back : (p : PieceReader) (a b : EventReader OwnedText) → LeadsTo p a → GoesBack p b → (more : List ℕ)
+    → cursor_in more b ≡ cursor_in more a
+went_back p = went_back_from p.copy (chars (string_bytes p.since)) p.events
 
 module _ (p : PieceReader) (r : EventReader OwnedText) (f : Fault) (wants : wants_more (pieces_of p) ≡ true)
     (gives : (more : List ℕ) → GivesNext (Some (Err f)) (cursor_in more p.reader) (cursor_in more r))
@@ -177,7 +191,7 @@ module _ (p : PieceReader) (r : EventReader OwnedText) (f : Fault) (wants : want
           λ later.
               ap (λ (s : Source). cursor_from s (pieces_of q) later) (text ∙ is)
               ∙ ap (λ (m : String Global). cursor_in (chars (string_bytes m) ++ later) q.reader) more
-              ∙ went_back p.copy p.events p.reader q.reader (known p h wants).1 back
+              ∙ went_back p p.reader q.reader (known p h wants).1 back
               (chars (string_bytes p.more) ++ later)
               ∙ sym (ap (λ (s : Source). cursor_from s (pieces_of p) later) is),
         )
@@ -195,16 +209,17 @@ module _ (p : PieceReader) (r : EventReader OwnedText) (f : Fault) (wants : want
         sound_given q given
         (current_as g q fails ∙ fault_leaves c.current c.kept f c (cursor r) (gives []) ∙ h.current)
     sound_behind_fault None g q (back, none, more, text) =
-        let same = went_back p.copy p.events p.reader q.reader (known p h wants).1 back [] in
+        let same = went_back p p.reader q.reader (known p h wants).1 back [] in
         sound_without_copy p q none (ap (λ (v : EventCursor). v.kept) same) text
         (ap (λ (v : EventCursor). v.current) same) h
 
 -- ## Where nothing comes
 
-reached_along : (copy : Option (EventReader OwnedText)) (n : ℕ) (a b : EventReader OwnedText)
-    → ((more : List ℕ) → cursor_in more b ≡ cursor_in more a) → IsReachedFrom copy n a → IsReachedFrom copy n b
-reached_along None n a b same h = tt
-reached_along (Some copy) n a b same h = λ more. subst (AdvancesBy n (cursor_in more copy)) (sym (same more)) (h more)
+reached_along : (copy : Option (EventReader OwnedText)) (since : List ℕ) (n : ℕ) (a b : EventReader OwnedText)
+    → ((more : List ℕ) → cursor_in more b ≡ cursor_in more a) → IsReachedFrom copy since n a → IsReachedFrom copy since n b
+reached_along None since n a b same h = tt
+reached_along (Some copy) since n a b same h = λ more.
+    subst (AdvancesBy n (cursor_in (since ++ more) copy)) (sym (same more)) (h more)
 
 pub sound_over : (p : PieceReader) (r : EventReader OwnedText) → wants_more (pieces_of p) ≡ true
     → ((more : List ℕ) → GivesNext None (cursor_in more p.reader) (cursor_in more r)) → IsSoundReader p
@@ -214,7 +229,7 @@ sound_over p r wants gives h =
     record {
       source = subst (λ (s : Source). IsSoundFrom s (record p { reader = r })) (sym (is_text p.source wants)) (
         ap (λ (v : EventCursor). v.kept) (gives []).1 ∙ old.0,
-        reached_along p.copy p.events p.reader r (λ more. (gives more).1) old.1,
+        reached_along p.copy (chars (string_bytes p.since)) p.events p.reader r (λ more. (gives more).1) old.1,
       );
       current = ap (λ (v : EventCursor). v.current) (gives []).1 ∙ h.current;
     }

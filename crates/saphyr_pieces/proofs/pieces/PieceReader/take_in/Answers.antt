@@ -1,65 +1,43 @@
--- The reader goes on over a text that begins with its own.
-use Rattle.std.proofs.Common.{◌≡◌, ◌++◌, List, [], ℕ, refl, sym, ap, ◌∙◌, arith, length, drop}
+-- The reader goes on over what came behind its text.
+use Rattle.std.proofs.Common.{◌≡◌, ◌++◌, List, [], ℕ, sym, ap, subst, ◌∙◌}
 use Rattle.std.specs.Prelude.{string_bytes}
 use Rattle.std.specs.Str.{chars}
-use Rattle.std.proofs.lemmas.Str.{IsUtf8-string_bytes, chars-append, chars-nil}
-use Rattle.saphyr_input.proofs.Texts.{length-chars}
-use Rattle.saphyr_scanner.specs.Steps.State.{with_rest}
+use Rattle.std.proofs.lemmas.Str.{chars-nil}
 use Rattle.saphyr_scanner.specs.Views.Scanning.{text_in}
 use Rattle.saphyr_machine.specs.Cursor.{EventCursor}
 use Rattle.saphyr_machine.specs.declared.reader.EventReader.{EventReader}
-use Rattle.saphyr_machine.specs.Views.Readers.{cursor_in, cursor_over, scanning_of}
+use Rattle.saphyr_machine.specs.Views.Readers.{cursor_in}
 use Rattle.saphyr_pieces.specs.declared.owned.OwnedText.{OwnedText}
-use Rattle.saphyr_pieces.specs.Pieces.{at}
+use Rattle.saphyr_pieces.specs.declared.pieces.Source.{Source}
+use Rattle.saphyr_pieces.specs.Pieces.{at, cursor_from}
 use Rattle.saphyr_pieces.specs.Views.{pieces_of}
-use Rattle.saphyr_pieces.proofs.Places.{sound_without_copy, takes_in}
+use Rattle.saphyr_pieces.proofs.Places.{is_text}
+use Rattle.saphyr_pieces.proofs.Stepping.{sound_leading}
 use Rattle.saphyr_pieces.proofs.pieces.PieceReader.take_in.Goals as goal
-use Rattle.saphyr_pieces.proofs.pieces.PieceReader.take_in.Goals.{After-over}
+use Rattle.saphyr_pieces.proofs.pieces.PieceReader.take_in.Goals.{After-extend_copy}
 
-pub over-requires : goal.over-requires
-over-requires c =
-    let there : (scanning_of c.replace-reader.result).state.core.cursor.mark.index ≡ c.index.result =
-    ap (λ (r : EventReader OwnedText). (scanning_of r).state.core.cursor.mark.index) c.replace-reader.ensures.value
-    ∙ sym c.index.ensures in
-    let text = c.push_str-2.new.self in
-    let bytes : length c.as_str.result.now ≡ length (string_bytes text) = ap length c.as_str.ensures.value in
-    let counted = length-chars (string_bytes text) (IsUtf8-string_bytes text) in
-    rw c.new.ensures (omega (arith, there, bytes, counted, c.in-Some.ensures))
-
--- the text that the reader gets
-text_is : (c : After-over) → chars (drop c.new.result.start (string_bytes c.new.result.text))
-    ≡ (scanning_of c.args.self.now.reader).state.core.cursor.rest ++ chars (string_bytes c.args.self.now.more)
-text_is c =
-    let rest = c.as_str-rest.result.now in
-    let more = c.deref.result.now in
-    let text = c.in_ok-push_str-2.ensures.bytes ∙ ap (λ (bs : List ℕ). bs ++ more)
-    (c.in_ok-push_str.ensures.bytes ∙ ap (λ (bs : List ℕ). bs ++ rest) c.in_ok-text.ensures.bytes) in
-    c.new.ensures ∙ ap chars text ∙ chars-append rest more c.as_str-rest.utf8
-    ∙ ap (λ (cs : List ℕ). cs ++ chars more) (c.as_str-rest.ensures ∙ c.input.ensures)
-    ∙ ap (λ (bs : List ℕ). (scanning_of c.args.self.now.reader).state.core.cursor.rest ++ chars bs) c.deref.ensures
-
--- where the reader is over it
-there : (c : After-over) (later : List ℕ)
-    → cursor_in later c.over.result ≡ at (pieces_of c.args.self.now) (text_in c.args.growth later [])
+-- where the reader is over its text and what came
+there : (c : After-extend_copy) (later : List ℕ)
+    → cursor_in later c.extend_copy.new.self.reader
+    ≡ cursor_in (chars (string_bytes c.args.self.now.more) ++ text_in c.args.growth later []) c.args.self.now.reader
 there c later =
-    let rest = chars (drop c.new.result.start (string_bytes c.new.result.text)) in
-    takes_in c.args.self.now c.args.growth c.over.result rest c.requires.wants
-    (sym c.growth.ensures ∙ c.in-Growing.is)
-    (c.over.ensures.scanner
-    ∙ ap (λ (r : EventReader OwnedText). record (scanning_of r)
-    { state = with_rest rest (scanning_of r).state; growth = c.args.growth }) c.replace-reader.ensures.value)
-    (λ rest. c.over.ensures.cursor rest
-    ∙ ap (λ (r : EventReader OwnedText). cursor_over rest r) c.replace-reader.ensures.value) (text_is c) later
+    ap (λ (r : EventReader OwnedText). cursor_in later r) c.extend_copy.ensures.reader
+    ∙ c.in_ok-grow.ensures.cursor later
+    ∙ ap (λ (bs : List ℕ). cursor_in (chars bs ++ text_in c.args.growth later []) c.args.self.now.reader) c.deref.ensures
 
 pub returns-clause-at : goal.returns-clause-at
-returns-clause-at c = there (goal.at.returns-clause-at c).After-over
+returns-clause-at c later =
+    there (goal.at.returns-clause-at c).After-extend_copy later
+    ∙ ap (λ (s : Source). cursor_from s (pieces_of c.args.self.now) (text_in c.args.growth later []))
+    (sym (is_text c.args.self.now.source c.requires.wants))
 
 pub returns-clause-more : goal.returns-clause-more
 returns-clause-more c = ap chars c.clear.ensures.bytes ∙ chars-nil
 
 pub returns-clause-sound : goal.returns-clause-sound
 returns-clause-sound c =
-    let same = c.over.ensures.cursor []
-    ∙ ap (λ (r : EventReader OwnedText). cursor_over [] r) c.replace-reader.ensures.value in
-    sound_without_copy c.args.self.now _ c.take.ensures.after (ap (λ (v : EventCursor). v.kept) same) refl
-    (ap (λ (v : EventCursor). v.current) same) c.requires.sound
+    let over = there (goal.at.returns-clause-sound c).After-extend_copy in
+    sound_leading c.args.self.now _ c.requires.wants c.extend_copy.ensures.source
+    (ap (λ (v : EventCursor). v.kept) (over [])) (ap (λ (v : EventCursor). v.current) (over []))
+    (λ leads. c.extend_copy.ensures.copied c.args.self.now.reader c.extend_copy.new.self.reader leads over)
+    c.requires.sound
