@@ -145,6 +145,14 @@ pub fn check_standard(text: &str) -> Result<(), Option<Deviation>> {
     }))
 }
 
+/// The text of bytes that are ASCII.
+#[inline]
+pub fn text_of_ascii(bytes: &[u8]) -> &str {
+    assert!(bytes.is_ascii());
+    // SAFETY: ASCII is UTF-8.
+    unsafe { str::from_utf8_unchecked(bytes) }
+}
+
 /// The limits of a text that comes in pieces.
 #[derive(Clone, Copy)]
 pub struct Limits {

@@ -71,25 +71,18 @@ impl<T: Input> Machine<T> {
         }
     }
 
-    // The same machine, before the characters of another input, behind which more may come or not.
+    // Goes on before the characters of another input, behind which more may come or not. Returns the input that was
+    // there.
     #[tactic(auto, unfolding(saphyr_scanner::specs::Views::Scanning::tokens_over))]
-    pub(super) fn over<U: Input>(self, input: U, growth: Growth) -> Machine<U>
-    where
-        T: Drop,
-        requires { self.scanner.state.core.cursor.mark.index + length (U.rest input) < 2 ^ 64 }
-        ensures scanner { result.scanner ≡ record self.scanner
-            { state = with_rest (U.rest input) self.scanner.state; growth = growth } }
-        ensures left { (rest : List ℕ) → machine_over rest result ≡ machine_over rest self }
+    pub(super) fn exchange(&mut self, input: T, growth: Growth) -> T
+        requires { self.old.scanner.state.core.cursor.mark.index + length (T.rest input)
+            < 2 ^ 64 }
+        ensures scanner { self.new.scanner ≡ record self.old.scanner
+            { state = with_rest (T.rest input) self.old.scanner.state; growth = growth } }
+        ensures left { (rest : List ℕ) → machine_over rest self.new ≡ machine_over rest self.old }
+        ensures input { T.rest result ≡ self.old.scanner.state.core.cursor.rest }
     {
-        Machine {
-            scanner: self.scanner.over(input, growth),
-            state: self.state,
-            states: self.states,
-            anchors: self.anchors,
-            prefixes: self.prefixes,
-            keep_tags: self.keep_tags,
-            alloc: self.alloc,
-        }
+        self.scanner.exchange(input, growth)
     }
 
     // Gives back the text and the tag of the event that is overwritten, so the next one uses their memory.

@@ -88,30 +88,22 @@ impl<'input, T: Input> EventReader<'input, T> {
         }
     }
 
-    /// The same reader, before the characters of another input, behind which more may come or not.
-    pub fn over<U: Input>(self, input: U, growth: Growth) -> EventReader<'input, U>
-    where
-        T: Drop,
-        requires { (scanning_of self).state.core.cursor.mark.index + length (U.rest input)
+    /// Goes on before the characters of another input, behind which more may come or not. Returns the input that was
+    /// there.
+    pub fn exchange(&mut self, input: T, growth: Growth) -> T
+        requires { (scanning_of self.old).state.core.cursor.mark.index + length (T.rest input)
             < 2 ^ 64 }
-        ensures scanner { scanning_of result ≡ record (scanning_of self.entry)
-            { state = with_rest (U.rest input) (scanning_of self.entry).state; growth = growth } }
-        ensures cursor { (rest : List ℕ) → cursor_over rest result ≡ cursor_over rest self.entry }
+        ensures scanner { scanning_of self.new ≡ record (scanning_of self.old)
+            { state = with_rest (T.rest input) (scanning_of self.old).state; growth = growth } }
+        ensures cursor { (rest : List ℕ) → cursor_over rest self.new ≡ cursor_over rest self.old }
+        ensures input { T.rest result ≡ (scanning_of self.old).state.core.cursor.rest }
     {
-        let EventReader {
-            machine,
-            current,
-            kept,
-            inside,
-            finished,
-        } = self;
-        EventReader {
-            machine: machine.over(input, growth),
-            current,
-            kept,
-            inside,
-            finished,
-        }
+        self.machine.exchange(input, growth)
+    }
+
+    /// Where a node comes next in block style, of which no token was read: the first column of its later lines.
+    pub fn node_column(&self) -> Option<usize> {
+        self.machine.scanner.node_column()
     }
 
     /// What is known of the text's end.

@@ -1,5 +1,5 @@
 -- Tokens that a reader passed change nothing of what it gives next.
-use Rattle.std.proofs.Common.{◌≡◌, ◌≢◌, ◌++◌, List, [], ◌∷◌, ℕ, Bool, true, false, Option, Some, None, Result, Ok, Err, refl, sym, ap, subst, ◌∙◌, append_assoc}
+use Rattle.std.proofs.Common.{◌≡◌, ◌≢◌, ◌++◌, List, [], ◌∷◌, ℕ, Bool, Option, Some, None, Result, Ok, Err, refl, sym, ap, subst, ◌∙◌, append_assoc}
 use Rattle.std.proofs.lemmas.List.{append-nil}
 use Rattle.saphyr_scalar.specs.declared.scalar.position.Span.{Span}
 use Rattle.saphyr_scalar.specs.declared.scalar.fault.Refusal.{Refusal}
@@ -9,14 +9,14 @@ use Rattle.saphyr_machine.specs.declared.fault.Fault.{Fault}
 use Rattle.saphyr_machine.specs.declared.reader.EventReader.{EventReader}
 use Rattle.saphyr_machine.specs.declared.state.State.{State}
 use Rattle.saphyr_machine.specs.declared.state.State.TheVariants as state
-use Rattle.saphyr_machine.specs.Answer.{Answer, answer_of_step, remaining_answer}
+use Rattle.saphyr_machine.specs.Answer.{answer_of_step, remaining_answer}
 use Rattle.saphyr_machine.specs.Calls.{AdvancesFrom, FailsFrom, GivesNext, IsOverFrom}
 use Rattle.saphyr_machine.specs.Cursor.{EventCursor, Kept, Refuses, event_of, keeping_tags}
 use Rattle.saphyr_machine.specs.Events.{Happening}
 use Rattle.saphyr_machine.specs.Passed.{AreIdle, MakeNoEvent, Passes, before_tokens}
 use Rattle.saphyr_machine.specs.Steps.Documents.{implicit_start}
 use Rattle.saphyr_machine.specs.Steps.Expected.{event_step, event_step_at}
-use Rattle.saphyr_machine.specs.Steps.Machine.{Emitted, Machine}
+use Rattle.saphyr_machine.specs.Steps.Machine.{Emitted}
 use Rattle.saphyr_machine.specs.Views.Readers.{cursor, cursor_in}
 use Rattle.saphyr_machine.proofs.Unroll.{unroll}
 use Rattle.saphyr_pieces.specs.declared.owned.OwnedText.{OwnedText}

@@ -1,8 +1,9 @@
 -- Readers that are at the same place, and where a reader is over a longer text.
-use Rattle.std.proofs.Common.{◌≡◌, ℕ, zero, suc, ◌+◌, List, [], ◌++◌, true, Option, Some, None, refl, sym, ap, subst, ◌∙◌, append_assoc, add-one}
+use Rattle.std.proofs.Common.{◌≡◌, ℕ, zero, suc, ◌+◌, List, [], ◌++◌, length, true, Option, Some, None, refl, sym, ap, subst, ◌∙◌, append_assoc, add-one}
 use Rattle.std.specs.Prelude.{string_bytes}
 use Rattle.std.specs.Str.{chars}
-use Rattle.std.proofs.lemmas.List.{append-nil}
+use Rattle.std.proofs.lemmas.List.{append-nil, nil_from_length}
+use Rattle.std.proofs.lemmas.Str.{chars-nil}
 use Rattle.saphyr_scalar.specs.declared.scalar.position.Span.{Span}
 use Rattle.saphyr_scanner.specs.declared.growth.Growth.{Growth}
 use Rattle.saphyr_scanner.specs.declared.growth.Growth.TheVariants as growth
@@ -22,7 +23,7 @@ use Rattle.saphyr_pieces.specs.declared.pieces.Source.{Source}
 use Rattle.saphyr_pieces.specs.declared.pieces.Source.TheVariants as source
 use Rattle.saphyr_pieces.specs.Pieces.{Pieces, at, cursor_from, reader_in, wants_more, wants_more_from}
 use Rattle.saphyr_pieces.specs.Passed.{passed_tokens}
-use Rattle.saphyr_pieces.specs.Views.{AdvancesBy, AreIdleBefore, IsReachedFrom, IsSoundFrom, IsSoundReader, ReadsOnBy, pieces_of, place_in}
+use Rattle.saphyr_pieces.specs.Views.{AdvancesBy, AreIdleBefore, GoesOnOver, IsReachedFrom, IsSoundFrom, IsSoundReader, ReadsOnOver, pieces_of, place_in}
 
 -- ## The events of a cursor are those of its place
 
@@ -48,19 +49,49 @@ same_place (suc n) c d e (m, before, (x, last)) (o, before', (y, last')) =
     same_event m.current m.kept x y m d e last (subst (λ (v : EventCursor). Advances y v e) (sym middle) last')
 
 -- a copy that leads to two readers by as many events
-pub same_readers : (n : ℕ) (copy a b : EventReader OwnedText) → ReadsOnBy n copy a → ReadsOnBy n copy b
-    → (more : List ℕ) → cursor_in more b ≡ cursor_in more a
-same_readers n copy a b p q more =
-    same_place n (cursor_in more copy) (cursor_in more b) (cursor_in more a) (q more) (p more)
+pub same_readers : (since : List ℕ) (n : ℕ) (copy a b : EventReader OwnedText) → ReadsOnOver since n copy a
+    → ReadsOnOver since n copy b → (more : List ℕ) → cursor_in more b ≡ cursor_in more a
+same_readers since n copy a b p q more =
+    same_place n (cursor_in (since ++ more) copy) (cursor_in more b) (cursor_in more a) (q more) (p more)
 
-pub one_more : (copy : Option (EventReader OwnedText)) (n m : ℕ) (from to : EventReader OwnedText) → m ≡ n + 1
-    → IsReachedFrom copy n from
+pub one_more : (copy : Option (EventReader OwnedText)) (since : List ℕ) (n m : ℕ) (from to : EventReader OwnedText)
+    → m ≡ n + 1 → IsReachedFrom copy since n from
     → ((more : List ℕ) → (e : Happening × Span) × Advances e (cursor_in more from) (cursor_in more to))
-    → IsReachedFrom copy m to
-one_more None n m from to is reached steps = tt
-one_more (Some copy) n m from to is reached steps = λ more.
-    subst (λ (k : ℕ). AdvancesBy k (cursor_in more copy) (cursor_in more to)) (sym (is ∙ add-one n))
+    → IsReachedFrom copy since m to
+one_more None since n m from to is reached steps = tt
+one_more (Some copy) since n m from to is reached steps = λ more.
+    subst (λ (k : ℕ). AdvancesBy k (cursor_in (since ++ more) copy) (cursor_in more to)) (sym (is ∙ add-one n))
     (cursor_in more from, reached more, steps more)
+
+-- a copy that leads to a reader, if more comes behind the texts of both
+pub extended : (copy : Option (EventReader OwnedText)) (since more : List ℕ) (n : ℕ) (from to : EventReader OwnedText)
+    → IsReachedFrom copy since n from → GoesOnOver more from to → IsReachedFrom copy (since ++ more) n to
+extended None since more n from to reached on = tt
+extended (Some copy) since more n from to reached on = λ later.
+    subst (λ (t : List ℕ). AdvancesBy n (cursor_in t copy) (cursor_in later to)) (sym (append_assoc since more later))
+    (subst (AdvancesBy n (cursor_in (since ++ (more ++ later)) copy)) (sym (on later)) (reached (more ++ later)))
+
+-- a copy that was just made
+pub copied : (o : Option (EventReader OwnedText)) (since : List ℕ) (copy reader : EventReader OwnedText)
+    → o ≡ Some copy → since ≡ [] → ((more : List ℕ) → cursor_in more copy ≡ cursor_in more reader)
+    → IsReachedFrom o since zero reader
+copied o since copy reader is nothing same =
+    subst (λ (p : Option (EventReader OwnedText)). IsReachedFrom p since zero reader) (sym is)
+    (λ more. sym (same more) ∙ ap (λ (s : List ℕ). cursor_in (s ++ more) copy) (sym nothing))
+
+-- what came behind the texts of both is put behind what came before
+pub carried : (copy : Option (EventReader OwnedText)) (since longer more : List ℕ) (n : ℕ) (g : Growth)
+    (from to : EventReader OwnedText) → g ≡ growth.Growing → longer ≡ since ++ more → IsReachedFrom copy since n from
+    → ((later : List ℕ) → cursor_in later to ≡ cursor_in (more ++ text_in g later []) from)
+    → IsReachedFrom copy longer n to
+carried copy since longer more n g from to grows is reached on =
+    subst (λ (s : List ℕ). IsReachedFrom copy s n to) (sym is) (extended copy since more n from to reached
+    (λ later. on later ∙ ap (λ (h : Growth). cursor_in (more ++ text_in h later []) from) grows))
+
+-- nothing came
+pub over_nothing : (bs : List ℕ) (reader : EventReader OwnedText) → length bs ≡ 0 → GoesOnOver (chars bs) reader reader
+over_nothing bs reader none later =
+    ap (λ (s : List ℕ). cursor_in (s ++ later) reader) (sym (ap chars (nil_from_length bs none) ∙ chars-nil))
 
 -- ## Over another text
 
@@ -84,24 +115,21 @@ is_text source.Text e = refl
 is_text _ e = absurd (cc)
 
 -- a reader over its text and what came behind that
-module _ (p : PieceReader) (g : Growth) (r : EventReader OwnedText) (rest : List ℕ)
-    (grows : (scanning_of p.reader).growth ≡ growth.Growing)
-    (seen : scanning_of r
-    ≡ record (scanning_of p.reader) { state = with_rest rest (scanning_of p.reader).state; growth = g })
-    (over : (rest : List ℕ) → cursor_over rest r ≡ cursor_over rest p.reader)
-    (is : rest ≡ (scanning_of p.reader).state.core.cursor.rest ++ chars (string_bytes p.more))
+module _ (old r : EventReader OwnedText) (g : Growth) (rest more : List ℕ)
+    (grows : (scanning_of old).growth ≡ growth.Growing)
+    (seen : scanning_of r ≡ record (scanning_of old) { state = with_rest rest (scanning_of old).state; growth = g })
+    (over : (rest : List ℕ) → cursor_over rest r ≡ cursor_over rest old)
+    (is : rest ≡ (scanning_of old).state.core.cursor.rest ++ more)
   where
-    pub reads_on : (later : List ℕ)
-        → cursor_in later r ≡ cursor_in (chars (string_bytes p.more) ++ text_in g later []) p.reader
+    pub reads_on : (later : List ℕ) → cursor_in later r ≡ cursor_in (more ++ text_in g later []) old
     unfolding tokens_in
     reads_on later =
-        let before = (scanning_of p.reader).state.core.cursor.rest in
-        let more = chars (string_bytes p.more) in
+        let before = (scanning_of old).state.core.cursor.rest in
         ap (λ (s : Scanning). cursor_over (text_in s.growth later s.state.core.cursor.rest) r) seen
         ∙ over (text_in g later rest)
-        ∙ ap (λ (t : List ℕ). cursor_over (text_in g later t) p.reader) is
-        ∙ ap (λ (t : List ℕ). cursor_over t p.reader) (rest_with g before more later)
-        ∙ ap (λ (h : Growth). cursor_over (text_in h (more ++ text_in g later []) before) p.reader) (sym grows)
+        ∙ ap (λ (t : List ℕ). cursor_over (text_in g later t) old) is
+        ∙ ap (λ (t : List ℕ). cursor_over t old) (rest_with g before more later)
+        ∙ ap (λ (h : Growth). cursor_over (text_in h (more ++ text_in g later []) before) old) (sym grows)
 
 -- so it is at the place of the parser
 pub takes_in : (p : PieceReader) (g : Growth) (r : EventReader OwnedText) → wants_more (pieces_of p) ≡ true
@@ -117,7 +145,8 @@ module _ (p q : PieceReader) (none : q.copy ≡ None) (kept : (cursor q.reader).
     sound_from : (s : Source) → IsSoundFrom s p → IsSoundFrom s q
     sound_from source.Text h = (
       kept ∙ h.0,
-      subst (λ (copy : Option (EventReader OwnedText)). IsReachedFrom copy q.events q.reader) (sym none) tt,
+      subst (λ (copy : Option (EventReader OwnedText)). IsReachedFrom copy (chars (string_bytes q.since)) q.events q.reader)
+          (sym none) tt,
     )
     sound_from source.Given h = tt
     sound_from source.Lost h = tt

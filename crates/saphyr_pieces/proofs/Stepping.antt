@@ -29,7 +29,7 @@ use Rattle.saphyr_pieces.specs.declared.pieces.Source.{Source}
 use Rattle.saphyr_pieces.specs.declared.pieces.Source.TheVariants as source
 use Rattle.saphyr_pieces.specs.Pieces.{HandsOutOrWaits, at, cursor_from, wants_more, wants_more_from}
 use Rattle.saphyr_pieces.specs.Passed.{passed_tokens}
-use Rattle.saphyr_pieces.specs.Views.{AdvancesBy, AreIdleBefore, CountsOne, FailsOrWaits, GoesBack, IsLack, IsReachedFrom, IsSoundFrom, IsSoundReader, PassesOn, failed, pieces_of, place_in}
+use Rattle.saphyr_pieces.specs.Views.{AdvancesBy, AreIdleBefore, CountsOne, FailsOrWaits, GoesBack, GoesBackFrom, IsLack, IsReachedFrom, IsSoundFrom, IsSoundReader, LeadsTo, PassesOn, failed, pieces_of, place_in}
 use Rattle.saphyr_pieces.proofs.IdleTokens.{gives_there, idle_along, passed_none, passes_further, stays_on}
 use Rattle.saphyr_pieces.proofs.Places.{is_text, same_readers, sound_without_copy}
 
@@ -44,26 +44,38 @@ same_behind None None e c d none h =
 
 -- what is known of a reader of a text
 known : (p : PieceReader) → IsSoundReader p → wants_more (pieces_of p) ≡ true
-    → ((cursor p.reader).kept ≡ None) × IsReachedFrom p.copy p.events p.reader
+    → ((cursor p.reader).kept ≡ None) × LeadsTo p p.reader
 known p h wants = subst (λ (s : Source). IsSoundFrom s p) (is_text p.source wants) h.source
+
+-- a reader that goes on, with a copy that leads to it
+pub sound_leading : (p q : PieceReader) → wants_more (pieces_of p) ≡ true → q.source ≡ p.source
+    → (cursor q.reader).kept ≡ (cursor p.reader).kept → (cursor q.reader).current ≡ (cursor p.reader).current
+    → (LeadsTo p p.reader → LeadsTo q q.reader) → AreIdleBefore (passed_tokens q.passed) q.reader → IsSoundReader p
+    → IsSoundReader q
+sound_leading p q wants text kept current leads idle h =
+    let old = known p h wants in
+    record {
+      source = subst (λ (s : Source). IsSoundFrom s q) (sym (text ∙ is_text p.source wants))
+          (kept ∙ old.0, leads old.1);
+      current = current ∙ h.current;
+      idle = idle;
+    }
 
 -- the same reader, with another copy
 pub renewed : (p q : PieceReader) → q.reader ≡ p.reader → q.source ≡ p.source → q.passed ≡ p.passed
-    → wants_more (pieces_of p) ≡ true → IsReachedFrom q.copy q.events q.reader → IsSoundReader p → IsSoundReader q
-renewed p q same text passed wants reached h = record {
-  source = subst (λ (s : Source). IsSoundFrom s q) (sym (text ∙ is_text p.source wants))
-      (ap (λ (r : EventReader OwnedText). (cursor r).kept) same ∙ (known p h wants).0, reached);
-  current = ap (λ (r : EventReader OwnedText). (cursor r).current) same ∙ h.current;
-  idle = subst (λ (r : EventReader OwnedText). AreIdleBefore (passed_tokens q.passed) r) (sym same)
-      (subst (λ (o : Option Passed). AreIdleBefore (passed_tokens o) p.reader) (sym passed) h.idle);
-}
+    → wants_more (pieces_of p) ≡ true → LeadsTo q q.reader → IsSoundReader p → IsSoundReader q
+renewed p q same text passed wants reached h =
+    sound_leading p q wants text (ap (λ (r : EventReader OwnedText). (cursor r).kept) same)
+    (ap (λ (r : EventReader OwnedText). (cursor r).current) same) (λ _. reached)
+    (subst (λ (r : EventReader OwnedText). AreIdleBefore (passed_tokens q.passed) r) (sym same)
+    (subst (λ (o : Option Passed). AreIdleBefore (passed_tokens o) p.reader) (sym passed) h.idle)) h
 
 -- the reader hands out an event, which is counted
 pub sound_behind_event : (p q : PieceReader) (r : EventReader OwnedText) (next : Event × Span)
     → wants_more (pieces_of p) ≡ true
     → ((more : List ℕ) → GivesNext (Some (Ok next)) (cursor_in more p.reader) (cursor_in more r))
-    → CountsOne p.copy p.events q.copy q.events → q.reader ≡ r → q.source ≡ p.source → passed_tokens q.passed ≡ []
-    → IsSoundReader p → IsSoundReader q
+    → CountsOne p q → q.reader ≡ r → q.source ≡ p.source → passed_tokens q.passed ≡ [] → IsSoundReader p
+    → IsSoundReader q
 sound_behind_event p q r next wants gives counts same text nothing h =
     let old = known p h wants in
     let c : EventCursor = cursor p.reader in
@@ -71,7 +83,7 @@ sound_behind_event p q r next wants gives counts same text nothing h =
     record {
       source = subst (λ (s : Source). IsSoundFrom s q) (sym (text ∙ is_text p.source wants)) (
         ap (λ (v : EventReader OwnedText). (cursor v).kept) same ∙ stays.0 ∙ old.0,
-        subst (IsReachedFrom q.copy q.events) (sym same)
+        subst (LeadsTo q) (sym same)
             (counts p.reader r old.1 (λ more. (event_of next, gives more))),
       );
       current = ap (λ (v : EventReader OwnedText). (cursor v).current) same ∙ stays.1 ∙ h.current;
@@ -152,13 +164,17 @@ lacks p q next f x h wants goes_on is given none (reported, lack) =
 
 -- ## A fault, or the reader went back
 
-went_back : (copy : Option (EventReader OwnedText)) (n : ℕ) (old new : PieceReader) (a : EventReader OwnedText)
-    → IsReachedFrom copy n a → GoesBack copy n old new
-    → PassesOn (passed_tokens old.passed) a (passed_tokens new.passed) new.reader
-went_back None n old new a from to = absurd to
-went_back (Some copy) n old new a from (middle, to, passed) =
-    passes_further (passed_tokens old.passed) (passed_tokens old.passed) (passed_tokens new.passed) a middle new.reader
-    (stays_on (passed_tokens old.passed) a middle (same_readers n copy a middle from to)) passed
+went_back_from : (copy : Option (EventReader OwnedText)) (since : List ℕ) (n : ℕ) (ts : List Piece) (new : PieceReader)
+    (a : EventReader OwnedText) → IsReachedFrom copy since n a → GoesBackFrom copy since n ts new
+    → PassesOn ts a (passed_tokens new.passed) new.reader
+went_back_from None since n ts new a from to = absurd to
+went_back_from (Some copy) since n ts new a from (middle, to, passed) =
+    passes_further ts ts (passed_tokens new.passed) a middle new.reader
+    (stays_on ts a middle (same_readers since n copy a middle from to)) passed
+
+went_back : (p q : PieceReader) (a : EventReader OwnedText) → LeadsTo p a → GoesBack p q
+    → PassesOn (passed_tokens p.passed) a (passed_tokens q.passed) q.reader
+went_back p q = went_back_from p.copy (chars (string_bytes p.since)) p.events (passed_tokens p.passed) q
 
 module _ (p : PieceReader) (r : EventReader OwnedText) (f : Fault) (wants : wants_more (pieces_of p) ≡ true)
     (gives : (more : List ℕ) → GivesNext (Some (Err f)) (cursor_in more p.reader) (cursor_in more r))
@@ -186,7 +202,7 @@ module _ (p : PieceReader) (r : EventReader OwnedText) (f : Fault) (wants : want
         reports p q next g x h wants reported given none (fails_as g q fails)
     fails_or_waits None next g q (back, none, more, text) =
         let is = is_text p.source wants in
-        let passed = went_back p.copy p.events (record p { reader = r }) q p.reader (known p h wants).1 back in (
+        let passed = went_back p q p.reader (known p h wants).1 back in (
           ap wants_more_from text ∙ wants,
           λ later.
               ap (λ (s : Source). cursor_from s (pieces_of q) later) (text ∙ is)
@@ -209,17 +225,18 @@ module _ (p : PieceReader) (r : EventReader OwnedText) (f : Fault) (wants : want
         sound_given q given nothing
         (current_as g q fails ∙ fault_leaves c.current c.kept f c (cursor r) (gives []) ∙ h.current)
     sound_behind_fault None g q (back, none, more, text) =
-        let passed = went_back p.copy p.events (record p { reader = r }) q p.reader (known p h wants).1 back in
+        let passed = went_back p q p.reader (known p h wants).1 back in
         let same = passed.place [] in
         sound_without_copy p q none (ap (λ (v : EventCursor). v.kept) same) text
         (ap (λ (v : EventCursor). v.current) same) (passed.idle h.idle) h
 
 -- ## Where nothing comes
 
-reached_along : (copy : Option (EventReader OwnedText)) (n : ℕ) (a b : EventReader OwnedText)
-    → ((more : List ℕ) → cursor_in more b ≡ cursor_in more a) → IsReachedFrom copy n a → IsReachedFrom copy n b
-reached_along None n a b same h = tt
-reached_along (Some copy) n a b same h = λ more. subst (AdvancesBy n (cursor_in more copy)) (sym (same more)) (h more)
+reached_along : (copy : Option (EventReader OwnedText)) (since : List ℕ) (n : ℕ) (a b : EventReader OwnedText)
+    → ((more : List ℕ) → cursor_in more b ≡ cursor_in more a) → IsReachedFrom copy since n a → IsReachedFrom copy since n b
+reached_along None since n a b same h = tt
+reached_along (Some copy) since n a b same h = λ more.
+    subst (AdvancesBy n (cursor_in (since ++ more) copy)) (sym (same more)) (h more)
 
 pub sound_over : (p : PieceReader) (r : EventReader OwnedText) → wants_more (pieces_of p) ≡ true
     → ((more : List ℕ) → GivesNext None (cursor_in more p.reader) (cursor_in more r)) → IsSoundReader p
@@ -229,7 +246,7 @@ sound_over p r wants gives h =
     record {
       source = subst (λ (s : Source). IsSoundFrom s (record p { reader = r })) (sym (is_text p.source wants)) (
         ap (λ (v : EventCursor). v.kept) (gives []).1 ∙ old.0,
-        reached_along p.copy p.events p.reader r (λ more. (gives more).1) old.1,
+        reached_along p.copy (chars (string_bytes p.since)) p.events p.reader r (λ more. (gives more).1) old.1,
       );
       current = ap (λ (v : EventCursor). v.current) (gives []).1 ∙ h.current;
       idle = idle_along (passed_tokens p.passed) p.reader r (λ more. (gives more).1) h.idle;

@@ -1,7 +1,9 @@
 -- What contracts see of a reader of events over a text that comes in pieces.
-use Rattle.std.specs.Prelude.{◌≡◌, ◌⊎◌, ℕ, zero, suc, true, List, [], ◌∷◌, Option, Some, None, string_bytes}
+use Rattle.std.specs.Prelude.{◌≡◌, ◌⊎◌, ◌++◌, ℕ, zero, suc, true, List, [], ◌∷◌, Option, Some, None, string_bytes}
 use Rattle.std.specs.Str.{chars}
 use Rattle.saphyr_scalar.specs.declared.scalar.position.Span.{Span}
+use Rattle.saphyr_scanner.specs.declared.growth.Growth.{Growth}
+use Rattle.saphyr_scanner.specs.Views.Scanning.{text_in}
 use Rattle.saphyr_scanner.specs.Views.Tokens.{Piece}
 use Rattle.saphyr_machine.specs.declared.fault.Fault.{Fault}
 use Rattle.saphyr_machine.specs.declared.fault.Fault.TheVariants as fault
@@ -40,10 +42,9 @@ AdvancesBy (suc n) old new =
 abbrev pub ReadsOnBy : ℕ → EventReader OwnedText → EventReader OwnedText → Type 0
 ReadsOnBy n old new = (more : List ℕ) → AdvancesBy n (cursor_in more old) (cursor_in more new)
 
--- a copy of the reader, if there is one, leads to the reader by so many events
-abbrev pub IsReachedFrom : Option (EventReader OwnedText) → ℕ → EventReader OwnedText → Type 0
-IsReachedFrom None n reader = Unit {0}
-IsReachedFrom (Some copy) n reader = ReadsOnBy n copy reader
+-- a reader hands out so many events, whatever comes, if these characters come behind its text first
+abbrev pub ReadsOnOver : List ℕ → ℕ → EventReader OwnedText → EventReader OwnedText → Type 0
+ReadsOnOver since n old new = (more : List ℕ) → AdvancesBy n (cursor_in (since ++ more) old) (cursor_in more new)
 
 -- where a reader would be that had not passed these tokens, if these characters come behind what came
 abbrev pub place_in : List ℕ → List Piece → EventReader OwnedText → EventCursor
@@ -60,19 +61,42 @@ pub record PassesOn (before : List Piece) (old : EventReader OwnedText) (after :
   pub place : (more : List ℕ) → place_in more after new ≡ place_in more before old
   pub idle : AreIdleBefore before old → AreIdleBefore after new
 
+abbrev pub IsReachedFrom : Option (EventReader OwnedText) → List ℕ → ℕ → EventReader OwnedText → Type 0
+IsReachedFrom None since n reader = Unit {0}
+IsReachedFrom (Some copy) since n reader = ReadsOnOver since n copy reader
+
+-- the copy, if there is one, leads to a reader by the events, over what came since
+abbrev pub LeadsTo : PieceReader → EventReader OwnedText → Type 0
+LeadsTo p reader = IsReachedFrom p.copy (chars (string_bytes p.since)) p.events reader
+
+abbrev pub GoesBackFrom : Option (EventReader OwnedText) → List ℕ → ℕ → List Piece → PieceReader → Type 0
+GoesBackFrom None since n ts new = ⊥
+GoesBackFrom (Some copy) since n ts new =
+    (middle : EventReader OwnedText) × ReadsOnOver since n copy middle
+    × PassesOn ts middle (passed_tokens new.passed) new.reader
+
 -- the reader is where the copy leads by its events, and behind tokens that it passed there
-abbrev pub GoesBack : Option (EventReader OwnedText) → ℕ → PieceReader → PieceReader → Type 0
-GoesBack None n old new = ⊥
-GoesBack (Some copy) n old new =
-    (middle : EventReader OwnedText) × ReadsOnBy n copy middle
-    × PassesOn (passed_tokens old.passed) middle (passed_tokens new.passed) new.reader
+abbrev pub GoesBack : PieceReader → PieceReader → Type 0
+GoesBack old new =
+    GoesBackFrom old.copy (chars (string_bytes old.since)) old.events (passed_tokens old.passed) new
 
 -- the reader hands out one more event, or there is no copy any more
-abbrev pub CountsOne : Option (EventReader OwnedText) → ℕ → Option (EventReader OwnedText) → ℕ → Type 0
-CountsOne old n new m =
-    (from to : EventReader OwnedText) → IsReachedFrom old n from
-    → ((more : List ℕ) → (e : Happening × Span) × Advances e (cursor_in more from) (cursor_in more to))
-    → IsReachedFrom new m to
+abbrev pub CountsOne : PieceReader → PieceReader → Type 0
+CountsOne old new =
+    (from to : EventReader OwnedText) → LeadsTo old from
+    → ((more : List ℕ) → (e : Happening × Span) × Advances e (cursor_in more from) (cursor_in more to)) → LeadsTo new to
+
+-- a reader goes on over its text and these characters behind it
+abbrev pub GoesOnOver : List ℕ → EventReader OwnedText → EventReader OwnedText → Type 0
+GoesOnOver more old new = (later : List ℕ) → cursor_in later new ≡ cursor_in (more ++ later) old
+
+-- What came comes behind the text of a reader and of its copy, or there is no copy any more.
+abbrev pub Extends : Growth → PieceReader → PieceReader → Type 0
+Extends growth old new =
+    (from to : EventReader OwnedText) → LeadsTo old from
+    → ((later : List ℕ)
+    → cursor_in later to ≡ cursor_in (chars (string_bytes old.more) ++ text_in growth later []) from)
+    → LeadsTo new to
 
 -- memory ran out, and a call said so
 abbrev pub failed : EventCursor → EventCursor
@@ -85,14 +109,14 @@ IsLack p f = (p ≡ progress.Fault) × (f ≡ fault.OutOfMemory)
 -- A fault is told and ends the text, or memory ran out. Or the reader went back, and waits.
 abbrev pub FailsOrWaits : Option Progress → Fault → Fault → PieceReader → PieceReader → Type 0
 FailsOrWaits None f g old new =
-    GoesBack old.copy old.events old new × (new.copy ≡ None) × (new.more ≡ old.more) × (new.source ≡ old.source)
+    GoesBack old new × (new.copy ≡ None) × (new.more ≡ old.more) × (new.source ≡ old.source)
 FailsOrWaits (Some p) f g old new =
     (p ≡ progress.Fault) × (new.source ≡ source.Given) × (passed_tokens new.passed ≡ [])
     × (((g ≡ f) × (new.reader ≡ old.reader))
     ⊎ ((g ≡ fault.OutOfMemory) × (cursor new.reader ≡ failed (cursor old.reader))))
 
 abbrev pub IsSoundFrom : Source → PieceReader → Type 0
-IsSoundFrom source.Text p = ((cursor p.reader).kept ≡ None) × IsReachedFrom p.copy p.events p.reader
+IsSoundFrom source.Text p = ((cursor p.reader).kept ≡ None) × LeadsTo p p.reader
 IsSoundFrom source.Given p = Unit {0}
 IsSoundFrom source.Lost p = Unit {0}
 

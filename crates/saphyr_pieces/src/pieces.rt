@@ -18,6 +18,7 @@ ghost use Rattle.saphyr_pieces.specs.Views as spec;
 ghost use Rattle.saphyr_pieces.specs.declared.pieces.Source.TheVariants.{Given};
 
 use crate::owned::OwnedText;
+use crate::pieces::copy::grow;
 use crate::pieces::passed::Passed;
 use saphyr_machine::{Event, EventReader, Fault, Progress};
 use saphyr_scalar::Span;
@@ -51,8 +52,9 @@ pub(crate) struct PieceReader {
     // The reader as it was before it handed out the last events, and how many these are.
     copy: Option<EventReader<'static, OwnedText>>,
     events: usize,
-    // How many bytes the copy's text has.
+    // How many bytes the copy's text has, and what came behind that.
     copied: usize,
+    since: String,
     // How much there is to copy but the text.
     weight: usize,
     // The reader tries again as soon as more bytes wait than these.
@@ -65,9 +67,10 @@ fn empty_reader(alloc: Global, limit: usize) -> EventReader<'static, OwnedText>
     ensures { (text : List ℕ) → cursor_in text result ≡ at_start (scan limit text) }
 {
     let text = OwnedText::new(alloc, String::new(alloc));
-    let scanner = Scanner::new(alloc, text, limit);
+    let mut scanner = Scanner::new(alloc, text, limit);
     let text = OwnedText::new(alloc, String::new(alloc));
-    EventReader::new(alloc, scanner.over(text, Growth::Growing))
+    drop(scanner.exchange(text, Growth::Growing));
+    EventReader::new(alloc, scanner)
 }
 
 // The tokens that a copy of a reader passed.
@@ -80,12 +83,6 @@ fn copy_passed(passed: &Option<Passed>) -> Option<Passed>
     } else {
         None
     }
-}
-
-// A reader that stands where another was, until that is put back. No more of its text comes.
-fn no_reader(alloc: Global) -> EventReader<'static, OwnedText> {
-    let text = OwnedText::new(alloc, String::new(alloc));
-    EventReader::new(alloc, Scanner::new(alloc, text, 0))
 }
 
 impl PieceReader {
@@ -105,6 +102,7 @@ impl PieceReader {
             copy: None,
             events: 0,
             copied: 0,
+            since: String::new(alloc),
             weight: 0,
             look_past: usize::MAX,
             alloc,
@@ -124,22 +122,10 @@ impl PieceReader {
         ensures sound { spec.IsSoundReader self.new }
         ensures same { OnErr result (self.new ≡ self.old) }
     {
-        // It went back from where it starved.
-        let Growth::Growing = self.reader.growth() else {
-            return Err(AllocError);
-        };
-        let rest = self.reader.input().as_str();
-        let mut text = String::with_capacity(self.alloc, rest.len() + self.more.len())?;
-        text.push_str(rest)?;
-        text.push_str(&self.more)?;
-        let Some(_) = self.reader.index().checked_add(text.as_str().len()) else {
-            return Err(AllocError);
-        };
-        let reader = replace(&mut self.reader, no_reader(self.alloc));
-        self.reader = reader.over(OwnedText::new(self.alloc, text), growth);
+        grow(self.alloc, &mut self.reader, &self.more, growth)?;
+        self.extend_copy(growth);
         self.more.clear();
         self.starved = false;
-        drop(self.copy.take());
         Ok(())
     }
 
@@ -159,6 +145,7 @@ impl PieceReader {
             Progress::Event => {
                 self.passed = None;
                 self.count(&next.0);
+                self.starved = self.tells_nothing();
                 Some(Progress::Event)
             }
             Progress::Fault => self.fault_or_wait(fault),
@@ -363,6 +350,7 @@ impl PieceReader {
             copy: None,
             events: 0,
             copied: 0,
+            since: String::new(self.alloc),
             weight: self.weight,
             look_past: self.look_past,
             alloc: self.alloc,

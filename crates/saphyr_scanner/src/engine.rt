@@ -106,30 +106,22 @@ impl<T: Input> Engine<T> {
         }
     }
 
-    /// This state, before the characters of another input.
-    pub(crate) fn over<U: Input>(self, input: U) -> Engine<U>
-    where
-        T: Drop,
-        requires { (state self).core.cursor.mark.index + length (U.rest input) < 2 ^ 64 }
-        ensures state { state result ≡ spec_state.with_rest (U.rest input) (state self) }
-        ensures stop { result.stop ≡ self.stop }
+    /// Goes on in this state before the characters of another input. Returns the input that was there.
+    pub(crate) fn exchange(&mut self, input: T) -> T
+        requires { (state self.old).core.cursor.mark.index + length (T.rest input) < 2 ^ 64 }
+        ensures state { state self.new ≡ spec_state.with_rest (T.rest input) (state self.old) }
+        ensures stop { self.new.stop ≡ self.old.stop }
+        ensures input { T.rest result ≡ (state self.old).core.cursor.rest }
     {
-        Engine {
-            reader: self.reader.over(input),
-            queue: self.queue,
-            level: self.level,
-            outer: self.outer,
-            required: self.required,
-            key_allowed: self.key_allowed,
-            adjacent: self.adjacent,
-            indent: self.indent,
-            deeper: self.deeper,
-            outer_indents: self.outer_indents,
-            comment: self.comment,
-            started: self.started,
-            ended: self.ended,
-            stop: self.stop,
-            alloc: self.alloc,
+        self.reader.exchange(input)
+    }
+
+    /// Where a node comes next in block style, of which no token was read: the first column of its later lines.
+    pub(crate) fn node_column(&self) -> Option<usize> {
+        if self.started && self.outer.is_empty() && self.queue.has_no_node() {
+            Some(self.indent)
+        } else {
+            None
         }
     }
 

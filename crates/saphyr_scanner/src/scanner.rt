@@ -310,24 +310,21 @@ impl<T: Input> Scanner<T> {
         self.growth
     }
 
-    /// This scanner, before the characters of another input, behind which more may come or not.
-    pub fn over<U: Input>(self, input: U, growth: Growth) -> Scanner<U>
-    where
-        T: Drop,
-        requires { self.state.core.cursor.mark.index + length (U.rest input) < 2 ^ 64 }
-        ensures { result ≡ record self
-            { state = spec.with_rest (U.rest input) self.state; growth = growth } }
+    /// Goes on before the characters of another input, behind which more may come or not. Returns the input that was
+    /// there.
+    pub fn exchange(&mut self, input: T, growth: Growth) -> T
+        requires { self.old.state.core.cursor.mark.index + length (T.rest input) < 2 ^ 64 }
+        ensures scanner { self.new ≡ record self.old
+            { state = spec.with_rest (T.rest input) self.old.state; growth = growth } }
+        ensures input { T.rest result ≡ self.old.state.core.cursor.rest }
     {
-        let Scanner {
-            engine,
-            limit,
-            growth: _growth,
-        } = self;
-        Scanner {
-            engine: engine.over(input),
-            limit,
-            growth,
-        }
+        self.growth = growth;
+        self.engine.exchange(input)
+    }
+
+    /// Where a node comes next in block style, of which no token was read: the first column of its later lines.
+    pub fn node_column(&self) -> Option<usize> {
+        self.engine.node_column()
     }
 }
 

@@ -1,6 +1,7 @@
 //! An input over an iterator of characters.
 
 use crate::char_traits::is_yaml_non_break;
+use crate::face::text_of_ascii;
 use crate::input::Input;
 use crate::parts::{is_behind, is_part};
 use std::collections::VecDeque;
@@ -155,5 +156,5 @@ fn push_all(
 }
 
 fn push_ascii(text: &mut String, ascii: &[u8]) {
-    text.push_str(std::str::from_utf8(ascii).expect("ASCII is UTF-8"));
+    text.push_str(text_of_ascii(ascii));
 }

@@ -1,6 +1,8 @@
 //! The copy of a reader that it goes back to, and the events that it handed out since.
 
-ghost use Rattle.std.specs.Prelude.{◌≡◌, List, ℕ, IfOk, OnErr, None};
+ghost use Rattle.std.specs.Prelude.{◌≡◌, ◌++◌, List, ℕ, [], IfOk, OnErr, None};
+ghost use Rattle.std.specs.Str.{chars};
+ghost use Rattle.saphyr_scanner.specs.Views.Scanning.{text_in};
 ghost use Rattle.saphyr_machine.specs.Views.Readers.{cursor_in};
 ghost use Rattle.saphyr_pieces.specs.Passed.{passed_tokens};
 ghost use Rattle.saphyr_pieces.specs.Views as spec;
@@ -10,7 +12,8 @@ use crate::pieces::PieceReader;
 use crate::pieces::passed::Passed;
 use crate::pieces::waiting::{idle_lines, is_far, may_be_idle, weight_behind};
 use saphyr_machine::{Event, EventReader, Fault, Progress, no_event};
-use std::alloc::AllocError;
+use saphyr_scanner::Growth;
+use std::alloc::{AllocError, Global};
 use std::mem::replace;
 
 // Reads so many events again.
@@ -64,6 +67,45 @@ fn pass_tokens(
     Ok(())
 }
 
+/// Has a reader go on over its text and more behind that. If memory runs out, it stays.
+pub(super) fn grow(
+    alloc: Global,
+    reader: &mut EventReader<'static, OwnedText>,
+    more: &str,
+    growth: Growth,
+) -> Result<(), AllocError>
+    ensures cursor { IfOk result (λ _. (later : List ℕ) → cursor_in later reader.new
+        ≡ cursor_in (chars more.now ++ text_in growth later []) reader.old) }
+    ensures same { OnErr result (reader.new ≡ reader.old) }
+{
+    let Growth::Growing = reader.growth() else {
+        return Err(AllocError);
+    };
+    let rest = reader.input().as_str();
+    let mut text = String::with_capacity(alloc, rest.len() + more.len())?;
+    text.push_str(rest)?;
+    text.push_str(more)?;
+    let Some(_) = reader.index().checked_add(text.as_str().len()) else {
+        return Err(AllocError);
+    };
+    drop(reader.exchange(OwnedText::new(alloc, text), growth));
+    Ok(())
+}
+
+// Has a copy go on over what came since, if anything did.
+fn catch_up(
+    alloc: Global,
+    copy: &mut EventReader<'static, OwnedText>,
+    since: &str,
+) -> Result<(), AllocError>
+    ensures { IfOk result (λ _. spec.GoesOnOver (chars since.now) copy.old copy.new) }
+{
+    if since.is_empty() {
+        return Ok(());
+    }
+    grow(alloc, copy, since, Growth::Growing)
+}
+
 // Passes the lines that wait and have no token, so that their text is not kept.
 fn pass_lines(reader: &mut EventReader<'static, OwnedText>) -> Result<(), AllocError>
     ensures { IfOk result (λ _. (more : List ℕ)
@@ -92,17 +134,34 @@ fn pass_on(
 }
 
 impl PieceReader {
+    /// What came comes behind the copy's text too, if more may come. Otherwise there is no copy any more, and neither is
+    /// one if memory runs out.
+    pub(super) fn extend_copy(&mut self, growth: Growth)
+        ensures copied { spec.Extends growth self.old self.new }
+        ensures reader { self.new.reader ≡ self.old.reader }
+        ensures more { self.new.more ≡ self.old.more }
+        ensures source { self.new.source ≡ self.old.source }
+        ensures passed { self.new.passed ≡ self.old.passed }
+    {
+        if let Growth::Growing = growth {
+            if let Ok(()) = self.since.push_str(&self.more) {
+                return;
+            }
+        }
+        drop(self.copy.take());
+    }
+
     /// Makes a copy to go back to, if there is none, or if it would be long to read from there.
     pub(super) fn renew_copy(&mut self)
-        requires { spec.IsReachedFrom self.old.copy self.old.events self.old.reader }
-        ensures copied { spec.IsReachedFrom self.new.copy self.new.events self.new.reader }
+        requires { spec.LeadsTo self.old self.old.reader }
+        ensures copied { spec.LeadsTo self.new self.new.reader }
         ensures reader { self.new.reader ≡ self.old.reader }
         ensures more { self.new.more ≡ self.old.more }
         ensures source { self.new.source ≡ self.old.source }
         ensures passed { self.new.passed ≡ self.old.passed }
     {
         let left = self.reader.input().as_str().len();
-        if self.copy.is_none() || is_far(self.copied, left) {
+        if self.copy.is_none() || is_far(self.copied.saturating_add(self.since.len()), left) {
             self.make_copy(left);
         }
     }
@@ -110,8 +169,8 @@ impl PieceReader {
     // Makes a copy, whose text has so many bytes. If memory runs out, there is none, or the old one.
     #[inline(never)]
     fn make_copy(&mut self, left: usize)
-        requires { spec.IsReachedFrom self.old.copy self.old.events self.old.reader }
-        ensures copied { spec.IsReachedFrom self.new.copy self.new.events self.new.reader }
+        requires { spec.LeadsTo self.old self.old.reader }
+        ensures copied { spec.LeadsTo self.new self.new.reader }
         ensures reader { self.new.reader ≡ self.old.reader }
         ensures more { self.new.more ≡ self.old.more }
         ensures source { self.new.source ≡ self.old.source }
@@ -121,13 +180,13 @@ impl PieceReader {
             drop(self.copy.replace(copy));
             self.events = 0;
             self.copied = left;
+            self.since.clear();
         }
     }
 
     /// Counts an event that was handed out.
     pub(super) fn count(&mut self, event: &Event<'static>)
-        ensures copied { spec.CountsOne self.old.copy self.old.events self.new.copy
-            self.new.events }
+        ensures copied { spec.CountsOne self.old self.new }
         ensures reader { self.new.reader ≡ self.old.reader }
         ensures more { self.new.more ≡ self.old.more }
         ensures source { self.new.source ≡ self.old.source }
@@ -143,8 +202,7 @@ impl PieceReader {
     /// Goes back to the copy, reads its events again, and passes the tokens behind them that make no event, and the
     /// lines without a token. If memory runs out, the reader stays.
     pub(super) fn go_back(&mut self) -> Result<(), AllocError>
-        ensures back { IfOk result
-            (λ _. spec.GoesBack self.old.copy self.old.events self.old self.new) }
+        ensures back { IfOk result (λ _. spec.GoesBack self.old self.new) }
         ensures copy { self.new.copy ≡ None }
         ensures more { self.new.more ≡ self.old.more }
         ensures source { self.new.source ≡ self.old.source }
@@ -153,6 +211,7 @@ impl PieceReader {
         let Some(mut copy) = self.copy.take() else {
             return Err(AllocError);
         };
+        catch_up(self.alloc, &mut copy, &self.since)?;
         read_again(&mut copy, self.events)?;
         pass_on(&mut copy, &mut self.passed)?;
         drop(replace(&mut self.reader, copy));

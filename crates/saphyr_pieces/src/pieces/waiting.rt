@@ -17,17 +17,103 @@ const OPEN_WEIGHT: usize = 1;
 const ANCHOR_WEIGHT: usize = 4;
 
 /// How many bytes of a text take as long to read as a reader takes to copy, at least.
-const COPY_WEIGHT: usize = 64;
+const COPY_WEIGHT: usize = 256;
 
 /// Whether a reader has read so much since a copy that a new one pays: most of the copy's text, and not just a little.
 pub(super) fn is_far(copied: usize, left: usize) -> bool {
     left < copied / 4 && copied - left >= COPY_WEIGHT
 }
 
-// Whether what came may well decide an event: a line ends, or a bracket closes, or a document begins.
-fn may_decide(came: &str) -> bool {
-    let ends = |b| matches!(b, b'\n' | b'\r' | b']' | b'}');
-    came.len() > 3 && came.starts_with("---") || came.bytes().any(ends)
+// Whether a line has content left of a column, or CR ends a line in it.
+fn has_content(line: &str, column: usize) -> bool {
+    let mut indent: usize = 0;
+    for b in line.bytes() {
+        if b != b' ' {
+            let is_content = !matches!(b, b'#' | b'\n' | b'\r');
+            return is_content && indent < column || has_lone_cr(line);
+        }
+        indent = indent.saturating_add(1);
+    }
+    false
+}
+
+// Whether there is a CR in a text behind which something other than LF comes.
+fn has_lone_cr(text: &str) -> bool {
+    let mut last = 0;
+    for b in text.bytes() {
+        if last == b'\r' && b != b'\n' {
+            return true;
+        }
+        last = b;
+    }
+    false
+}
+
+// Whether what came may well decide an event: a line ends that has content left of a column, or a bracket closes, or a
+// document begins.
+fn may_decide(came: &str, column: usize) -> bool {
+    let Some((lines, left)) = came.rsplit_once('\n') else {
+        return may_close(came);
+    };
+    // Mostly it is one line, in which no line feed has to be found.
+    if has_content(lines, column) {
+        return true;
+    }
+    for line in lines.lines() {
+        if has_content(line, column) {
+            return true;
+        }
+    }
+    may_close(left)
+}
+
+// Whether a part of a line may decide an event.
+fn may_close(part: &str) -> bool {
+    part.len() > 3 && part.starts_with("---")
+        || part.bytes().any(|b| matches!(b, b'\r' | b']' | b'}'))
+}
+
+// The first byte of a node behind dashes, or a line feed, and how many dashes there are.
+fn first_of_node(text: &str) -> (u8, usize) {
+    let mut dashes: usize = 0;
+    for b in text.bytes() {
+        if b == b'-' {
+            dashes = dashes.saturating_add(1);
+        } else if b != b' ' {
+            return (b, dashes);
+        }
+    }
+    (b'\n', dashes)
+}
+
+// Whether a text is a line or a part of one, and no colon in it may end a key.
+fn is_line_without_key(text: &str) -> bool {
+    let mut last = 0;
+    for b in text.bytes() {
+        if last == b'\n' || last == b'\r' && b != b'\n' || last == b':' && b <= b' ' {
+            return false;
+        }
+        last = b;
+    }
+    true
+}
+
+// Whether a text is a line or a part of one, of a scalar that may go on.
+fn is_scalar_line(text: &str) -> bool {
+    let (first, dashes) = first_of_node(text);
+    let begins_otherwise = match first {
+        b'"' | b'\'' | b'[' | b']' | b'{' | b'}' | b'%' | b'@' | b'`' | b'?' | b',' | 0xEF => true,
+        // A dash may begin a list, of which an event comes, and in which the scalar has another column.
+        b'|' | b'>' => dashes > 0,
+        b'&' | b'!' => text
+            .bytes()
+            .any(|b| matches!(b, b'"' | b'\'' | b'[' | b'{')),
+        _ => false,
+    };
+    !begins_otherwise
+        && is_line_without_key(text)
+        && !text.starts_with("---")
+        && !text.starts_with("...")
 }
 
 /// How many lines without a token a text begins with: empty ones, and those of blanks or a comment alone, if they end in
@@ -85,13 +171,33 @@ pub(super) fn weight_behind(event: &Event<'_>, weight: usize) -> usize {
 }
 
 impl PieceReader {
+    // Left of which column a line ends the block scalar that waits, if one does.
+    fn column_of_end(&self) -> usize {
+        match self.reader.node_column() {
+            Some(column) => match first_of_node(self.reader.input().as_str()) {
+                (b'|' | b'>', 0) => column.max(1),
+                _ => usize::MAX,
+            },
+            None => usize::MAX,
+        }
+    }
+
+    /// Whether the reader's text has no event yet, or may well have none, as a line of a scalar that may go on.
+    pub(super) fn tells_nothing(&self) -> bool {
+        let text = self.reader.input().as_str();
+        text.len() < LITTLE
+            && text.len() <= self.look_past
+            && self.reader.node_column().is_some()
+            && is_scalar_line(text)
+    }
+
     /// Whether the reader should try again. Nothing depends on it but when an event comes, and how long that takes.
     pub(super) fn has_enough(&self) -> bool {
         let left = self.reader.input().as_str().len();
         let waits = left.saturating_add(self.weight);
         let came = self.more.len();
         came >= waits.max(LITTLE)
-            || waits < LITTLE && may_decide(&self.more)
+            || waits < LITTLE && may_decide(&self.more, self.column_of_end())
             || left <= self.look_past && self.look_past - left < came
     }
 

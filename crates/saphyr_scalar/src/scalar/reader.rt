@@ -14,6 +14,7 @@ use crate::scalar::spare::Spare;
 use saphyr_input::char_traits::is_bom;
 use saphyr_input::input::{CloneInput, Input, SkipTabs};
 use std::alloc::AllocError;
+use std::mem::replace;
 
 /// The characters of a text, and the place that is reached in it.
 ///
@@ -57,20 +58,14 @@ impl<T: Input> Reader<T> {
         }
     }
 
-    /// This place, before the characters of another input.
-    pub fn over<U: Input>(self, mut input: U) -> Reader<U>
-    where
-        T: Drop,
-        requires { (cursor_of self).mark.index + length (U.rest input) < 2 ^ 64 }
-        ensures { cursor_of result ≡ record (cursor_of self) { rest = U.rest input } }
+    /// Goes on at this place before the characters of another input. Returns the input that was there.
+    pub fn exchange(&mut self, mut input: T) -> T
+        requires { (cursor_of self.old).mark.index + length (T.rest input) < 2 ^ 64 }
+        ensures cursor { cursor_of self.new ≡ record (cursor_of self.old) { rest = T.rest input } }
+        ensures input { T.rest result ≡ (cursor_of self.old).rest }
     {
         input.lookahead(1);
-        Reader {
-            input,
-            mark: self.mark,
-            blank_so_far: self.blank_so_far,
-            spare: self.spare,
-        }
+        replace(&mut self.input, input)
     }
 
     /// The input, for its tests of what comes next.

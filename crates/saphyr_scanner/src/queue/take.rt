@@ -39,6 +39,15 @@ impl Queue {
         })
     }
 
+    /// Whether there is no token but for one behind which a node comes.
+    pub(crate) fn has_no_node(&self) -> bool {
+        match self.peek() {
+            Some(TokenKind::BlockEntry | TokenKind::Value) => self.len() == 1,
+            Some(_) => false,
+            None => true,
+        }
+    }
+
     /// The span of the token that is handed out next goes into the place of another.
     #[inline(always)]
     pub(crate) fn span_into(&self, span: &mut Span)

@@ -11,8 +11,8 @@ pub returns : goal.returns
 returns c text =
     c.new-3.ensures.cursor text
     ∙ ap at_start
-    (begun c.over.result _ text c.args.limit
-    (ap (λ (s : Scanning). s.state) c.over.ensures ∙ ap (with_rest _) c.new-scanner.ensures.state)
-    (ap (λ (s : Scanning). s.limit) c.over.ensures ∙ c.new-scanner.ensures.limit)
-    (ap (λ (s : Scanning). s.growth) c.over.ensures)
+    (begun c.exchange.new.self _ text c.args.limit
+    (ap (λ (s : Scanning). s.state) c.exchange.ensures.scanner ∙ ap (with_rest _) c.new-scanner.ensures.state)
+    (ap (λ (s : Scanning). s.limit) c.exchange.ensures.scanner ∙ c.new-scanner.ensures.limit)
+    (ap (λ (s : Scanning). s.growth) c.exchange.ensures.scanner)
     (c.new-text-2.ensures ∙ ap chars c.new-2.ensures.bytes ∙ chars-nil))

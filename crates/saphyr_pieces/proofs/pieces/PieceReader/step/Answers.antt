@@ -36,7 +36,7 @@ same c = λ i. record {
 pub returns-in-Event-clause-sound : goal.returns-in-Event-clause-sound
 returns-in-Event-clause-sound c =
     let there = (goal.at.returns-in-Event-clause-sound c).After-advance in
-    sound_behind_event c.renew_copy.new.self c.count.new.self c.advance.new.self c.advance.new.next (wants there)
+    sound_behind_event c.renew_copy.new.self _ c.advance.new.self c.advance.new.next (wants there)
     c.in-Event.ensures c.count.ensures.copied c.count.ensures.reader c.count.ensures.source
     (ap passed_tokens c.count.ensures.passed) (sound there)
 
