@@ -22,14 +22,14 @@ MakeNoEvent ts r =
     (m : Machine) → implicit_start (record m { tokens = before_all ts r }) ≡ implicit_start (record m { tokens = r })
 
 -- nothing was read ahead, and a document may begin next without `---`
-abbrev pub IsBetween : EventCursor → Type 0
-IsBetween c = (c.current ≡ None) × (c.kept ≡ None) × (c.machine.state ≡ ImplicitDocumentStart)
+abbrev pub IsBetweenDocuments : EventCursor → Type 0
+IsBetweenDocuments c = (c.current ≡ None) × (c.kept ≡ None) × (c.machine.state ≡ ImplicitDocumentStart)
 
 -- the next event is the same without these tokens before the cursor
 pub record AreIdle (ts : List Piece) (c : EventCursor) : Type 0 where
-  pub between : IsBetween c
+  pub between : IsBetweenDocuments c
   pub none : MakeNoEvent ts c.machine.tokens
 
 -- These tokens are passed, and the next event stays.
-abbrev pub Passes : List Piece → EventCursor → EventCursor → Type 0
-Passes ts old new = (old ≡ before_tokens ts new) × AreIdle ts new
+abbrev pub PassesIdle : List Piece → EventCursor → EventCursor → Type 0
+PassesIdle ts old new = (old ≡ before_tokens ts new) × AreIdle ts new

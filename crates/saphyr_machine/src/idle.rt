@@ -59,7 +59,7 @@ impl<T: Input> EventReader<'_, T> {
 
     /// Whether nothing was read ahead, and a document may begin next without `---`.
     pub fn is_between(&self) -> bool
-        ensures { IsTrue result → spec.IsBetween (cursor self.now) }
+        ensures { IsTrue result → spec.IsBetweenDocuments (cursor self.now) }
     {
         let between = matches!(self.machine.state.get(), State::ImplicitDocumentStart);
         between && self.current.is_none() && self.kept.is_none()
@@ -69,7 +69,7 @@ impl<T: Input> EventReader<'_, T> {
     /// token. `None`: it does, or what came doesn't tell, and nothing is known of the reader any more.
     pub fn pass_token(&mut self) -> Option<PassedToken>
         ensures { IfSome result (λ t. (more : List ℕ)
-            → spec.Passes (spec.piece_of t ∷ []) (cursor_in more self.old)
+            → spec.PassesIdle (spec.piece_of t ∷ []) (cursor_in more self.old)
             (cursor_in more self.new)) }
     {
         if !self.is_between() {

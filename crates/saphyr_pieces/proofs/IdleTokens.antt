@@ -13,14 +13,14 @@ use Rattle.saphyr_machine.specs.Answer.{answer_of_step, remaining_answer}
 use Rattle.saphyr_machine.specs.Calls.{AdvancesFrom, FailsFrom, GivesNext, IsOverFrom}
 use Rattle.saphyr_machine.specs.Cursor.{EventCursor, Kept, Refuses, event_of, keeping_tags}
 use Rattle.saphyr_machine.specs.Events.{Happening}
-use Rattle.saphyr_machine.specs.Passed.{AreIdle, MakeNoEvent, Passes, before_tokens}
+use Rattle.saphyr_machine.specs.Passed.{AreIdle, MakeNoEvent, PassesIdle, before_tokens}
 use Rattle.saphyr_machine.specs.Steps.Documents.{implicit_start}
 use Rattle.saphyr_machine.specs.Steps.Expected.{event_step, event_step_at}
 use Rattle.saphyr_machine.specs.Steps.Machine.{Emitted}
 use Rattle.saphyr_machine.specs.Views.Readers.{cursor, cursor_in}
 use Rattle.saphyr_machine.proofs.Unroll.{unroll}
 use Rattle.saphyr_pieces.specs.declared.owned.OwnedText.{OwnedText}
-use Rattle.saphyr_pieces.specs.Views.{AreIdleBefore, PassesOn, place_in}
+use Rattle.saphyr_pieces.specs.Views.{AreIdleBefore, PassesIdleOn, place_in}
 
 between_is_no_end : (s : State) → s ≡ state.ImplicitDocumentStart → s ≢ state.End
 between_is_no_end s is end = let both = sym is ∙ end in absurd (cc)
@@ -102,7 +102,7 @@ idle_over (t ∷ ts) a b text same idle = λ more. subst (AreIdle (t ∷ ts)) (s
 
 -- ## One more token is passed
 
-both_idle : (ts : List Piece) (t : Piece) (c d : EventCursor) → AreIdle ts c → Passes (t ∷ []) c d
+both_idle : (ts : List Piece) (t : Piece) (c d : EventCursor) → AreIdle ts c → PassesIdle (t ∷ []) c d
     → AreIdle (ts ++ t ∷ []) d
 both_idle ts t c d idle (moved, next) = record {
   between = next.between;
@@ -115,7 +115,7 @@ both_idle ts t c d idle (moved, next) = record {
 }
 
 idle_with : (ts : List Piece) (t : Piece) (a b : EventReader OwnedText)
-    → ((more : List ℕ) → Passes (t ∷ []) (cursor_in more a) (cursor_in more b)) → AreIdleBefore ts a
+    → ((more : List ℕ) → PassesIdle (t ∷ []) (cursor_in more a) (cursor_in more b)) → AreIdleBefore ts a
     → (more : List ℕ) → AreIdle (ts ++ t ∷ []) (cursor_in more b)
 idle_with [] t a b passes idle more = (passes more).1
 idle_with (u ∷ ts) t a b passes idle more =
@@ -127,7 +127,7 @@ as_idle ts [] t b is idle = tt
 as_idle ts (u ∷ us) t b is idle = λ more. subst (λ (vs : List Piece). AreIdle vs (cursor_in more b)) (sym is) (idle more)
 
 passes_one : (ts us : List Piece) (t : Piece) (a b : EventReader OwnedText) → us ≡ ts ++ t ∷ []
-    → ((more : List ℕ) → Passes (t ∷ []) (cursor_in more a) (cursor_in more b)) → PassesOn ts a us b
+    → ((more : List ℕ) → PassesIdle (t ∷ []) (cursor_in more a) (cursor_in more b)) → PassesIdleOn ts a us b
 passes_one ts us t a b is passes = record {
   place = λ more.
       let d : EventCursor = cursor_in more b in
@@ -139,30 +139,30 @@ passes_one ts us t a b is passes = record {
   idle = λ idle. as_idle ts us t b is (idle_with ts t a b passes idle);
 }
 
-pub passes_further : (ts us vs : List Piece) (a b c : EventReader OwnedText) → PassesOn ts a us b → PassesOn us b vs c
-    → PassesOn ts a vs c
+pub passes_further : (ts us vs : List Piece) (a b c : EventReader OwnedText) → PassesIdleOn ts a us b → PassesIdleOn us b vs c
+    → PassesIdleOn ts a vs c
 passes_further ts us vs a b c h k = record {
   place = λ more. k.place more ∙ h.place more;
   idle = λ idle. k.idle (h.idle idle);
 }
 
-pub passes_more : (ts us vs : List Piece) (t : Piece) (a b c : EventReader OwnedText) → PassesOn ts a us b
-    → vs ≡ us ++ t ∷ [] → ((more : List ℕ) → Passes (t ∷ []) (cursor_in more b) (cursor_in more c))
-    → PassesOn ts a vs c
+pub passes_more : (ts us vs : List Piece) (t : Piece) (a b c : EventReader OwnedText) → PassesIdleOn ts a us b
+    → vs ≡ us ++ t ∷ [] → ((more : List ℕ) → PassesIdle (t ∷ []) (cursor_in more b) (cursor_in more c))
+    → PassesIdleOn ts a vs c
 passes_more ts us vs t a b c h is passes = passes_further ts us vs a b c h (passes_one us vs t b c is passes)
 
 pub stays_on : (ts : List Piece) (a b : EventReader OwnedText)
-    → ((more : List ℕ) → cursor_in more b ≡ cursor_in more a) → PassesOn ts a ts b
+    → ((more : List ℕ) → cursor_in more b ≡ cursor_in more a) → PassesIdleOn ts a ts b
 stays_on ts a b same = record {
   place = λ more. ap (before_tokens ts) (same more);
   idle = idle_along ts a b same;
 }
 
-pub stays_here : (ts : List Piece) (a : EventReader OwnedText) → PassesOn ts a ts a
+pub stays_here : (ts : List Piece) (a : EventReader OwnedText) → PassesIdleOn ts a ts a
 stays_here ts a = record { place = λ more. refl; idle = λ idle. idle }
 
-pub stays_behind : (ts us : List Piece) (a b c : EventReader OwnedText) → PassesOn ts a us b
-    → ((more : List ℕ) → cursor_in more c ≡ cursor_in more b) → PassesOn ts a us c
+pub stays_behind : (ts us : List Piece) (a b c : EventReader OwnedText) → PassesIdleOn ts a us b
+    → ((more : List ℕ) → cursor_in more c ≡ cursor_in more b) → PassesIdleOn ts a us c
 stays_behind ts us a b c h same = passes_further ts us us a b c h (stays_on us b c same)
 
 pub idle_with_setting : (ts : List Piece) (a b : EventReader OwnedText) (keep : Bool)

@@ -29,7 +29,7 @@ use Rattle.saphyr_pieces.specs.declared.pieces.Source.{Source}
 use Rattle.saphyr_pieces.specs.declared.pieces.Source.TheVariants as source
 use Rattle.saphyr_pieces.specs.Pieces.{HandsOutOrWaits, at, cursor_from, wants_more, wants_more_from}
 use Rattle.saphyr_pieces.specs.Passed.{passed_tokens}
-use Rattle.saphyr_pieces.specs.Views.{AdvancesBy, AreIdleBefore, CountsOne, FailsOrWaits, GoesBack, GoesBackFrom, IsLack, IsReachedFrom, IsSoundFrom, IsSoundReader, LeadsTo, PassesOn, failed, pieces_of, place_in}
+use Rattle.saphyr_pieces.specs.Views.{AdvancesBy, AreIdleBefore, CountsOne, FailsOrWaits, GoesBack, GoesBackFrom, IsLack, IsReachedFrom, IsSoundFrom, IsSoundReader, LeadsCopyTo, PassesIdleOn, failed, pieces_of, place_in}
 use Rattle.saphyr_pieces.proofs.IdleTokens.{gives_there, idle_along, passed_none, passes_further, stays_on}
 use Rattle.saphyr_pieces.proofs.Places.{is_text, same_readers, sound_without_copy}
 
@@ -44,13 +44,13 @@ same_behind None None e c d none h =
 
 -- what is known of a reader of a text
 known : (p : PieceReader) → IsSoundReader p → wants_more (pieces_of p) ≡ true
-    → ((cursor p.reader).kept ≡ None) × LeadsTo p p.reader
+    → ((cursor p.reader).kept ≡ None) × LeadsCopyTo p p.reader
 known p h wants = subst (λ (s : Source). IsSoundFrom s p) (is_text p.source wants) h.source
 
 -- a reader that goes on, with a copy that leads to it
 pub sound_leading : (p q : PieceReader) → wants_more (pieces_of p) ≡ true → q.source ≡ p.source
     → (cursor q.reader).kept ≡ (cursor p.reader).kept → (cursor q.reader).current ≡ (cursor p.reader).current
-    → (LeadsTo p p.reader → LeadsTo q q.reader) → AreIdleBefore (passed_tokens q.passed) q.reader → IsSoundReader p
+    → (LeadsCopyTo p p.reader → LeadsCopyTo q q.reader) → AreIdleBefore (passed_tokens q.passed) q.reader → IsSoundReader p
     → IsSoundReader q
 sound_leading p q wants text kept current leads idle h =
     let old = known p h wants in
@@ -63,7 +63,7 @@ sound_leading p q wants text kept current leads idle h =
 
 -- the same reader, with another copy
 pub renewed : (p q : PieceReader) → q.reader ≡ p.reader → q.source ≡ p.source → q.passed ≡ p.passed
-    → wants_more (pieces_of p) ≡ true → LeadsTo q q.reader → IsSoundReader p → IsSoundReader q
+    → wants_more (pieces_of p) ≡ true → LeadsCopyTo q q.reader → IsSoundReader p → IsSoundReader q
 renewed p q same text passed wants reached h =
     sound_leading p q wants text (ap (λ (r : EventReader OwnedText). (cursor r).kept) same)
     (ap (λ (r : EventReader OwnedText). (cursor r).current) same) (λ _. reached)
@@ -83,7 +83,7 @@ sound_behind_event p q r next wants gives counts same text nothing h =
     record {
       source = subst (λ (s : Source). IsSoundFrom s q) (sym (text ∙ is_text p.source wants)) (
         ap (λ (v : EventReader OwnedText). (cursor v).kept) same ∙ stays.0 ∙ old.0,
-        subst (LeadsTo q) (sym same)
+        subst (LeadsCopyTo q) (sym same)
             (counts p.reader r old.1 (λ more. (event_of next, gives more))),
       );
       current = ap (λ (v : EventReader OwnedText). (cursor v).current) same ∙ stays.1 ∙ h.current;
@@ -166,14 +166,14 @@ lacks p q next f x h wants goes_on is given none (reported, lack) =
 
 went_back_from : (copy : Option (EventReader OwnedText)) (since : List ℕ) (n : ℕ) (ts : List Piece) (new : PieceReader)
     (a : EventReader OwnedText) → IsReachedFrom copy since n a → GoesBackFrom copy since n ts new
-    → PassesOn ts a (passed_tokens new.passed) new.reader
+    → PassesIdleOn ts a (passed_tokens new.passed) new.reader
 went_back_from None since n ts new a from to = absurd to
 went_back_from (Some copy) since n ts new a from (middle, to, passed) =
     passes_further ts ts (passed_tokens new.passed) a middle new.reader
     (stays_on ts a middle (same_readers since n copy a middle from to)) passed
 
-went_back : (p q : PieceReader) (a : EventReader OwnedText) → LeadsTo p a → GoesBack p q
-    → PassesOn (passed_tokens p.passed) a (passed_tokens q.passed) q.reader
+went_back : (p q : PieceReader) (a : EventReader OwnedText) → LeadsCopyTo p a → GoesBack p q
+    → PassesIdleOn (passed_tokens p.passed) a (passed_tokens q.passed) q.reader
 went_back p q = went_back_from p.copy (chars (string_bytes p.since)) p.events (passed_tokens p.passed) q
 
 module _ (p : PieceReader) (r : EventReader OwnedText) (f : Fault) (wants : wants_more (pieces_of p) ≡ true)

@@ -56,7 +56,7 @@ AreIdleBefore [] reader = Unit {0}
 AreIdleBefore (t ∷ ts) reader = (more : List ℕ) → AreIdle (t ∷ ts) (cursor_in more reader)
 
 -- the reader passes tokens that change no event
-pub record PassesOn (before : List Piece) (old : EventReader OwnedText) (after : List Piece)
+pub record PassesIdleOn (before : List Piece) (old : EventReader OwnedText) (after : List Piece)
     (new : EventReader OwnedText) : Type 0 where
   pub place : (more : List ℕ) → place_in more after new ≡ place_in more before old
   pub idle : AreIdleBefore before old → AreIdleBefore after new
@@ -66,14 +66,14 @@ IsReachedFrom None since n reader = Unit {0}
 IsReachedFrom (Some copy) since n reader = ReadsOnOver since n copy reader
 
 -- the copy, if there is one, leads to a reader by the events, over what came since
-abbrev pub LeadsTo : PieceReader → EventReader OwnedText → Type 0
-LeadsTo p reader = IsReachedFrom p.copy (chars (string_bytes p.since)) p.events reader
+abbrev pub LeadsCopyTo : PieceReader → EventReader OwnedText → Type 0
+LeadsCopyTo p reader = IsReachedFrom p.copy (chars (string_bytes p.since)) p.events reader
 
 abbrev pub GoesBackFrom : Option (EventReader OwnedText) → List ℕ → ℕ → List Piece → PieceReader → Type 0
 GoesBackFrom None since n ts new = ⊥
 GoesBackFrom (Some copy) since n ts new =
     (middle : EventReader OwnedText) × ReadsOnOver since n copy middle
-    × PassesOn ts middle (passed_tokens new.passed) new.reader
+    × PassesIdleOn ts middle (passed_tokens new.passed) new.reader
 
 -- the reader is where the copy leads by its events, and behind tokens that it passed there
 abbrev pub GoesBack : PieceReader → PieceReader → Type 0
@@ -83,8 +83,8 @@ GoesBack old new =
 -- the reader hands out one more event, or there is no copy any more
 abbrev pub CountsOne : PieceReader → PieceReader → Type 0
 CountsOne old new =
-    (from to : EventReader OwnedText) → LeadsTo old from
-    → ((more : List ℕ) → (e : Happening × Span) × Advances e (cursor_in more from) (cursor_in more to)) → LeadsTo new to
+    (from to : EventReader OwnedText) → LeadsCopyTo old from
+    → ((more : List ℕ) → (e : Happening × Span) × Advances e (cursor_in more from) (cursor_in more to)) → LeadsCopyTo new to
 
 -- a reader goes on over its text and these characters behind it
 abbrev pub GoesOnOver : List ℕ → EventReader OwnedText → EventReader OwnedText → Type 0
@@ -93,10 +93,10 @@ GoesOnOver more old new = (later : List ℕ) → cursor_in later new ≡ cursor_
 -- What came comes behind the text of a reader and of its copy, or there is no copy any more.
 abbrev pub Extends : Growth → PieceReader → PieceReader → Type 0
 Extends growth old new =
-    (from to : EventReader OwnedText) → LeadsTo old from
+    (from to : EventReader OwnedText) → LeadsCopyTo old from
     → ((later : List ℕ)
     → cursor_in later to ≡ cursor_in (chars (string_bytes old.more) ++ text_in growth later []) from)
-    → LeadsTo new to
+    → LeadsCopyTo new to
 
 -- memory ran out, and a call said so
 abbrev pub failed : EventCursor → EventCursor
@@ -116,7 +116,7 @@ FailsOrWaits (Some p) f g old new =
     ⊎ ((g ≡ fault.OutOfMemory) × (cursor new.reader ≡ failed (cursor old.reader))))
 
 abbrev pub IsSoundFrom : Source → PieceReader → Type 0
-IsSoundFrom source.Text p = ((cursor p.reader).kept ≡ None) × LeadsTo p p.reader
+IsSoundFrom source.Text p = ((cursor p.reader).kept ≡ None) × LeadsCopyTo p p.reader
 IsSoundFrom source.Given p = Unit {0}
 IsSoundFrom source.Lost p = Unit {0}
 

@@ -12,7 +12,7 @@ use Rattle.yaml_standard.specs.declared.goal.Flow.{Flow}
 use Rattle.yaml_standard.specs.declared.goal.Goal.TheVariants as goal
 use Rattle.yaml_standard.specs.declared.goal.Kind.{Kind}
 use Rattle.yaml_standard.specs.declared.goal.Kind.TheVariants as kind
-use Rattle.yaml_standard.specs.Goals.{Closes, Derives, EndsEntry, IsCollection, IsNodeIn, IsPairIn, IsRest, IsSomeCollection, AreEntries, AreOthers, closing, opening}
+use Rattle.yaml_standard.specs.Goals.{Closes, Derives, EndsEntry, IsCollection, IsNodeIn, IsPairIn, IsRest, IsSomeCollection, AreFlowEntries, AreOthers, last_bracket, first_bracket}
 use Rattle.yaml_standard.specs.Leaves.{IsLeaf, IsSomeFront}
 use Rattle.yaml_standard.specs.Takes.{TakesOff}
 use Rattle.yaml_standard.proofs.Pieces.{joined, known_then, taken_so, then_known}
@@ -34,7 +34,7 @@ one_less room left some is = omega (arith, some, is)
 -- a bracket, and the rest of a collection
 abbrev IsInside : Kind → Flow → List ℕ → Type 0
 IsInside kind at t =
-    (rest : List ℕ) × IsRest (AreEntries kind at) at.indent (closing kind) rest × (t ≡ opening kind ∷ rest)
+    (rest : List ℕ) × IsRest (AreFlowEntries kind at) at.indent (last_bracket kind) rest × (t ≡ first_bracket kind ∷ rest)
 
 cut_at_bracket : (bracket close : ℕ) (p q s e rest : List ℕ) → q ≡ bracket ∷ rest → rest ≡ s ++ (e ++ close ∷ [])
     → p ++ q ≡ (p ++ (bracket ∷ s)) ++ (e ++ close ∷ [])
@@ -55,12 +55,12 @@ collection_of kind.Mapping at left p q room (properties, before) (rest, (s, e, i
 )
 
 pub collection_opened : (kind : Kind) (at : Flow) (left : ℕ) (a b c d : List ℕ) → at.room ≡ suc left
-    → TakesOff (IsSomeFront at.indent) a b → b ≡ opening kind ∷ c → Closes (goal.Entries (flow left at.indent) kind) c d
+    → TakesOff (IsSomeFront at.indent) a b → b ≡ first_bracket kind ∷ c → Closes (goal.Entries (flow left at.indent) kind) c d
     → TakesOff (IsSomeCollection at) a d
 collection_opened kind at left a b c d room front bracket rest =
     joined front
-    (known_then {Q = IsRest (AreEntries kind (flow left at.indent)) at.indent (closing kind)}
-    {R = IsInside kind (flow left at.indent)} (opening kind ∷ []) (λ q k. (q, k, refl)) bracket rest)
+    (known_then {Q = IsRest (AreFlowEntries kind (flow left at.indent)) at.indent (last_bracket kind)}
+    {R = IsInside kind (flow left at.indent)} (first_bracket kind ∷ []) (λ q k. (q, k, refl)) bracket rest)
     (λ p q h k. collection_of kind at left p q room h k)
 
 -- a bracket that is known comes first
@@ -69,7 +69,7 @@ bracket_first x y a b e f = f ∙ ap (λ z. z ∷ b) e
 
 -- ## Entries
 
-no_entries : (kind : Kind) (at : Flow) → AreEntries kind at []
+no_entries : (kind : Kind) (at : Flow) → AreFlowEntries kind at []
 no_entries kind.Sequence at = (NoNode, refl)
 no_entries kind.Mapping at = (NoPair, refl)
 
@@ -78,17 +78,17 @@ no_others kind.Sequence at = (NoNode, inl refl)
 no_others kind.Mapping at = (NoPair, inl refl)
 
 pub entries_end : (kind : Kind) (at : Flow) (a b c : List ℕ) → TakesOff (IsSeparation at.indent) a b
-    → b ≡ closing kind ∷ c → Closes (goal.Entries at kind) a c
+    → b ≡ last_bracket kind ∷ c → Closes (goal.Entries at kind) a c
 entries_end kind at a b c s e =
-    then_known {P = IsSeparation at.indent} (closing kind ∷ []) (λ p k. (p, [], k, no_entries kind at, refl)) s e
+    then_known {P = IsSeparation at.indent} (last_bracket kind ∷ []) (λ p k. (p, [], k, no_entries kind at, refl)) s e
 
 pub others_end : (kind : Kind) (at : Flow) (a b c : List ℕ) → TakesOff (IsSeparation at.indent) a b
-    → b ≡ closing kind ∷ c → Closes (goal.AfterEntry at kind) a c
+    → b ≡ last_bracket kind ∷ c → Closes (goal.AfterEntry at kind) a c
 others_end kind at a b c s e =
-    then_known {P = IsSeparation at.indent} (closing kind ∷ []) (λ p k. (p, [], k, no_others kind at, refl)) s e
+    then_known {P = IsSeparation at.indent} (last_bracket kind ∷ []) (λ p k. (p, [], k, no_others kind at, refl)) s e
 
 -- entries behind a comma
-behind_comma : (kind : Kind) (at : Flow) (s e : List ℕ) → IsSeparation at.indent s → AreEntries kind at e
+behind_comma : (kind : Kind) (at : Flow) (s e : List ℕ) → IsSeparation at.indent s → AreFlowEntries kind at e
     → AreOthers kind at (44 ∷ (s ++ e))
 behind_comma kind.Sequence at s e is (NoNode, none) =
     (NoNode, inr (s, is, ap (λ x. 44 ∷ x) (ap (λ x. s ++ x) none ∙ append-nil s)))
@@ -100,21 +100,21 @@ behind_comma kind.Mapping at s e is (MorePairs key value pairs, (pair, others, h
     (MorePairs key value pairs, (44 ∷ s, pair, others, (s, is, refl), h, k, ap (λ x. 44 ∷ (s ++ x)) cut))
 
 abbrev IsBehindComma : Kind → Flow → List ℕ → Type 0
-IsBehindComma kind at t = (e : List ℕ) × AreOthers kind at e × (t ≡ e ++ closing kind ∷ [])
+IsBehindComma kind at t = (e : List ℕ) × AreOthers kind at e × (t ≡ e ++ last_bracket kind ∷ [])
 
-comma_and : (kind : Kind) (at : Flow) (q : List ℕ) → IsRest (AreEntries kind at) at.indent (closing kind) q
+comma_and : (kind : Kind) (at : Flow) (q : List ℕ) → IsRest (AreFlowEntries kind at) at.indent (last_bracket kind) q
     → IsBehindComma kind at (44 ∷ q)
 comma_and kind at q (s, e, is, are, cut) = (
   44 ∷ (s ++ e),
   behind_comma kind at s e is are,
-  ap (λ x. 44 ∷ x) (cut ∙ sym (append_assoc s e (closing kind ∷ []))),
+  ap (λ x. 44 ∷ x) (cut ∙ sym (append_assoc s e (last_bracket kind ∷ []))),
 )
 
 pub others_more : (kind : Kind) (at : Flow) (a b c d : List ℕ) → TakesOff (IsSeparation at.indent) a b → b ≡ 44 ∷ c
     → Closes (goal.Entries at kind) c d → Closes (goal.AfterEntry at kind) a d
 others_more kind at a b c d s e t =
     joined s
-    (known_then {Q = IsRest (AreEntries kind at) at.indent (closing kind)} {R = IsBehindComma kind at} (44 ∷ [])
+    (known_then {Q = IsRest (AreFlowEntries kind at) at.indent (last_bracket kind)} {R = IsBehindComma kind at} (44 ∷ [])
     (λ q k. comma_and kind at q k) e t)
     (λ p q h k. (p, k.0, h, k.1, ap (λ x. p ++ x) k.2))
 
@@ -130,26 +130,26 @@ IsEntryBefore kind at left t =
     (s x : List ℕ) → IsSeparation at.indent s → left ≡ s ++ x → IsEntry kind at (t ++ s)
 
 entry_and : (kind : Kind) (at : Flow) (p o : List ℕ) → IsEntry kind at p → AreOthers kind at o
-    → AreEntries kind at (p ++ o)
+    → AreFlowEntries kind at (p ++ o)
 entry_and kind.Sequence at p o (node, h) (nodes, k) = (MoreNodes node nodes, (p, o, h, k, refl))
 entry_and kind.Mapping at p o (key, value, h) (pairs, k) = (MorePairs key value pairs, (p, o, h, k, refl))
 
 abbrev AreFromEntry : Kind → Flow → List ℕ → Type 0
-AreFromEntry kind at t = (e : List ℕ) × AreEntries kind at e × (t ≡ e ++ closing kind ∷ [])
+AreFromEntry kind at t = (e : List ℕ) × AreFlowEntries kind at e × (t ≡ e ++ last_bracket kind ∷ [])
 
 from_entry : (kind : Kind) (at : Flow) (b c d : List ℕ) → TakesOff (IsEntryBefore kind at c) b c
     → Closes (goal.AfterEntry at kind) c d → TakesOff (AreFromEntry kind at) b d
 from_entry kind at b c d entry rest =
     let p = entry.piece in
     let k = rest.is in
-    let end = k.1 ++ closing kind ∷ [] in
+    let end = k.1 ++ last_bracket kind ∷ [] in
     let is_entry = entry.is k.0 (end ++ d) k.2 (rest.cut ∙ ap (λ x. x ++ d) k.4 ∙ append_assoc k.0 end d) in
     record {
       piece = p ++ rest.piece;
       is = (
         (p ++ k.0) ++ k.1,
         entry_and kind at (p ++ k.0) k.1 is_entry k.3,
-        ap (λ x. p ++ x) k.4 ∙ sym (append_assoc p k.0 end) ∙ sym (append_assoc (p ++ k.0) k.1 (closing kind ∷ [])),
+        ap (λ x. p ++ x) k.4 ∙ sym (append_assoc p k.0 end) ∙ sym (append_assoc (p ++ k.0) k.1 (last_bracket kind ∷ [])),
       );
       cut = entry.cut ∙ ap (λ x. p ++ x) rest.cut ∙ sym (append_assoc p rest.piece d);
     }

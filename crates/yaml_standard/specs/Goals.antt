@@ -26,13 +26,13 @@ use Rattle.yaml_standard.specs.Takes.{TakesOff, TakesBefore}
 
 -- ## Flow style
 
-abbrev pub opening : Kind → ℕ
-opening kind.Sequence = 91
-opening kind.Mapping = 123
+abbrev pub first_bracket : Kind → ℕ
+first_bracket kind.Sequence = 91
+first_bracket kind.Mapping = 123
 
-abbrev pub closing : Kind → ℕ
-closing kind.Sequence = 93
-closing kind.Mapping = 125
+abbrev pub last_bracket : Kind → ℕ
+last_bracket kind.Sequence = 93
+last_bracket kind.Mapping = 125
 
 abbrev pub IsCollection : Node → Type 0
 IsCollection (Alias name) = ⊥
@@ -48,9 +48,9 @@ abbrev pub IsSomeCollection : Flow → List ℕ → Type 0
 IsSomeCollection at t = (node : Node) × IsCollection node × IsNodeIn at node t
 
 -- the entries of a collection, and those behind an entry
-abbrev pub AreEntries : Kind → Flow → List ℕ → Type 0
-AreEntries kind.Sequence at t = (nodes : Nodes) × AreItems at.room nodes at.indent t
-AreEntries kind.Mapping at t = (pairs : Pairs) × AreFlowPairs at.room pairs at.indent t
+abbrev pub AreFlowEntries : Kind → Flow → List ℕ → Type 0
+AreFlowEntries kind.Sequence at t = (nodes : Nodes) × AreItems at.room nodes at.indent t
+AreFlowEntries kind.Mapping at t = (pairs : Pairs) × AreFlowPairs at.room pairs at.indent t
 
 abbrev pub AreOthers : Kind → Flow → List ℕ → Type 0
 AreOthers kind.Sequence at t = (nodes : Nodes) × AreOtherItems at.room nodes at.indent t
@@ -144,8 +144,8 @@ IsAfterMarkedKey m t behind =
 
 abbrev pub Derives : Goal → List ℕ → List ℕ → Type 0
 Derives (goal.Node at) t behind = (node : Node) × IsNodeIn at node t
-Derives (goal.Entries at kind) t behind = IsRest (AreEntries kind at) at.indent (closing kind) t
-Derives (goal.AfterEntry at kind) t behind = IsRest (AreOthers kind at) at.indent (closing kind) t
+Derives (goal.Entries at kind) t behind = IsRest (AreFlowEntries kind at) at.indent (last_bracket kind) t
+Derives (goal.AfterEntry at kind) t behind = IsRest (AreOthers kind at) at.indent (last_bracket kind) t
 Derives (goal.Pair at in_brackets) t behind =
     (key value : Node) × (IsPairIn in_brackets at key value t ⊎ (IsLoneMark key value at.indent t × EndsEntry behind))
 Derives (goal.KeyOrValue at in_brackets) t behind = (key value : Node) × IsKeyOrValue in_brackets at key value t

@@ -58,7 +58,7 @@ abbrev pub is_value_at : ℕ → ℕ → ℕ → List ℕ → Bool
 is_value_at m column c cs = (c == colon) && (column == m) && is_blank_or_breakz (slice_index cs 0)
 
 -- what is known of what comes up to the first token of a text
-pub record IsAhead (a : Ahead) (t : List ℕ) : Type 0 where
+pub record IsWhatComes (a : Ahead) (t : List ℕ) : Type 0 where
   pub no_tab : IsFalse a.has_tab → IsFalse (has_tab_ahead false t)
   pub no_tab_at_all : IsFalse a.has_tab → IsTrue a.is_end → IsFalse (has_tab_outside false t)
   pub no_value : (m : ℕ) → IsNoValue a m → IsFalse (is_value_ahead false m 0 t)

@@ -65,7 +65,7 @@ fn value_at(c: char, behind: &str, column: usize) -> Option<usize>
 
 /// What comes up to the first token of a text.
 pub(crate) fn look_ahead(text: &str) -> Option<Ahead>
-    ensures { IfSome result (λ ahead. spec.IsAhead ahead (chars text.now)) }
+    ensures { IfSome result (λ ahead. spec.IsWhatComes ahead (chars text.now)) }
 {
     let mut rest = text;
     let mut in_comment = false;

@@ -3,7 +3,7 @@
 ghost use Rattle.std.specs.Prelude.{false, IfSome};
 ghost use Rattle.std.specs.Str.{chars};
 ghost use Rattle.yaml_standard.specs.Goals as spec;
-ghost use Rattle.yaml_standard.specs.Leads.{IsAhead};
+ghost use Rattle.yaml_standard.specs.Leads.{IsWhatComes};
 ghost use Rattle.yaml_standard.specs.Leaves.{IsLeaf};
 ghost use Rattle.yaml_standard.specs.Takes.{TakesOff};
 ghost use Rattle.yaml_standard.specs.declared.goal.Goal.TheVariants as variant;
@@ -202,7 +202,7 @@ pub(crate) fn after_marked_key<'a>(
     ahead: Option<Ahead>,
     guide: &mut Guide<'a>,
 ) -> Option<Step<'a>>
-    requires { IfSome ahead (λ a. IsAhead a (chars text.now)) }
+    requires { IfSome ahead (λ a. IsWhatComes a (chars text.now)) }
     ensures { spec.Steps (variant.AfterMarkedKey column start.entry) (chars text.now) result }
 {
     if !is_past(start, text) {

@@ -17,7 +17,7 @@ use crate::spaces::{behind_blanks, behind_separation};
 impl Kind {
     // The bracket that begins a collection.
     fn opening(self) -> char
-        ensures { result ≡ spec.opening self }
+        ensures { result ≡ spec.first_bracket self }
     {
         match self {
             Kind::Sequence => '[',
@@ -27,7 +27,7 @@ impl Kind {
 
     // The bracket that ends it.
     fn closing(self) -> char
-        ensures { result ≡ spec.closing self }
+        ensures { result ≡ spec.last_bracket self }
     {
         match self {
             Kind::Sequence => ']',

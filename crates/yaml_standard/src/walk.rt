@@ -3,7 +3,7 @@
 ghost use Rattle.std.specs.Prelude.{◌≡◌, ◌++◌, [], ◌∷◌, IfOk, IfSome};
 ghost use Rattle.std.specs.Str.{chars};
 ghost use Rattle.yaml_standard.specs.Goals as spec;
-ghost use Rattle.yaml_standard.specs.Leads.{IsAhead};
+ghost use Rattle.yaml_standard.specs.Leads.{IsWhatComes};
 ghost use Rattle.yaml_standard.specs.Takes.{TakesBefore};
 ghost use Rattle.yaml_standard.specs.declared.goal.Goal.{Goal};
 
@@ -44,7 +44,7 @@ fn step<'a>(
     ahead: Option<Ahead>,
     guide: &mut Guide<'a>,
 ) -> Option<Step<'a>>
-    requires { IfSome ahead (λ a. IsAhead a (chars text.now)) }
+    requires { IfSome ahead (λ a. IsWhatComes a (chars text.now)) }
     ensures { spec.Steps goal.entry (chars text.now) result }
 {
     match goal {
@@ -68,8 +68,8 @@ fn step<'a>(
 
 // What comes next, which is looked at where a goal asks for it.
 fn looked(goal: Goal<'_>, text: &str, ahead: Option<Ahead>) -> Option<Ahead>
-    requires { IfSome ahead (λ a. IsAhead a (chars text.now)) }
-    ensures { IfSome result (λ a. IsAhead a (chars text.now)) }
+    requires { IfSome ahead (λ a. IsWhatComes a (chars text.now)) }
+    ensures { IfSome result (λ a. IsWhatComes a (chars text.now)) }
 {
     match goal {
         Goal::AfterMarkedKey(..) if ahead.is_none() => look_ahead(text),
@@ -79,9 +79,9 @@ fn looked(goal: Goal<'_>, text: &str, ahead: Option<Ahead>) -> Option<Ahead>
 
 // The same behind a step: it is kept while nothing is taken off the text, so that this is looked at once.
 fn kept(ahead: Option<Ahead>, text: &str, rest: &str, added: Goals<'_>) -> Option<Ahead>
-    requires known { IfSome ahead (λ a. IsAhead a (chars text.now)) }
+    requires known { IfSome ahead (λ a. IsWhatComes a (chars text.now)) }
     requires replaced { (goal : Goal) × spec.Replaces goal (chars text.now) (chars rest.now) added }
-    ensures { IfSome result (λ a. IsAhead a (chars rest.now)) }
+    ensures { IfSome result (λ a. IsWhatComes a (chars rest.now)) }
 {
     match added {
         Goals::None if text.len() == rest.len() => ahead,

@@ -55,7 +55,7 @@ fn pass_tokens(
     passed: &mut Option<Passed>,
     tokens: usize,
 ) -> Result<(), AllocError>
-    ensures { IfOk result (λ _. spec.PassesOn (passed_tokens passed.old) reader.old
+    ensures { IfOk result (λ _. spec.PassesIdleOn (passed_tokens passed.old) reader.old
         (passed_tokens passed.new) reader.new) }
 {
     for _ in 0..tokens {
@@ -125,7 +125,7 @@ fn pass_on(
     reader: &mut EventReader<'static, OwnedText>,
     passed: &mut Option<Passed>,
 ) -> Result<(), AllocError>
-    ensures { IfOk result (λ _. spec.PassesOn (passed_tokens passed.old) reader.old
+    ensures { IfOk result (λ _. spec.PassesIdleOn (passed_tokens passed.old) reader.old
         (passed_tokens passed.new) reader.new) }
 {
     let tokens = idle_tokens(reader);
@@ -153,8 +153,8 @@ impl PieceReader {
 
     /// Makes a copy to go back to, if there is none, or if it would be long to read from there.
     pub(super) fn renew_copy(&mut self)
-        requires { spec.LeadsTo self.old self.old.reader }
-        ensures copied { spec.LeadsTo self.new self.new.reader }
+        requires { spec.LeadsCopyTo self.old self.old.reader }
+        ensures copied { spec.LeadsCopyTo self.new self.new.reader }
         ensures reader { self.new.reader ≡ self.old.reader }
         ensures more { self.new.more ≡ self.old.more }
         ensures source { self.new.source ≡ self.old.source }
@@ -169,8 +169,8 @@ impl PieceReader {
     // Makes a copy, whose text has so many bytes. If memory runs out, there is none, or the old one.
     #[inline(never)]
     fn make_copy(&mut self, left: usize)
-        requires { spec.LeadsTo self.old self.old.reader }
-        ensures copied { spec.LeadsTo self.new self.new.reader }
+        requires { spec.LeadsCopyTo self.old self.old.reader }
+        ensures copied { spec.LeadsCopyTo self.new self.new.reader }
         ensures reader { self.new.reader ≡ self.old.reader }
         ensures more { self.new.more ≡ self.old.more }
         ensures source { self.new.source ≡ self.old.source }

@@ -17,7 +17,7 @@ use Rattle.saphyr_scanner.specs.Steps.Passing.{behind_gap, check_comment, pass_g
 use Rattle.saphyr_scanner.specs.Steps.Remaining.{remaining, remaining_after, run}
 use Rattle.saphyr_scanner.specs.Steps.State.{State, with_core, with_rest}
 use Rattle.saphyr_scanner.specs.Views.Ahead.{fetched}
-use Rattle.saphyr_scanner.specs.Views.Lines.{PassesOn, behind_comment, behind_tab, behind_text, is_whole_break, placed}
+use Rattle.saphyr_scanner.specs.Views.Lines.{PassesOn, behind_line_comment, behind_tab, behind_line_text, is_whole_break, placed}
 use Rattle.saphyr_scanner.specs.Views.Scanning.{Scanning, is_growing, tokens_in, tokens_over}
 use Rattle.saphyr_scanner.proofs.Effects.Readers.{Readers}
 use Rattle.saphyr_scanner.proofs.Ahead.Feeds.{behind_break, kept}
@@ -85,15 +85,15 @@ told_longer more sign p s known = by (slice_index s.rest 0 == sign) refl known
         (some, rw (first_longer s.rest more some, is) (run_longer more p s left))
     by false is left = (left, rw (first_longer s.rest more left, is) refl)
 
-text_longer : (more : List ℕ) (s : Cursor) → is_nothing (behind_text s).rest ≡ false
-    → behind_text (longer more s) ≡ longer more (behind_text s)
+text_longer : (more : List ℕ) (s : Cursor) → is_nothing (behind_line_text s).rest ≡ false
+    → behind_line_text (longer more s) ≡ longer more (behind_line_text s)
 text_longer more s known =
     let u = pass_spaces (2 ^ 64 - 1) s in
     let v = behind_tab u in
     let signed = told_longer more 35 is_yaml_non_break v known in
     let tabbed = told_longer more 9 is_blank u signed.0 in
-    ap (λ (w : Cursor). behind_comment (behind_tab w)) (spaced_longer more s tabbed.0)
-    ∙ ap behind_comment tabbed.1 ∙ signed.1
+    ap (λ (w : Cursor). behind_line_comment (behind_tab w)) (spaced_longer more s tabbed.0)
+    ∙ ap behind_line_comment tabbed.1 ∙ signed.1
 
 -- a whole break is no end, stays whole, and is passed alike
 module _ (more : List ℕ) (s : Cursor) where
@@ -140,13 +140,13 @@ module _ (l : ℕ) (u : Cursor) (g : Gap) where
       (eqb-true (slice_index u.rest 0) 35 is) same
   comment_or_not tabbed false is same = same
 
-line_passed : (l : ℕ) (s : Cursor) → is_break (slice_index (behind_text s).rest 0) ≡ true
-    → gap_at true l true false (pass_break (behind_text s)) ≡ gap_at true l false false s
+line_passed : (l : ℕ) (s : Cursor) → is_break (slice_index (behind_line_text s).rest 0) ≡ true
+    → gap_at true l true false (pass_break (behind_line_text s)) ≡ gap_at true l false false s
 line_passed l s breaks =
     let g = gap_at true l false false s in
     let u = pass_spaces (2 ^ 64 - 1) s in
     let v = behind_tab u in
-    let w = behind_text s in
+    let w = behind_line_text s in
     let tabbed = tab_or_not l u g (slice_index u.rest 0 == 9) refl
     (spaces_passed l _ false false s s u g refl refl refl) in
     break_passed true l false tabbed.0 w w (pass_break w) g (slice_index w.rest 0) refl refl refl breaks
@@ -154,43 +154,43 @@ line_passed l s breaks =
 
 abbrev behind_line : Core → Core
 behind_line c = record c {
-  cursor = pass_break (behind_text c.cursor);
+  cursor = pass_break (behind_line_text c.cursor);
   key_allowed = in_block c || c.key_allowed;
 }
 
-gap_lined : (c : Core) → is_break (slice_index (behind_text c.cursor).rest 0) ≡ true
+gap_lined : (c : Core) → is_break (slice_index (behind_line_text c.cursor).rest 0) ≡ true
     → pass_gap (behind_line c) ≡ pass_gap c
 unfolding pass_gap
 gap_lined c breaks =
-    let l = least_column c in let u = pass_break (behind_text c.cursor) in
+    let l = least_column c in let u = pass_break (behind_line_text c.cursor) in
     sym (ap (λ (g : Gap). stop g >>= λ p. check_comment (behind_gap c p))
     (sym (line_passed l c.cursor breaks) ∙ kept l u.mark u.blank_so_far false false u.rest)
     ∙ behind_break c (gap_at true l false false u))
 
-lined_ahead : (s : State) → is_break (slice_index (behind_text s.core.cursor).rest 0) ≡ true
+lined_ahead : (s : State) → is_break (slice_index (behind_line_text s.core.cursor).rest 0) ≡ true
     → fetched (with_core (behind_line s.core) s) ≡ fetched s
 unfolding arrive
 lined_ahead s breaks = rw (gap_lined s.core breaks) refl
 
 -- ## What is passed
 
-line_on : (s : State) → is_whole_break (behind_text s.core.cursor).rest ≡ true
+line_on : (s : State) → is_whole_break (behind_line_text s.core.cursor).rest ≡ true
     → PassesOn s (with_core (behind_line s.core) s)
 line_on s whole = record {
   moved = refl;
   same = λ more.
-      let w = behind_text s.core.cursor in
+      let w = behind_line_text s.core.cursor in
       let text = text_longer more s.core.cursor (whole_is_some w.rest whole) in
       ap (λ (u : Cursor). fetched (with_core (record s.core {
         cursor = u;
         key_allowed = in_block s.core || s.core.key_allowed;
       }) s)) (sym (broken_longer more w whole) ∙ ap pass_break (sym text))
-      ∙ lined_ahead (extended_by more s) (whole_is_break (behind_text (longer more s.core.cursor)).rest
+      ∙ lined_ahead (extended_by more s) (whole_is_break (behind_line_text (longer more s.core.cursor)).rest
       (ap (λ (v : Cursor). is_whole_break v.rest) text ∙ whole_longer more w whole));
 }
 
 -- the scanner is passed over what the line has before its end, and then over that
-pub line_to : (s t : State) (u : Cursor) (allowed : Bool) → t ≡ placed (behind_text s.core.cursor) s
+pub line_to : (s t : State) (u : Cursor) (allowed : Bool) → t ≡ placed (behind_line_text s.core.cursor) s
     → u ≡ pass_break t.core.cursor → is_whole_break t.core.cursor.rest ≡ true
     → allowed ≡ (in_block t.core || t.core.key_allowed)
     → PassesOn s (with_core (record t.core { cursor = u; key_allowed = allowed }) t)

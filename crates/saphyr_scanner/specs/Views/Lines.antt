@@ -17,12 +17,12 @@ placed u s = with_core (with_cursor u s.core) s
 abbrev pub behind_tab : Cursor → Cursor
 behind_tab s = if slice_index s.rest 0 == tab then pass_all_blanks s else s
 
-abbrev pub behind_comment : Cursor → Cursor
-behind_comment s = if slice_index s.rest 0 == number_sign then pass_comment s else s
+abbrev pub behind_line_comment : Cursor → Cursor
+behind_line_comment s = if slice_index s.rest 0 == number_sign then pass_comment s else s
 
 -- what a line without a token has before its end
-abbrev pub behind_text : Cursor → Cursor
-behind_text s = behind_comment (behind_tab (pass_spaces (2 ^ 64 - 1) s))
+abbrev pub behind_line_text : Cursor → Cursor
+behind_line_text s = behind_line_comment (behind_tab (pass_spaces (2 ^ 64 - 1) s))
 
 -- LF or CR LF comes next
 abbrev pub is_whole_break : List ℕ → Bool

@@ -15,7 +15,7 @@ use saphyr_scalar::{FaultText, Refusal, Span, Stop, TagParts};
 impl<T: Input> Engine<T> {
     ghost use Rattle.saphyr_scalar.specs.Views.Reader.{loaded};
     ghost use Rattle.saphyr_scanner.specs.Views.Engine.{state, MovesBy};
-    ghost use Rattle.saphyr_scanner.specs.Views.Lines.{PassesOn, behind_text, is_whole_break, placed};
+    ghost use Rattle.saphyr_scanner.specs.Views.Lines.{PassesOn, behind_line_text, is_whole_break, placed};
     ghost use Rattle.saphyr_scanner.specs.Views.Queue.{first_of, kind_shown};
     ghost use Rattle.saphyr_scanner.specs.Views.Scanning.{is_decided};
     ghost use Rattle.saphyr_scanner.specs.Views.Tokens.{Piece, kind_with, parts_view, text_of, token_kind};
@@ -139,7 +139,7 @@ impl<T: Input> Engine<T> {
         ensures first { result ≡ slice_index (state self.new).core.cursor.rest 0 }
         ensures loaded { 1 ≤ loaded self.new.reader }
         ensures passed { state self.new
-            ≡ placed (behind_text (state self.old).core.cursor) (state self.old) }
+            ≡ placed (behind_line_text (state self.old).core.cursor) (state self.old) }
     {
         self.reader.skip_spaces(usize::MAX);
         let c = self.reader.look();

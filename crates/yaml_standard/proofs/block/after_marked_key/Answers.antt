@@ -1,6 +1,6 @@
 use Rattle.std.specs.Str.{chars}
 use Rattle.std.proofs.lemmas.Option.{MatchOption-at_some}
-use Rattle.yaml_standard.specs.Leads.{IsAhead}
+use Rattle.yaml_standard.specs.Leads.{IsWhatComes}
 use Rattle.yaml_standard.proofs.BlockPairs.{no_value_after_mark, value_after_mark}
 use Rattle.yaml_standard.proofs.block.after_marked_key.Goals as goal
 
@@ -11,4 +11,4 @@ returns-then-is_value_at c = λ end value.
 pub returns : goal.returns
 returns c =
     no_value_after_mark c.args.column _ _ (c.is_past.ensures c.if-not-is_past.false)
-    ((MatchOption-at_some (Unit {0}) (λ a. IsAhead a (chars c.args.text.now)) _ c.in-Some.is c.requires).no_value _ (c.is_value_at.ensures c.if-is_value_at.false))
+    ((MatchOption-at_some (Unit {0}) (λ a. IsWhatComes a (chars c.args.text.now)) _ c.in-Some.is c.requires).no_value _ (c.is_value_at.ensures c.if-is_value_at.false))
