@@ -51,6 +51,8 @@ SEVERAL = (
     ("- |\n  a\n\t\n- \"\n\"\n- b\n", "3 tab-behind-block-scalar, 5 quoted-indentation"),
     ("a: [|]\n---\nb\n--- |\n c\n...\n%TAG !!a\n--- [?]\n",
      "1 block-indicator-in-flow, 7 prefix-without-blank, 8 question-in-flow"),
+    ("&a\n!<>\n---\n!<> k: v\n&a[]: b\n", "2 empty-verbatim-tag, 4 empty-verbatim-tag, 5 bracket-behind-property"),
+    ("- \tk: >\n- |\n- a\n---\n? [?]\n", "1 tab-indentation, 5 question-in-flow"),
 )
 # Keys behind a `?` in one another, and as many comments behind the last: each key asks for what comes next.
 DEEP = "? " * 20000 + "a\n" + ("# " + "x" * 38 + "\n") * 20000

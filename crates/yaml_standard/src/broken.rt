@@ -26,7 +26,7 @@ pub(crate) fn broken_rule<'a>(lines: &'a str, stuck: Stuck<'a>) -> (Rule, &'a st
             | Goal::Value(at, _),
         ) => broken_in_flow(text, token, at.indent),
         Some(Goal::BlockNode(place)) => broken_in_block(text, token, place),
-        Some(Goal::BlockEntry(..)) => broken_pair(text),
+        Some(Goal::BlockEntry(_, column)) => broken_pair(text, column.saturating_add(1)),
         _ => broken_between(lines, text, token),
     };
     match found {
@@ -37,7 +37,7 @@ pub(crate) fn broken_rule<'a>(lines: &'a str, stuck: Stuck<'a>) -> (Rule, &'a st
 
 /// The rule that is broken in flow style.
 fn broken_in_flow<'a>(text: &'a str, token: &'a str, indent: usize) -> Option<(Rule, &'a str)> {
-    if has_break(text, token) {
+    if has_break(behind_separation(text, indent), token) {
         return Some((Rule::FlowIndentation, token));
     }
     let (first, _) = split(token)?;
@@ -62,21 +62,25 @@ fn is_long(text: &str) -> bool {
 
 /// The rule that is broken by a node in block style.
 fn broken_in_block<'a>(text: &'a str, token: &'a str, place: Place) -> Option<(Rule, &'a str)> {
-    let indent = indent_at(place)?;
+    let found = broken_node(token, indent_at(place)?);
+    if found.is_some() {
+        return found;
+    }
+    broken_lead(text, token, place)
+}
+
+/// The rule that the properties or the scalar of a node break.
+fn broken_node(token: &str, indent: usize) -> Option<(Rule, &str)> {
     let (found, content) = broken_properties(token, indent);
     if found.is_some() {
         return found;
     }
     let (first, _) = split(content)?;
-    let found = match first {
+    match first {
         '|' | '>' => tab_behind_scalar(content),
         '"' | '\'' => broken_quoted(content, indent),
         _ => None,
-    };
-    if found.is_some() {
-        return found;
     }
-    broken_lead(text, token, place)
 }
 
 /// The rule that is broken by the first directive that breaks one.
@@ -102,17 +106,22 @@ fn broken_lead<'a>(text: &'a str, token: &'a str, place: Place) -> Option<(Rule,
     None
 }
 
-/// The rule that is broken by what comes before a pair of a block mapping.
-fn broken_pair(text: &str) -> Option<(Rule, &str)> {
-    Some((Rule::TabIndentation, tab_first(text)?))
+/// The rule that is broken by a pair of a block mapping, or by what comes before it.
+fn broken_pair(text: &str, indent: usize) -> Option<(Rule, &str)> {
+    match tab_first(text) {
+        None => broken_node(text, indent),
+        Some(tab) => Some((Rule::TabIndentation, tab)),
+    }
 }
 
-/// The rule that is broken between nodes, by the lines before a text or up to its first token.
+/// The rule that is broken between nodes, by the lines before a text, up to its first token or there.
 fn broken_between<'a>(lines: &'a str, text: &'a str, token: &'a str) -> Option<(Rule, &'a str)> {
-    let tab = first_tab(blank_lines_before(lines, text), token)?;
-    if has_break(tab, token) {
-        Some((Rule::TabInEmptyLine, tab))
-    } else {
-        Some((Rule::TabBehindProperty, tab))
+    let tab = first_tab(blank_lines_before(lines, text), token);
+    match tab {
+        Some(tab) if has_break(tab, token) => Some((Rule::TabInEmptyLine, tab)),
+        _ => match broken_node(token, 0) {
+            None => Some((Rule::TabBehindProperty, tab?)),
+            found => found,
+        },
     }
 }

@@ -54,6 +54,15 @@ impl Hint {
         matches!(self.kind, HintKind::End(_))
     }
 
+    /// Whether it begins at its text. A node without one may be told of on a later line.
+    pub(crate) fn is_at_text(&self) -> bool {
+        match self.kind {
+            HintKind::End(_) => false,
+            HintKind::Block => self.covered > 0,
+            _ => !self.is_left_out(),
+        }
+    }
+
     /// Whether it is the start of a collection.
     pub(crate) fn is_collection(&self) -> bool {
         matches!(self.kind, HintKind::Collection(_))

@@ -88,7 +88,7 @@ fn resume<'a>(
         }
         let start = guide.start();
         let index = start.index.saturating_sub(start.col);
-        if index > here.passed && !guide.hint().is_end() {
+        if index > here.passed && guide.hint().is_at_text() {
             line = line.behind(index);
             if let Some(count) = count_left(&goals, guide, line.rest) {
                 goals.truncate(count);
