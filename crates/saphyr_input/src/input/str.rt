@@ -7,7 +7,7 @@ mod text;
 mod wide;
 
 use self::text::{
-    behind_ascii, first_char, is_marker, nth_char, run, run_here, second_char, spaces,
+    behind_ascii, first_char, is_marker, leading_spaces, nth_char, run, run_here, second_char,
     split_blanks, split_first, third_char, words,
 };
 use crate::char_set::{CharSet, WordSet};
@@ -124,15 +124,6 @@ impl Input for StrInput<'_> {
     }
 
     #[inline]
-    fn skip_n(&mut self, count: usize) {
-        let mut rest = self.rest;
-        for _ in 0..count {
-            rest = split_first(rest).1;
-        }
-        self.rest = rest;
-    }
-
-    #[inline]
     fn peek(&self) -> char {
         self.rest.chars().next().unwrap_or('\0')
     }
@@ -208,10 +199,10 @@ impl Input for StrInput<'_> {
         Ok((count, first_char(rest)))
     }
 
-    #[inline(always)]
+    #[inline]
     fn skip_spaces(&mut self, most: usize) -> usize {
-        let (count, rest) = spaces(self.rest, most);
-        self.rest = rest;
+        let count = leading_spaces(self.rest.as_bytes(), most);
+        self.rest = &self.rest[count..];
         count
     }
 }

@@ -247,7 +247,7 @@ pub(super) fn words<C: WordSet>(text: &str) -> (usize, &str)
 
 // How many of the first bytes are spaces, but no more than `most`.
 #[inline]
-fn leading_spaces(bytes: &[u8], most: usize) -> usize
+pub(super) fn leading_spaces(bytes: &[u8], most: usize) -> usize
     ensures { result ≡ places.spaces_within most bytes.now }
 {
     let mut count = 0;
@@ -255,16 +255,6 @@ fn leading_spaces(bytes: &[u8], most: usize) -> usize
         count += 1;
     }
     count
-}
-
-// The leading spaces, but no more than `most`: how many, and what follows them.
-#[inline]
-pub(super) fn spaces(text: &str, most: usize) -> (usize, &str)
-    ensures count { result.0 ≡ places.spaces_within most (chars text.now) }
-    ensures rest { chars result.1.now ≡ drop result.0 (chars text.now) }
-{
-    let count = leading_spaces(text.as_bytes(), most);
-    (count, &text[count..])
 }
 
 // The leading blanks: how many, and which were met.
