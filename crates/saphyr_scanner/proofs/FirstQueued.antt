@@ -1,5 +1,5 @@
 -- The first place of a queue: its token is looked at and taken, and what comes in front of a place is set.
-use Rattle.std.proofs.Common.{◌≡◌, ◌+◌, ◌-◌, ◌≤◌, ◌<◌, List, [], ◌∷◌, length, drop, take, refl, sym, ap, subst, arith, ◌∙◌, ℕ, zero, suc, true, false, nat_lt}
+use Rattle.std.proofs.Common.{◌≡◌, ◌+◌, ◌≤◌, ◌<◌, List, [], ◌∷◌, length, drop, refl, sym, ap, subst, arith, ◌∙◌, ℕ, zero, suc, true, false, nat_lt}
 use Rattle.std.specs.Prelude.{Option, Some, None, unwrap_or, set, slice_index_or}
 use Rattle.std.specs.Borrow.{Bor}
 use Rattle.std.specs.List.{HoldsAt}

@@ -16,7 +16,7 @@ mod property;
 mod scalar;
 mod value;
 
-ghost use Rattle.std.specs.Prelude.{◌≡◌, ◌+◌, ◌<◌, ◌≤◌, ◌^◌, length, string_bytes, Ok};
+ghost use Rattle.std.specs.Prelude.{◌≡◌, ◌<◌, ◌^◌, length, Ok};
 ghost use Rattle.saphyr_scanner.specs.Grammar.Tokens as tokens;
 ghost use Rattle.saphyr_scanner.specs.Steps.Core as spec;
 ghost use Rattle.saphyr_scanner.specs.Steps.Passing as passing;
@@ -28,7 +28,7 @@ use crate::stopped::{Stopped, keep};
 use crate::token::TokenKind;
 pub(crate) use level::{Candidate, Context, Level};
 use saphyr_input::input::{Input, SkipTabs};
-use saphyr_scalar::{FaultText, Marker, Reader, Refusal, ScalarStyle, Span, Stop};
+use saphyr_scalar::{FaultText, Marker, Reader, Refusal, Span, Stop};
 use std::alloc::Global;
 
 /// The state of a scanner: the rest of the text, the tokens that were read and not handed out, and
@@ -39,13 +39,13 @@ use std::alloc::Global;
 #[derive(Drop)]
 pub(crate) struct Engine<T: Input> {
     // The rest of the text, and the place that is reached.
-    reader: Reader<T>,
+    pub(super) reader: Reader<T>,
     // The tokens that were read and not handed out.
-    queue: Queue,
+    pub(super) queue: Queue,
     // The innermost flow collection, or the outside of all, and the token there that may be a key.
     level: Level,
     // What is open around the level, the outermost first: at `b` in `[a, {b`, the outside and the sequence.
-    outer: Vec<Level>,
+    pub(super) outer: Vec<Level>,
     // Whether the candidate outside flow must be a key, since it is at the column of the innermost block
     // collection: `b` on the line after `a: 1` is refused without its colon.
     required: bool,
@@ -57,7 +57,7 @@ pub(crate) struct Engine<T: Input> {
     // collection, and of the blanks after it. So `{"a":b}` is a pair, and `{a:b}` has only the key `a:b`.
     adjacent: usize,
     // The first column to the right of the innermost block collection, or 0 if none is open: 3 at `b` in `- a: b`.
-    indent: usize,
+    pub(super) indent: usize,
     // Whether content must be at `indent` or right of it, as after `a:` and in the brackets of `- [`. Otherwise it may
     // also be one column further left, where the collection's next entry begins.
     deeper: bool,
@@ -67,19 +67,19 @@ pub(crate) struct Engine<T: Input> {
     // that would go on with the scalar.
     comment: Option<Marker>,
     // Whether the token of the stream's start was put into the queue.
-    started: bool,
+    pub(super) started: bool,
     // Whether the token of the stream's end was put into the queue.
-    ended: bool,
+    pub(super) ended: bool,
     // What ended the reading, once a call has returned `Stopped`.
-    stop: Stop,
+    pub(super) stop: Stop,
     // Where the memory of tokens and their texts comes from.
-    alloc: Global,
+    pub(super) alloc: Global,
 }
 
 impl<T: Input> Engine<T> {
-    ghost use Rattle.std.specs.Prelude.{Err, false};
+    ghost use Rattle.std.specs.Prelude.{false};
     ghost use Rattle.saphyr_scalar.specs.Views.Reader.{Moves};
-    ghost use Rattle.saphyr_scanner.specs.Views.Engine.{state, stopped_by, CarriesBy, Keeps, Performs};
+    ghost use Rattle.saphyr_scanner.specs.Views.Engine.{state, stopped_by, CarriesBy, Performs};
     ghost use Rattle.saphyr_scanner.specs.Views.Tokens.{kind_with, no_parts};
     ghost use Rattle.saphyr_scalar.specs.declared.scalar.fault.Stop.TheVariants.{Refused};
 
@@ -106,68 +106,11 @@ impl<T: Input> Engine<T> {
         }
     }
 
-    /// Goes on in this state before the characters of another input. Returns the input that was there.
-    pub(crate) fn exchange(&mut self, input: T) -> T
-        requires { (state self.old).core.cursor.mark.index + length (T.rest input) < 2 ^ 64 }
-        ensures state { state self.new ≡ spec_state.with_rest (T.rest input) (state self.old) }
-        ensures stop { self.new.stop ≡ self.old.stop }
-        ensures input { T.rest result ≡ (state self.old).core.cursor.rest }
-    {
-        self.reader.exchange(input)
-    }
-
-    /// Where a node comes next in block style, of which no token was read: the first column of its later lines.
-    pub(crate) fn node_column(&self) -> Option<usize> {
-        if self.started && self.outer.is_empty() && self.queue.has_no_node() {
-            Some(self.indent)
-        } else {
-            None
-        }
-    }
-
-    /// The input, from the place that is reached.
-    pub(crate) fn input(&self) -> &T
-        ensures { T.rest result.now ≡ (state self.now).core.cursor.rest }
-    {
-        self.reader.input()
-    }
-
-    /// How many characters are before the place that is reached.
-    pub(crate) fn index(&self) -> usize
-        ensures { result ≡ (state self.now).core.cursor.mark.index }
-    {
-        self.reader.mark().index
-    }
-
     // Whether no flow collection is open.
     fn in_block(&self) -> bool
         ensures { result ≡ spec.in_block (state self.now).core }
     {
         self.level.context.is_block()
-    }
-
-    /// What ended the reading, once a call has returned `Stopped`.
-    pub(crate) fn stop(&self) -> Stop
-        ensures { result ≡ self.now.stop }
-    {
-        self.stop
-    }
-
-    /// Keeps what ended the reading, for a caller that stops.
-    pub(crate) fn stop_at(&mut self, stop: Stop) -> Stopped
-        ensures { self.new.stop ≡ stop }
-    {
-        self.stop = stop;
-        Stopped
-    }
-
-    /// Passes on what a call returned, and keeps what ended the reading, if something did.
-    #[inline(always)]
-    pub(crate) fn keep<R, E: Into<Stop>>(&mut self, read: Result<R, E>) -> Result<R, Stopped>
-        ensures kept { Keeps E.converts read result self.new.stop }
-        ensures same { state self.new ≡ state self.old }
-    {
-        keep(&mut self.stop, read)
     }
 
     // The text is refused at a place.
@@ -194,34 +137,6 @@ impl<T: Input> Engine<T> {
             self.new }
     {
         keep(&mut self.stop, self.queue.put(kind, &start, &end))
-    }
-
-    // Puts a token without characters into the queue.
-    #[inline(always)]
-    fn put_empty(&mut self, mark: Marker, kind: TokenKind) -> Result<(), Stopped>
-        ensures { Performs (spec.at_mark mark (kind_with kind no_parts)) self.old result self.new }
-    {
-        self.put(mark, mark, kind)
-    }
-
-    // Puts a token without characters into the queue where the reader is.
-    #[inline(always)]
-    fn put_here(&mut self, kind: TokenKind) -> Result<(), Stopped>
-        ensures { Performs (spec.at_mark (state self.old).core.cursor.mark
-            (kind_with kind no_parts)) self.old result self.new }
-    {
-        let mark = self.reader.mark();
-        self.put(mark, mark, kind)
-    }
-
-    // Puts a token without parts that ends here into the queue.
-    #[inline(always)]
-    fn put_from(&mut self, start: Marker, kind: TokenKind) -> Result<(), Stopped>
-        ensures { Performs (spec.up_to_here start (kind_with kind no_parts) (state self.old).core)
-            self.old result self.new }
-    {
-        let end = self.reader.mark();
-        self.put(start, end, kind)
     }
 
     // Puts a token with these parts into the queue.

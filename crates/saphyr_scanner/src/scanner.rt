@@ -105,7 +105,7 @@ impl<T: Input> Scanner<T> {
         ensures { PeeksToken result self.old self.new }
     {
         self.fill()?;
-        Ok(self.engine.first())
+        Ok(self.engine.queue.peek())
     }
 
     // Reads until the next token can be handed out, unless all were. Mostly there is no candidate, and then this looks
@@ -200,7 +200,7 @@ impl<T: Input> Scanner<T> {
             → tokens_in more self.now ≡ before t left
             → span.new ≡ t.span }
     {
-        self.engine.span_into(span);
+        self.engine.queue.span_into(span);
     }
 
     /// Takes the next token. Its span goes into the place of another. To be called where it was peeked.
@@ -214,7 +214,7 @@ impl<T: Input> Scanner<T> {
             → tokens_in more self.old ≡ before t left
             → tokens_in more self.new ≡ left }
     {
-        self.engine.skip_into(span);
+        self.engine.queue.skip_into(span);
     }
 
     /// Takes the next token. Its text, which is empty where its kind has none, goes into the place of another. To be
@@ -230,7 +230,10 @@ impl<T: Input> Scanner<T> {
             → OnOk result (tokens_in more self.new ≡ left) }
         ensures failed { OnErr result (self.new.stop ≡ OutOfMemory) }
     {
-        self.engine.take_text_into(into)
+        let engine = &mut self.engine;
+        let spare = &mut engine.reader.spare;
+        let taken = engine.queue.take_text_into(engine.alloc, spare, into);
+        keep(&mut engine.stop, taken)
     }
 
     /// Takes the next token, and returns all its parts. To be called where it was peeked.
@@ -244,21 +247,26 @@ impl<T: Input> Scanner<T> {
             → OnOk result (tokens_in more self.new ≡ left) }
         ensures failed { OnErr result (self.new.stop ≡ OutOfMemory) }
     {
-        self.engine.take_parts()
+        let engine = &mut self.engine;
+        let taken = engine
+            .queue
+            .take_parts(engine.alloc, &mut engine.reader.spare);
+        keep(&mut engine.stop, taken)
     }
 
     /// What ended the reading, once a call has returned `Stopped`.
     pub fn stop(&self) -> Stop
         ensures { result ≡ self.now.stop }
     {
-        self.engine.stop()
+        self.engine.stop
     }
 
     /// Keeps what ended the reading, for a caller that stops.
     pub fn stop_at(&mut self, stop: Stop) -> Stopped
         ensures { self.new.stop ≡ stop }
     {
-        self.engine.stop_at(stop)
+        self.engine.stop = stop;
+        Stopped
     }
 
     /// Passes on what a call returned, and keeps what ended the reading, if something did.
@@ -271,7 +279,7 @@ impl<T: Input> Scanner<T> {
         ensures limit { self.new.limit ≡ self.old.limit }
         ensures growth { self.new.growth ≡ self.old.growth }
     {
-        self.engine.keep(read)
+        keep(&mut self.engine.stop, read)
     }
 
     /// Takes a text that is no longer needed. The next one may use its memory.
@@ -279,28 +287,28 @@ impl<T: Input> Scanner<T> {
     pub fn give_back(&mut self, text: String)
         ensures { self.new ≡ self.old }
     {
-        self.engine.give_back(text);
+        self.engine.reader.spare.keep(text);
     }
 
     /// Takes the texts of a tag that is no longer needed. The next one may use their memory.
     pub fn give_back_tag(&mut self, tag: TagParts)
         ensures { self.new ≡ self.old }
     {
-        self.engine.give_back_tag(tag);
+        self.engine.reader.spare.keep_tag(tag);
     }
 
     /// The input, from the place that is reached.
     pub fn input(&self) -> &T
         ensures { T.rest result.now ≡ self.now.state.core.cursor.rest }
     {
-        self.engine.input()
+        self.engine.reader.input()
     }
 
     /// How many characters are before the place that is reached.
     pub fn index(&self) -> usize
         ensures { result ≡ self.now.state.core.cursor.mark.index }
     {
-        self.engine.index()
+        self.engine.reader.mark().index
     }
 
     /// What is known of the text's end.
@@ -319,12 +327,17 @@ impl<T: Input> Scanner<T> {
         ensures input { T.rest result ≡ self.old.state.core.cursor.rest }
     {
         self.growth = growth;
-        self.engine.exchange(input)
+        self.engine.reader.exchange(input)
     }
 
     /// Where a node comes next in block style, of which no token was read: the first column of its later lines.
     pub fn node_column(&self) -> Option<usize> {
-        self.engine.node_column()
+        let engine = &self.engine;
+        if engine.started && engine.outer.is_empty() && engine.queue.has_no_node() {
+            Some(engine.indent)
+        } else {
+            None
+        }
     }
 }
 

@@ -6,7 +6,6 @@ use Rattle.std.proofs.lemmas.Bool.Decides.{nat_tests}
 use Rattle.std.proofs.lemmas.Grind.{get_or_after_one}
 use Rattle.saphyr_input.specs.Classes.{is_blank, is_bom, is_break, is_flow}
 use Rattle.saphyr_input.specs.Indicators.{number_sign}
-use Rattle.saphyr_input.specs.declared.input.SkipTabs.TheVariants as tabs
 use Rattle.saphyr_scalar.specs.Views.Cursor.{Cursor, pass, pass_blanks, separation, behind_separation}
 use Rattle.saphyr_scalar.proofs.NoSeparation.{nothing_separates}
 use Rattle.saphyr_scanner.specs.Steps.Block.{pass_dash}

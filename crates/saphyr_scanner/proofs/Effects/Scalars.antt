@@ -1,5 +1,5 @@
 -- What each step of scalars does, by the laws of the readers.
-use Rattle.saphyr_scanner.proofs.Common.{◌≡◌, ◌≢◌, ℕ, ◌+◌, ◌-◌, ◌<◌, Bool, true, false, List, [], ◌∷◌, length, Some, IsTrue, IsFalse, refl, sym, ap, ◌∙◌, arith, subst, inl, inr, ◌&&◌, ◌||◌, ◌==◌, slice_index, not, nat_lt, codes, is_break, is_blank_or_breakz, is_one_of, is_blank_or_break, BlockStyle, mark, Marker, IsSpelledPlain, IsPlainReading, Cursor, Piece, or_parts, ne_eqb, ampersand, apostrophe, asterisk, at_sign, colon, exclamation_mark, grave_accent, left_brace, left_bracket, number_sign, percent_sign, quotation_mark, right_brace, right_bracket, by_test, given_of}
+use Rattle.saphyr_scanner.proofs.Common.{◌≡◌, ◌≢◌, ℕ, ◌+◌, ◌<◌, Bool, true, false, List, [], ◌∷◌, length, Some, IsTrue, IsFalse, refl, sym, ap, ◌∙◌, arith, subst, inl, inr, ◌&&◌, ◌||◌, ◌==◌, slice_index, not, nat_lt, codes, is_break, is_blank_or_breakz, is_one_of, is_blank_or_break, BlockStyle, Marker, IsSpelledPlain, IsPlainReading, Cursor, Piece, or_parts, ne_eqb, ampersand, apostrophe, asterisk, at_sign, exclamation_mark, grave_accent, left_brace, left_bracket, number_sign, percent_sign, quotation_mark, right_brace, right_bracket, by_test, given_of}
 use Rattle.saphyr_scalar.specs.declared.scalar.style.ScalarStyle.TheVariants.{Plain}
 use Rattle.saphyr_scalar.specs.Steps.Block as blocks
 use Rattle.saphyr_scalar.specs.Steps.Plain as words

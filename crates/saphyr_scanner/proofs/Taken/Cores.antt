@@ -1,5 +1,5 @@
 -- What is held stays so where the core of a scanner changes, and where a token comes.
-use Rattle.saphyr_scanner.proofs.Common.{◌≡◌, ℕ, ◌+◌, ◌-◌, ◌<◌, ◌⊎◌, Bool, true, false, List, [], ◌∷◌, length, None, refl, sym, ap, ◌∙◌, arith, inl, inr, length-append, ◌==◌, ◌&&◌, slice_index, not, nat_lt, Cursor, pass, cut_at, Piece}
+use Rattle.saphyr_scanner.proofs.Common.{◌≡◌, ℕ, ◌+◌, ◌<◌, ◌⊎◌, Bool, true, false, List, [], ◌∷◌, length, None, refl, sym, ap, ◌∙◌, arith, inl, inr, length-append, ◌==◌, ◌&&◌, slice_index, not, nat_lt, Cursor, pass, cut_at, Piece}
 use Rattle.saphyr_scanner.specs.Steps.Queue.{Queue, is_empty_list, bare_place, with_piece, next}
 use Rattle.saphyr_scanner.specs.Steps.Core.{Core, in_block, forget_key}
 use Rattle.saphyr_scanner.specs.Steps.Level.{Level, is_block}

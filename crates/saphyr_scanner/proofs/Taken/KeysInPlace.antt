@@ -1,5 +1,5 @@
 -- Tokens stay in their places where a candidate turns out to be a key.
-use Rattle.saphyr_scanner.proofs.Common.{◌≡◌, ℕ, ◌+◌, ◌-◌, true, false, List, ◌∷◌, ◌++◌, None, refl, arith, IsTrue, ◌≤◌, ◌<◌, nat_lt, nat_tests, or-true, Marker, Span, Opening, Piece}
+use Rattle.saphyr_scanner.proofs.Common.{◌≡◌, ℕ, true, false, List, ◌∷◌, ◌++◌, None, refl, arith, IsTrue, ◌≤◌, ◌<◌, nat_lt, nat_tests, or-true, Marker, Span, Opening, Piece}
 use Rattle.saphyr_scanner.specs.declared.queue.Opening.TheVariants as opening
 use Rattle.saphyr_scanner.specs.Grammar.Tokens as tokens
 use Rattle.saphyr_scanner.specs.Steps.Queue.{empty_piece}

@@ -1,6 +1,6 @@
 -- What is known between tokens: after a block scalar a candidate is too far in front to be a key.
 use Rattle.saphyr_scanner.proofs.Common.{◌≡◌, ℕ, ◌^◌, ◌≤◌, ◌<◌, ◌⊎◌, Bool, true, false, List, [], ◌∷◌, length, Option, Ok, Some, None, refl, sym, ap, ◌∙◌, arith, subst, inl, inr, IsTrue, is_z, BlockStyle, Marker, Span, Cursor, start_cursor, Piece, by_test, lt-ltb}
-use Rattle.std.specs.Prelude.{◌-◌, ◌&&◌, slice_index}
+use Rattle.std.specs.Prelude.{◌&&◌, slice_index}
 use Rattle.saphyr_scalar.specs.Steps.Block as blocks
 use Rattle.saphyr_scanner.specs.Grammar.Tokens as tokens
 use Rattle.saphyr_scanner.specs.Steps.Queue.{Place, Queue, bare_place, with_piece, next, empty_piece}

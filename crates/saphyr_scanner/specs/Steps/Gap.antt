@@ -1,6 +1,6 @@
 -- What is between two tokens: blanks, breaks and comments (YAML 1.2.2, 6.7).
 use Rattle.std.specs.Prelude.{ℕ, Bool, true, false, ◌||◌, ◌&&◌, ◌==◌, not, nat_lt, List, [], ◌∷◌, slice_index, Result, Ok, if◌then◌else◌}
-use Rattle.saphyr_input.specs.Classes.{is_break, is_bom, is_z, is_yaml_non_break, carriage_return, line_feed, space, tab}
+use Rattle.saphyr_input.specs.Classes.{is_break, is_bom, is_z, is_yaml_non_break, carriage_return, line_feed, tab}
 pub use Rattle.saphyr_input.specs.Fronts.{is_passed_blank}
 use Rattle.saphyr_input.specs.Indicators.{number_sign}
 use Rattle.saphyr_scalar.specs.declared.scalar.position.Marker.{Marker}

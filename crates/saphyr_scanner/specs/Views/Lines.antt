@@ -1,5 +1,5 @@
 -- What contracts see of lines that are passed before the next token.
-use Rattle.std.specs.Prelude.{◌≡◌, ◌-◌, ◌^◌, ◌||◌, ◌&&◌, ◌==◌, Bool, List, ℕ, slice_index, if◌then◌else◌}
+use Rattle.std.specs.Prelude.{◌≡◌, ◌-◌, ◌^◌, ◌||◌, ◌==◌, Bool, List, ℕ, slice_index, if◌then◌else◌}
 use Rattle.saphyr_input.specs.Classes.{carriage_return, line_feed, tab}
 use Rattle.saphyr_input.specs.Indicators.{number_sign}
 use Rattle.saphyr_input.specs.Places.{next_2_are}

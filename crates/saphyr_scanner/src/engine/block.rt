@@ -15,7 +15,7 @@ use crate::gap::skip_spaces;
 use crate::stopped::Stopped;
 use crate::token::TokenKind;
 use saphyr_input::char_traits::{is_blank_or_breakz, is_break, is_flow};
-use saphyr_input::input::{Input, SkipTabs};
+use saphyr_input::input::Input;
 use saphyr_scalar::FaultText;
 
 // Whether the character is one that most entries begin with, and no blank, break, `#`, flow indicator or byte order
@@ -40,26 +40,18 @@ impl<T: Input> Engine<T> {
         self.reader.input().peek() == '-' && is_blank_or_breakz(self.reader.input().peek_nth(1))
     }
 
-    // Only spaces may come before the `-` of a compact sequence.
-    #[inline(always)]
-    fn refuse_tab(&mut self, found: SkipTabs) -> Result<(), Stopped>
-        ensures { CarriesBy (λ c. block.refuse_tab (found, c)) self.old result self.new }
-    {
-        if found.found_tabs() && self.is_dash_next() {
-            return Err(self.refuse_here(FaultText::DashWithoutWhitespace));
-        }
-        self.deepen();
-        Ok(())
-    }
-
-    // Passes what follows `-` on its line.
+    // Passes what follows `-` on its line. Only spaces may come before the `-` of a compact sequence.
     #[inline(always)]
     #[tactic(auto, unfolding(crate::specs::Steps::Block::pass_dash))]
     fn pass_dash(&mut self) -> Result<(), Stopped>
         ensures { CarriesBy block.pass_dash self.old result self.new }
     {
         let found = self.separate()?;
-        self.refuse_tab(found)
+        if found.found_tabs() && self.is_dash_next() {
+            return Err(self.refuse_here(FaultText::DashWithoutWhitespace));
+        }
+        self.deepen();
+        Ok(())
     }
 
     // Passes `-` and the space behind it, if that is followed by what most entries begin with.
@@ -134,50 +126,19 @@ impl<T: Input> Engine<T> {
         if !self.key_allowed {
             return Err(self.refuse_here(FaultText::SequenceEntryNotAllowed));
         }
-        let column = self.reader.mark().col;
-        if self.is_further(column) {
-            self.put_here(TokenKind::BlockSequenceStart)?;
+        let start = self.reader.mark();
+        if self.is_further(start.col) {
+            self.put(start, start, TokenKind::BlockSequenceStart)?;
         }
-        self.begin_entry(next, column)?;
+        self.begin_entry(next, start.col)?;
         self.remove_key()?;
         self.key_allowed = true;
-        self.put_here(TokenKind::BlockEntry)
+        let mark = self.reader.mark();
+        self.put(mark, mark, TokenKind::BlockEntry)
     }
 
-    // Passes `?` and the blanks behind it, without which it is no indicator.
-    #[inline(always)]
-    #[tactic(auto, unfolding(crate::specs::Steps::Block::behind_mark))]
-    fn pass_question(&mut self) -> Result<(), Stopped>
-        requires { 0 < length (state self.old).core.cursor.rest }
-        ensures { CarriesBy block.pass_question self.old result self.new }
-    {
-        self.reader.skip_non_blank();
-        if !skip_spaces(&mut self.reader) {
-            return Err(self.refuse_here(FaultText::WhitespaceExpected));
-        }
-        if self.reader.look() == '\t' {
-            return Err(self.refuse_here(FaultText::TabNotAllowed));
-        }
-        Ok(())
-    }
-
-    // A key begins with the `?` that stands here.
-    #[inline(always)]
-    #[tactic(auto, unfolding(crate::specs::Steps::Block::begin_key, crate::specs::Steps::Core::remove_key))]
-    fn begin_key(&mut self, column: usize) -> Result<(), Stopped>
-        requires some { 0 < length (state self.old).core.cursor.rest }
-        requires here { column ≡ (state self.old).core.cursor.mark.col }
-        ensures { CarriesBy block.begin_key self.old result self.new }
-    {
-        self.roll(column)?;
-        self.level.context = self.level.context.behind_question();
-        self.remove_key()?;
-        self.key_allowed = self.in_block();
-        self.pass_question()
-    }
-
-    // `?`.
-    #[tactic(auto, unfolding(crate::specs::Steps::Block::key_steps))]
+    // `?`. Blanks must be behind it, without which it is no indicator.
+    #[tactic(auto, unfolding(crate::specs::Steps::Block::key_steps, crate::specs::Steps::Block::begin_key, crate::specs::Steps::Block::behind_mark, crate::specs::Steps::Core::remove_key))]
     pub(super) fn fetch_key(&mut self) -> Result<(), Stopped>
         requires { 0 < length (state self.old).core.cursor.rest }
         ensures { ActsBy block.key_steps self.old result self.new }
@@ -187,9 +148,20 @@ impl<T: Input> Engine<T> {
         }
         let start = self.reader.mark();
         if self.is_further(start.col) {
-            self.put_empty(start, TokenKind::BlockMappingStart)?;
+            self.put(start, start, TokenKind::BlockMappingStart)?;
         }
-        self.begin_key(start.col)?;
-        self.put_from(start, TokenKind::Key)
+        self.roll(start.col)?;
+        self.level.context = self.level.context.behind_question();
+        self.remove_key()?;
+        self.key_allowed = self.in_block();
+        self.reader.skip_non_blank();
+        if !skip_spaces(&mut self.reader) {
+            return Err(self.refuse_here(FaultText::WhitespaceExpected));
+        }
+        if self.reader.look() == '\t' {
+            return Err(self.refuse_here(FaultText::TabNotAllowed));
+        }
+        let end = self.reader.mark();
+        self.put(start, end, TokenKind::Key)
     }
 }

@@ -3,11 +3,8 @@
 
 ghost use Rattle.std.specs.Prelude.{◌≡◌, ◌≤◌, ◌<◌, length, slice_index, None, OnOk};
 ghost use Rattle.saphyr_input.specs.Indicators.{percent_sign};
-ghost use Rattle.saphyr_scanner.specs.Grammar.Tokens as tokens;
 ghost use Rattle.saphyr_scanner.specs.Steps.Document as document;
-ghost use Rattle.saphyr_scanner.specs.Steps.Core.{from_to};
 ghost use Rattle.saphyr_scanner.specs.Views.Tokens.{kind_with, no_parts};
-ghost use Rattle.saphyr_scalar.specs.Steps.Directive.{directive_of};
 
 use crate::engine::Engine;
 use crate::stopped::{Stopped, keep};
@@ -17,7 +14,7 @@ use saphyr_input::input::Input;
 use saphyr_scalar::{Directive, FaultText, Marker, Span, TagParts};
 
 impl<T: Input> Engine<T> {
-    ghost use Rattle.saphyr_scanner.specs.Views.Engine.{state, MovesBy, Performs};
+    ghost use Rattle.saphyr_scanner.specs.Views.Engine.{state, MovesBy};
 
     // Ends all block collections, and what may be a key.
     #[tactic(auto, using(crate::proofs::Blocks::unrolled_cursor), unfolding(crate::specs::Steps::Document::end_content, crate::specs::Steps::Core::remove_key))]
@@ -49,7 +46,7 @@ impl<T: Input> Engine<T> {
         self.unroll(None, mark)?;
         self.key_allowed = false;
         self.ended = true;
-        self.put_empty(mark, TokenKind::StreamEnd)
+        self.put(mark, mark, TokenKind::StreamEnd)
     }
 
     // `---` or `...`.
@@ -63,17 +60,8 @@ impl<T: Input> Engine<T> {
         self.key_allowed = false;
         let start = self.reader.mark();
         self.reader.skip_n_non_blank(3);
-        self.put_from(start, kind)
-    }
-
-    // `---`.
-    #[inline(always)]
-    pub(super) fn fetch_document_start(&mut self) -> Result<(), Stopped>
-        requires { 3 ≤ length (state self.old).core.cursor.rest }
-        ensures { MovesBy (document.state_behind_marker tokens.DocumentStart) self.old result
-            self.new }
-    {
-        self.fetch_document_marker(TokenKind::DocumentStart)
+        let end = self.reader.mark();
+        self.put(start, end, kind)
     }
 
     // `...` and what follows it on its line.
@@ -102,15 +90,8 @@ impl<T: Input> Engine<T> {
         self.key_allowed = false;
         let start = self.reader.mark();
         let line = keep(&mut self.stop, self.reader.read_directive(self.alloc))?;
-        self.put_directive(Span::new(start, line.end), line.directive)
-    }
-
-    // Puts the token of a directive into the queue.
-    fn put_directive(&mut self, span: Span, directive: Directive) -> Result<(), Stopped>
-        ensures { Performs (from_to span.start span.end
-            (document.directive_kind (directive_of directive))) self.old result self.new }
-    {
-        match directive {
+        let span = Span::new(start, line.end);
+        match line.directive {
             Directive::Version(major, minor) => {
                 self.put_parts(span, TokenKind::VersionDirective, "", "", major, minor)
             }
@@ -141,7 +122,8 @@ impl<T: Input> Engine<T> {
         self.end_content()?;
         self.reader.skip_byte_order_mark();
         self.key_allowed = true;
-        self.put_from(start, TokenKind::ByteOrderMark)
+        let end = self.reader.mark();
+        self.put(start, end, TokenKind::ByteOrderMark)
     }
 }
 

@@ -1,6 +1,6 @@
 //! Which token comes next, by its first characters (YAML 1.2.2, 5.3).
 
-ghost use Rattle.std.specs.Prelude.{◌≡◌, ◌<◌, ◌≤◌, ◌==◌, false, OnOk, length, slice_index};
+ghost use Rattle.std.specs.Prelude.{◌≡◌, ◌<◌, ◌≤◌, ◌==◌, false, length, slice_index};
 ghost use Rattle.saphyr_input.specs.Indicators.{
   colon,
   comma,
@@ -12,7 +12,6 @@ ghost use Rattle.saphyr_input.specs.Indicators.{
   right_bracket,
 };
 ghost use Rattle.saphyr_scanner.specs.Steps.Fetch as fetch;
-ghost use Rattle.saphyr_scanner.specs.Steps.Queue as spec_queue;
 ghost use Rattle.saphyr_scanner.specs.Steps.Scalar as scalar;
 
 use crate::engine::{Context, Engine};
@@ -35,7 +34,7 @@ impl<T: Input> Engine<T> {
     {
         self.started = true;
         let mark = self.reader.mark();
-        self.put_empty(mark, TokenKind::StreamStart)
+        self.put(mark, mark, TokenKind::StreamStart)
     }
 
     // Puts the next token into the queue.
@@ -75,7 +74,7 @@ impl<T: Input> Engine<T> {
         } else if column == 0 && c == '%' {
             self.fetch_directive()?;
         } else if column == 0 && self.reader.input().next_is_document_start() {
-            self.fetch_document_start()?;
+            self.fetch_document_marker(TokenKind::DocumentStart)?;
         } else if column == 0 && self.reader.input().next_is_document_end() {
             self.fetch_document_end()?;
         } else if column < self.least_column() {
@@ -84,15 +83,6 @@ impl<T: Input> Engine<T> {
             return Ok(true);
         }
         Ok(false)
-    }
-
-    // The second character. Few tokens need it, so only those look at it.
-    #[inline(always)]
-    fn second(&self) -> char
-        requires { 2 ≤ loaded self.now.reader }
-        ensures { result ≡ slice_index (state self.now).core.cursor.rest 1 }
-    {
-        self.reader.input().peek_nth(1)
     }
 
     // An entry of a block sequence, or a plain scalar that begins with `-`.
@@ -104,7 +94,7 @@ impl<T: Input> Engine<T> {
         requires loaded { 2 ≤ loaded self.old.reader }
         ensures { MovesBy (with_second hyphen) self.old result self.new }
     {
-        let next = self.second();
+        let next = self.reader.input().peek_nth(1);
         if is_blank_or_breakz(next) {
             self.fetch_block_entry(next)
         } else {
@@ -120,7 +110,7 @@ impl<T: Input> Engine<T> {
         requires loaded { 2 ≤ loaded self.old.reader }
         ensures { MovesBy (with_second colon) self.old result self.new }
     {
-        let next = self.second();
+        let next = self.reader.input().peek_nth(1);
         if is_blank_or_breakz(next) {
             self.fetch_value()
         } else if self.is_value_adjacent(next) {
@@ -148,7 +138,7 @@ impl<T: Input> Engine<T> {
             ':' => self.fetch_colon(),
             '"' => self.fetch_flow_scalar(Quote::Double),
             '?' | '\'' | '*' | '&' | '!' | '|' | '>' | '%' | '@' | '`' => {
-                let next = self.second();
+                let next = self.reader.input().peek_nth(1);
                 self.fetch_rare(c, next)
             }
             _ => self.fetch_plain(),

@@ -1,24 +1,19 @@
-//! How many tokens are read before the first of them is handed out, and handing it out.
+//! How many tokens are read before the first of them is handed out, and lines that are passed before the next one.
 
-ghost use Rattle.std.specs.Prelude.{◌≡◌, ◌+◌, ◌<◌, ◌≤◌, ◌^◌, List, ℕ, true, false, IfOk, IsTrue, Ok, OnErr, OnOk, Some, slice_index, string_bytes};
-ghost use Rattle.saphyr_input.specs.Classes.{is_z};
-ghost use Rattle.saphyr_scalar.specs.declared.scalar.fault.Stop.TheVariants.{OutOfMemory};
+ghost use Rattle.std.specs.Prelude.{◌≡◌, ◌<◌, ◌≤◌, true, false, IsTrue, Ok, slice_index};
 ghost use Rattle.saphyr_scanner.specs.Steps.Fetch as fetch;
 
 use crate::engine::Engine;
 use crate::law::takes_characters_off;
-use crate::stopped::{Halt, Stopped, keep};
-use crate::token::{TokenKind, TokenParts};
+use crate::stopped::Halt;
 use saphyr_input::input::Input;
-use saphyr_scalar::{FaultText, Refusal, Span, Stop, TagParts};
+use saphyr_scalar::{FaultText, Refusal, Stop};
 
 impl<T: Input> Engine<T> {
     ghost use Rattle.saphyr_scalar.specs.Views.Reader.{loaded};
     ghost use Rattle.saphyr_scanner.specs.Views.Engine.{state, MovesBy};
     ghost use Rattle.saphyr_scanner.specs.Views.Lines.{PassesOn, behind_line_text, is_whole_break, placed};
-    ghost use Rattle.saphyr_scanner.specs.Views.Queue.{first_of, kind_shown};
     ghost use Rattle.saphyr_scanner.specs.Views.Scanning.{is_decided};
-    ghost use Rattle.saphyr_scanner.specs.Views.Tokens.{Piece, kind_with, parts_view, text_of, token_kind};
     ghost use Rattle.saphyr_scanner.specs.Views.TooLong.{as_read, within, TurnsTooLong};
 
     // Whether the token at a place may still become a key in what is open around the level.
@@ -196,15 +191,6 @@ impl<T: Input> Engine<T> {
         true
     }
 
-    /// The kind of the first token, unless all were handed out.
-    #[inline(always)]
-    pub(crate) fn first(&self) -> Option<TokenKind>
-        ensures kind { result ≡ kind_shown (first_of (state self.now).queue) }
-        ensures counted { (state self.now).queue.handed + 1 < 2 ^ 64 }
-    {
-        self.queue.peek()
-    }
-
     /// Whether what was read is so whatever comes behind what came of the text.
     pub(crate) fn is_decided(&mut self, read: Result<(), Halt>) -> bool
         ensures decided { result
@@ -219,64 +205,5 @@ impl<T: Input> Engine<T> {
                 Stop::OutOfMemory => true,
             },
         }
-    }
-
-    /// The span of the first token goes into the place of another.
-    #[inline(always)]
-    pub(crate) fn span_into(&self, span: &mut Span)
-        ensures { (t : Piece) → first_of (state self.now).queue ≡ Some t → span.new ≡ t.span }
-    {
-        self.queue.span_into(span);
-    }
-
-    /// Takes the first token off the queue. Its span goes into the place of another.
-    #[inline(always)]
-    pub(crate) fn skip_into(&mut self, span: &mut Span)
-        ensures span { (t : Piece) → first_of (state self.old).queue ≡ Some t
-            → span.new ≡ t.span }
-        ensures left { state self.new ≡ (fetch.take_token (state self.old)).1 }
-    {
-        self.queue.skip_into(span);
-    }
-
-    /// Takes the first token off the queue. Its text goes into the place of another.
-    #[inline(always)]
-    pub(crate) fn take_text_into(&mut self, into: &mut String) -> Result<(), Stopped>
-        ensures text { (t : Piece) (text : List ℕ) → first_of (state self.old).queue ≡ Some t
-            → text_of t.kind ≡ Some text → OnOk result (string_bytes into.new ≡ text) }
-        ensures left { OnOk result (state self.new ≡ (fetch.take_token (state self.old)).1) }
-        ensures failed { OnErr result (self.new.stop ≡ OutOfMemory) }
-    {
-        let spare = &mut self.reader.spare;
-        let taken = self.queue.take_text_into(self.alloc, spare, into);
-        keep(&mut self.stop, taken)
-    }
-
-    /// Takes the first token off the queue, and returns its parts.
-    pub(crate) fn take_parts(&mut self) -> Result<TokenParts, Stopped>
-        ensures parts { (t : Piece) → first_of (state self.old).queue ≡ Some t
-            → IfOk result (λ x. t.kind ≡ kind_with (token_kind t.kind) (parts_view x)) }
-        ensures left { OnOk result (state self.new ≡ (fetch.take_token (state self.old)).1) }
-        ensures failed { OnErr result (self.new.stop ≡ OutOfMemory) }
-    {
-        let taken = self.queue.take_parts(self.alloc, &mut self.reader.spare);
-        keep(&mut self.stop, taken)
-    }
-
-    /// Keeps the memory of a text that is no longer needed for the next one.
-    #[inline(always)]
-    pub(crate) fn give_back(&mut self, text: String)
-        ensures same { state self.new ≡ state self.old }
-        ensures stop { self.new.stop ≡ self.old.stop }
-    {
-        self.reader.spare.keep(text);
-    }
-
-    /// Keeps the memory of the texts of a tag for the next one.
-    pub(crate) fn give_back_tag(&mut self, tag: TagParts)
-        ensures same { state self.new ≡ state self.old }
-        ensures stop { self.new.stop ≡ self.old.stop }
-    {
-        self.reader.spare.keep_tag(tag);
     }
 }

@@ -1,8 +1,7 @@
 //! Flow collections: their brackets, and the commas between their entries (YAML 1.2.2, 7.4).
 
-ghost use Rattle.std.specs.Prelude.{◌≡◌, Ok, OnOk, false, ◌<◌, length, nat_le};
+ghost use Rattle.std.specs.Prelude.{◌≡◌, Ok, false, ◌<◌, length};
 ghost use Rattle.saphyr_scanner.specs.Grammar.Tokens as tokens;
-ghost use Rattle.saphyr_scanner.specs.Limits.{most_open};
 ghost use Rattle.saphyr_scanner.specs.Steps.Core as spec;
 ghost use Rattle.saphyr_scanner.specs.Steps.Flow as flow;
 ghost use Rattle.saphyr_scanner.specs.Steps.State as spec_state;
@@ -49,35 +48,9 @@ impl<T: Input> Engine<T> {
         self.key_allowed = false;
     }
 
-    // Whether as many flow collections are open as may be.
-    #[inline(always)]
-    fn is_full(&self) -> bool
-        ensures { result ≡ nat_le most_open (length (state self.now).core.outer) }
-    {
-        self.outer.len() >= MOST_OPEN
-    }
-
-    // The bracket that stands here opens a flow collection.
-    #[inline(always)]
-    #[tactic(auto, unfolding(crate::specs::Steps::Flow::open_collection))]
-    fn open_collection(&mut self, context: Context, kind: TokenKind) -> Result<(), Stopped>
-        requires { 0 < length (state self.old).core.cursor.rest }
-        ensures { ActsBy (flow.open_collection context (kind_with kind no_parts))
-            self.old result self.new }
-    {
-        if self.is_full() {
-            return Err(self.refuse_here(FaultText::RecursionLimit));
-        }
-        self.enter(context)?;
-        let start = self.reader.mark();
-        self.reader.skip_non_blank();
-        self.separate()?;
-        self.put_from(start, kind)
-    }
-
     // `[` or `{`.
     #[inline(always)]
-    #[tactic(auto, unfolding(crate::specs::Steps::Flow::opening_steps))]
+    #[tactic(auto, unfolding(crate::specs::Steps::Flow::opening_steps, crate::specs::Steps::Flow::open_collection))]
     pub(super) fn fetch_flow_start(
         &mut self,
         context: Context,
@@ -89,7 +62,15 @@ impl<T: Input> Engine<T> {
     {
         self.save_key();
         self.go_deeper();
-        self.open_collection(context, kind)
+        if self.outer.len() >= MOST_OPEN {
+            return Err(self.refuse_here(FaultText::RecursionLimit));
+        }
+        self.enter(context)?;
+        let start = self.reader.mark();
+        self.reader.skip_non_blank();
+        self.separate()?;
+        let end = self.reader.mark();
+        self.put(start, end, kind)
     }
 
     // The innermost flow collection ends with the bracket here.
@@ -107,7 +88,8 @@ impl<T: Input> Engine<T> {
         if !self.in_block() {
             self.adjacent = self.reader.mark().index;
         }
-        self.put_from(start, kind)
+        let end = self.reader.mark();
+        self.put(start, end, kind)
     }
 
     // An open pair without brackets of its own ends here. It is separate for speed: few pairs are open.
@@ -117,7 +99,7 @@ impl<T: Input> Engine<T> {
             self.old result self.new }
     {
         let mark = self.reader.mark();
-        self.put_empty(mark, TokenKind::FlowMappingEnd)
+        self.put(mark, mark, TokenKind::FlowMappingEnd)
     }
 
     // `]`. An open pair without brackets of its own ends before it.
@@ -149,13 +131,14 @@ impl<T: Input> Engine<T> {
         self.close_collection(TokenKind::FlowMappingEnd)
     }
 
-    // The comma that stands here ends an entry.
+    // `,`. An open pair without brackets of its own ends before it.
     #[inline(always)]
-    #[tactic(auto, unfolding(crate::specs::Steps::Flow::next_flow_entry))]
-    fn next_flow_entry(&mut self) -> Result<(), Stopped>
+    #[tactic(auto, unfolding(crate::specs::Steps::Flow::flow_entry_steps, crate::specs::Steps::Flow::next_flow_entry, crate::specs::Steps::Core::remove_key))]
+    pub(super) fn fetch_flow_entry(&mut self) -> Result<(), Stopped>
         requires { 0 < length (state self.old).core.cursor.rest }
-        ensures { ActsBy flow.next_flow_entry self.old result self.new }
+        ensures { ActsBy flow.flow_entry_steps self.old result self.new }
     {
+        self.remove_key()?;
         self.key_allowed = true;
         let start = self.reader.mark();
         if self.level.context.is_pair() {
@@ -166,17 +149,7 @@ impl<T: Input> Engine<T> {
         }
         self.reader.skip_non_blank();
         self.separate()?;
-        self.put_from(start, TokenKind::FlowEntry)
-    }
-
-    // `,`.
-    #[inline(always)]
-    #[tactic(auto, unfolding(crate::specs::Steps::Flow::flow_entry_steps, crate::specs::Steps::Core::remove_key))]
-    pub(super) fn fetch_flow_entry(&mut self) -> Result<(), Stopped>
-        requires { 0 < length (state self.old).core.cursor.rest }
-        ensures { ActsBy flow.flow_entry_steps self.old result self.new }
-    {
-        self.remove_key()?;
-        self.next_flow_entry()
+        let end = self.reader.mark();
+        self.put(start, end, TokenKind::FlowEntry)
     }
 }

@@ -62,23 +62,18 @@ impl<T: Input> Engine<T> {
         Ok(())
     }
 
-    // Whether the candidate is on another line, or too far away.
-    pub(super) fn is_key_too_far(&self) -> bool
-        ensures { result ≡ spec.is_too_far (state self.now).core.level.key
-            (state self.now).core.cursor.mark }
-    {
-        let mark = self.reader.mark();
-        let key = &self.level.key.mark;
-        self.level.has_key
-            && (key.line < mark.line || mark.index.saturating_sub(key.index) > LONGEST_KEY)
-    }
-
-    // Whether that is so of a candidate outside flow, which then is none any more.
+    // Whether a candidate outside flow is on another line, or too far away. Then it is none any more.
+    #[inline(always)]
     pub(super) fn has_far_key(&self) -> bool
         ensures { result ≡ (spec.in_block (state self.now).core
             && spec.is_too_far (state self.now).core.level.key (state self.now).core.cursor.mark) }
     {
-        self.in_block() && self.is_key_too_far()
+        if !self.in_block() || !self.level.has_key {
+            return false;
+        }
+        let mark = self.reader.mark();
+        let key = &self.level.key.mark;
+        key.line < mark.line || mark.index.saturating_sub(key.index) > LONGEST_KEY
     }
 
     // A candidate outside flow is dropped on the next line, and once its colon would be too far away.

@@ -1,36 +1,22 @@
 //! The colon between a key and its value, which makes a key of what comes before it (YAML
 //! 1.2.2, 7.4.2 and 8.2.2).
 
-ghost use Rattle.std.specs.Prelude.{◌≡◌, Ok, ◌+◌, ◌<◌, ◌^◌, length};
+ghost use Rattle.std.specs.Prelude.{Ok, ◌+◌, ◌<◌, ◌^◌, length};
 ghost use Rattle.saphyr_scanner.specs.Steps.Value as value;
 
 use crate::engine::{Candidate, Engine};
 use crate::queue::Opening;
-use crate::stopped::{Stopped, keep};
+use crate::stopped::Stopped;
 use crate::token::TokenKind;
 use saphyr_input::char_traits::is_alpha;
-use saphyr_input::input::{Input, SkipTabs};
+use saphyr_input::input::Input;
 use saphyr_scalar::{FaultText, Marker};
 
 impl<T: Input> Engine<T> {
     ghost use Rattle.saphyr_scanner.specs.Views.Engine.{state, candidate, ActsBy, CarriesBy};
 
-    // Outside flow there must be a space between a colon and a word, not a tab alone.
-    #[inline(always)]
-    fn refuse_lone_tab(&mut self, found: SkipTabs) -> Result<(), Stopped>
-        ensures { CarriesBy (λ c. value.refuse_lone_tab (found, c)) self.old result self.new }
-    {
-        if !self.in_block() || found.has_valid_yaml_ws() {
-            return Ok(());
-        }
-        let c = self.reader.look();
-        if c == '-' || is_alpha(c) {
-            return Err(self.refuse_here(FaultText::ColonWithoutWhitespace));
-        }
-        Ok(())
-    }
-
-    // Passes what follows a colon, if that begins with a tab.
+    // Passes what follows a colon, if that begins with a tab. Outside flow there must be a space between the colon and a
+    // word, not a tab alone.
     #[inline(always)]
     #[tactic(auto, unfolding(crate::specs::Steps::Value::check_tab))]
     fn check_tab(&mut self) -> Result<(), Stopped>
@@ -40,7 +26,14 @@ impl<T: Input> Engine<T> {
             return Ok(());
         }
         let found = self.separate()?;
-        self.refuse_lone_tab(found)
+        if !self.in_block() || found.has_valid_yaml_ws() {
+            return Ok(());
+        }
+        let c = self.reader.look();
+        if c == '-' || is_alpha(c) {
+            return Err(self.refuse_here(FaultText::ColonWithoutWhitespace));
+        }
+        Ok(())
     }
 
     // `:`.
@@ -89,7 +82,7 @@ impl<T: Input> Engine<T> {
         self.go_deeper();
         self.forget_key();
         self.key_allowed = false;
-        self.put_empty(start, TokenKind::Value)
+        self.put(start, start, TokenKind::Value)
     }
 
     // The colon has no key on its line, or its key began with `?`.
@@ -99,17 +92,17 @@ impl<T: Input> Engine<T> {
         ensures { ActsBy (value.value_alone begins_pair start) self.old result self.new }
     {
         if begins_pair {
-            self.put_empty(start, TokenKind::FlowMappingStart)?;
+            self.put(start, start, TokenKind::FlowMappingStart)?;
         }
         if self.in_block() && !self.key_allowed {
             return Err(self.refuse(FaultText::ValueNotAllowed, start));
         }
         if self.is_further(start.col) {
-            self.put_empty(start, TokenKind::BlockMappingStart)?;
+            self.put(start, start, TokenKind::BlockMappingStart)?;
         }
         self.roll(start.col)?;
         self.go_deeper();
         self.key_allowed = self.in_block();
-        self.put_empty(start, TokenKind::Value)
+        self.put(start, start, TokenKind::Value)
     }
 }

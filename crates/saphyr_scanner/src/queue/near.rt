@@ -29,18 +29,28 @@ impl NearMarker {
         }
     }
 
+    /// Where a span begins and the number of its characters, if they are on one line and their number fits into a byte.
     #[inline(always)]
-    fn new(mark: Marker) -> Option<NearMarker>
-        ensures { IfSome result (λ near. near_marker near ≡ mark) }
+    pub(super) fn of_span(start: &Marker, end: &Marker) -> Option<(NearMarker, u8)>
+        ensures { IfSome result (λ found. near_span found.0 found.1
+            ≡ record { start = start.now; end = end.now }) }
     {
-        if mark.index > MOST || mark.line > MOST || mark.col > MOST {
+        // For speed a difference below 0 is not told apart: it is a large number, as the start is near.
+        let count = end.index.wrapping_sub(start.index);
+        let width = end.col.wrapping_sub(start.col);
+        if count > MOST_LENGTH || width != count || end.line != start.line {
             return None;
         }
-        Some(NearMarker {
-            index: mark.index as u32,
-            line: mark.line as u32,
-            col: mark.col as u32,
-        })
+        let Marker { index, line, col } = *start;
+        if index > MOST || line > MOST || col > MOST {
+            return None;
+        }
+        let near = NearMarker {
+            index: index as u32,
+            line: line as u32,
+            col: col as u32,
+        };
+        Some((near, count as u8))
     }
 
     #[inline(always)]
@@ -70,21 +80,4 @@ impl NearMarker {
             },
         }
     }
-}
-
-/// The place where a span begins and the number of its characters, if they are on one line and their number
-/// fits into a byte.
-#[inline(always)]
-pub(super) fn near(start: &Marker, end: &Marker) -> Option<(NearMarker, u8)>
-    ensures { IfSome result
-        (λ found. near_span found.0 found.1 ≡ record { start = start.now; end = end.now }) }
-{
-    // For speed a difference below 0 is not told apart: it is a large number, as the start is near.
-    let count = end.index.wrapping_sub(start.index);
-    let width = end.col.wrapping_sub(start.col);
-    if count > MOST_LENGTH || width != count || end.line != start.line {
-        return None;
-    }
-    let start = NearMarker::new(*start)?;
-    Some((start, count as u8))
 }

@@ -10,7 +10,7 @@ ghost use Rattle.saphyr_scanner.specs.Views.Places as spec_place;
 ghost use Rattle.saphyr_scanner.specs.Views.Tokens.{kind_with, no_parts, parts_view, piece_with, text_parts, text_of, texts_alone};
 
 use crate::queue::Opening;
-use crate::queue::near::{NearMarker, near};
+use crate::queue::near::NearMarker;
 use crate::queue::texts::{Extent, Texts};
 use crate::token::{TokenKind, TokenParts};
 use saphyr_scalar::{Marker, Span, Spare, TagParts};
@@ -207,7 +207,7 @@ impl Place {
     {
         if handle < usize::from(HANDLES)
             && count < usize::from(APART) - handle
-            && let Some((start, length)) = near(start, end)
+            && let Some((start, length)) = NearMarker::of_span(start, end)
         {
             let both = (handle + count) as u8;
             return Ok(Place::here(kind, start, length, handle as u8, both));

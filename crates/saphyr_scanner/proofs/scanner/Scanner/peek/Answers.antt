@@ -16,7 +16,7 @@ returns g c =
       stop = c.self.inside.engine.stop;
     } in
     let ready : is_ready read.state ≡ true = search rules in
-    let shown = shows c.first.result c.args.self.now read
-    (λ more. ap (tokens_in more) c.self.view_is ∙ c.in_ok-fill.ensures.0 more) ready c.first.ensures.kind
-    c.first.ensures.counted in
+    let shown = shows c.peek.result c.args.self.now read
+    (λ more. ap (tokens_in more) c.self.view_is ∙ c.in_ok-fill.ensures.0 more) ready c.peek.ensures.kind
+    c.peek.ensures.counted in
     search (rules, shown)

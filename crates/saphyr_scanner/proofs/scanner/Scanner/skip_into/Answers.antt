@@ -1,5 +1,6 @@
 -- The first token is taken.
 use Rattle.saphyr_scanner.specs.Views.Engine.{state}
+use Rattle.saphyr_scanner.specs.Views.Queue.{queue}
 use Rattle.saphyr_scanner.proofs.Handing.Turns.{first_in}
 use Rattle.saphyr_scanner.proofs.scanner.Scanner.skip_into.Goals as goal
 
@@ -9,5 +10,6 @@ returns-clause-span g c more t left is =
 
 pub returns-clause-left : goal.returns-clause-left
 returns-clause-left g c more t left is =
-    (first_in c.self.view_is c.requires more t left is).1 (state c.skip_into.new.self) c.skip_into.new.self.stop
-    c.skip_into.ensures.left
+    (first_in c.self.view_is c.requires more t left is).1
+    (record (state c.self.inside.engine) { queue = queue c.skip_into.new.self }) c.self.inside.engine.stop
+    (λ i. record (state c.self.inside.engine) { queue = c.skip_into.ensures.left i })
