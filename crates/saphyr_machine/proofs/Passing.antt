@@ -1,8 +1,7 @@
 -- Tokens that are passed, one at a time.
-use Rattle.std.proofs.Common.{◌≡◌, ℕ, ◌<◌, Bool, true, false, List, [], ◌∷◌, length, Result, Ok, Err, refl, sym, ap, ◌∙◌, arith}
+use Rattle.std.proofs.Common.{◌≡◌, ℕ, ◌<◌, Bool, true, false, List, [], ◌∷◌, length, Ok, Err, refl, sym, ap, ◌∙◌, arith}
 use Rattle.saphyr_scalar.specs.declared.scalar.position.Span.{Span}
 use Rattle.saphyr_scalar.specs.declared.scalar.fault.Refusal.{Refusal}
-use Rattle.saphyr_scalar.specs.declared.scalar.fault.FaultText.TheVariants as fault
 use Rattle.std.specs.Prelude.{IfOk, Some}
 use Rattle.saphyr_scalar.specs.declared.scalar.fault.Stop.{Stop}
 use Rattle.saphyr_scalar.specs.declared.scalar.fault.Stop.TheVariants as stop
@@ -11,7 +10,7 @@ use Rattle.saphyr_scanner.specs.Grammar.Tokens as tokens
 use Rattle.saphyr_scanner.specs.Grammar.Tokens.{Kind}
 use Rattle.saphyr_scalar.specs.declared.scalar.style.ScalarStyle.{ScalarStyle}
 use Rattle.saphyr_scanner.specs.declared.token.TokenKind.{TokenKind}
-use Rattle.saphyr_scanner.specs.Views.Tokens.{Parts, Piece, Remaining, before, kind_with, piece_with, style_of_kind}
+use Rattle.saphyr_scanner.specs.Views.Tokens.{Parts, Piece, Remaining, before, kind_with, piece_with, style_of_kind, token_kind}
 use Rattle.saphyr_machine.specs.declared.state.State.{State}
 use Rattle.saphyr_machine.specs.declared.machine.Machine as declared
 use Rattle.saphyr_machine.specs.Views.Machines.{IsNext, machine_in}
@@ -167,3 +166,8 @@ pub next_put_back : {T : Type 0} (kind : TokenKind) (m : declared.Machine T) (ne
     → put_back (piece_with (next.0.0 more) kind (next.0.1 more)) (next.0.2 more) ≡ machine_in more m
 next_put_back kind m next more =
     put_back_again (machine_in more m) (next.0.2 more) (piece_with (next.0.0 more) kind (next.0.1 more)) (next.0.3 more)
+
+-- A token that has the same span and the same parts is the same.
+pub same_piece : (kind : TokenKind) (x y : Parts) (s r : Span) → s ≡ r
+    → kind_with kind x ≡ kind_with (token_kind (kind_with kind x)) y → piece_with s kind x ≡ piece_with r kind y
+same_piece kind x y s r same e = grind arith

@@ -1,5 +1,5 @@
 -- What the steps of one machine keep: a walk says it of places, tokens and refusals. The machine is put beside itself.
-use Rattle.std.proofs.Common.{◌≡◌, ◌≢◌, ℕ, zero, suc, ◌+◌, ◌≤◌, true, false, List, [], ◌∷◌, Option, Some, None, Result, Ok, Err, refl, ap, inl, inr, arith}
+use Rattle.std.proofs.Common.{◌≡◌, ◌≢◌, ℕ, zero, suc, ◌+◌, ◌≤◌, true, false, List, [], ◌∷◌, Option, Some, None, Result, Ok, Err, refl, ap, inr, arith}
 use Rattle.std.proofs.lemmas.List.Elements.{All-nil}
 use Rattle.std.specs.List.{All}
 use Rattle.saphyr_scalar.specs.declared.scalar.position.Marker.{Marker}
@@ -13,7 +13,7 @@ use Rattle.saphyr_machine.specs.Events.{Happening}
 use Rattle.saphyr_machine.specs.Steps.Machine.{Machine, Emitted, ending_refusal}
 use Rattle.saphyr_machine.specs.Steps.Expected.{event_step}
 use Rattle.saphyr_machine.specs.Answer.{Answer, Ending, answer_of_step, ending_of, answer_unless_ended, answer_of_steps, weight_before, total_weight}
-use Rattle.saphyr_machine.proofs.Beside.Machines.{is_end, behind_by, Beside, Expected, AllExpected, Between, Left, EmitsAlike}
+use Rattle.saphyr_machine.proofs.Beside.Machines.{is_end, behind_by, Beside, Expected, AllExpected, Between, EmitsAlike}
 use Rattle.saphyr_machine.proofs.Beside.Documents.{steps_alike}
 
 pub record Walk : Type 1 where

@@ -130,15 +130,6 @@ impl<'input> Event<'input> {
         }
     }
 
-    // Forgets an event that holds no memory: its text was taken out before, and it has no tag. This is for
-    // speed, since the code of a drop would read the whole event.
-    #[inline(always)]
-    fn let_go(self)
-        requires { has_tag self ≡ false }
-    {
-        forget(self);
-    }
-
     // Drops what it holds.
     #[inline(never)]
     fn clear(&mut self)
@@ -170,13 +161,14 @@ impl<'input> Event<'input> {
         }
     }
 
-    // Writes an event over one that has no tag, and whose text was taken out before.
+    // Writes an event over one that holds no memory: it has no tag, and its text was taken out before. It is forgotten
+    // for speed, since the code of a drop would read the whole event.
     #[inline(always)]
     pub(super) fn write_over_untagged(&mut self, event: Event<'input>)
         requires { has_tag self.old ≡ false }
         ensures { self.new ≡ event.entry }
     {
-        replace(self, event).let_go();
+        forget(replace(self, event));
     }
 }
 

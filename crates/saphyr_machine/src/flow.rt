@@ -58,7 +58,7 @@ impl<T: Input> Machine<T> {
             }
             TokenKind::Key => {
                 self.skip_into(&mut next.1);
-                self.begin_mapping(State::FlowSequenceEntryMappingKey, next);
+                self.begin_mapping(State::FlowSequenceEntryMappingKey, 0, None, next);
                 Ok(())
             }
             kind => self.inside(State::FlowSequenceEntry, NodeContext::Flow, kind, next),

@@ -24,20 +24,7 @@ impl<T: Input> Machine<T> {
     ghost use Rattle.saphyr_scalar.specs.declared.scalar.position.Span.{Span as Place};
     ghost use Rattle.saphyr_scanner.specs.Views.Scanning.{tokens_in};
     ghost use Rattle.saphyr_scanner.specs.Views.Tokens.{Parts, piece_with};
-    ghost use Rattle.saphyr_machine.specs.Steps.Machine.{put_back};
-    ghost use Rattle.saphyr_machine.specs.Views.Machines.{machine_in, IsNext};
-
-    // Takes the next token, which is of this kind.
-    fn take_token(&mut self, kind: TokenKind) -> Result<PassedToken, Stopped>
-        requires { IsNext kind self.old }
-        ensures taken { IfOk result (λ t. (more : List ℕ)
-            → machine_in more self.old ≡ put_back (spec.piece_of t) (machine_in more self.new)) }
-        ensures kind { IfOk result (λ t. t.kind ≡ kind) }
-    {
-        let span = self.span();
-        let parts = self.take_parts()?;
-        Ok(PassedToken { kind, span, parts })
-    }
+    ghost use Rattle.saphyr_machine.specs.Views.Machines.{machine_in};
 
     // Whether a token of this kind, which was the next between two documents, makes no event: it is `...`, a byte
     // order mark, or a reserved directive before another directive.
@@ -78,11 +65,12 @@ impl<T: Input> EventReader<'_, T> {
         let Ok(kind) = self.machine.peek() else {
             return None;
         };
-        let Ok(token) = self.machine.take_token(kind) else {
+        let span = self.machine.span();
+        let Ok(parts) = self.machine.take_parts() else {
             return None;
         };
         match self.machine.makes_no_event(kind) {
-            Ok(true) => Some(token),
+            Ok(true) => Some(PassedToken { kind, span, parts }),
             _ => None,
         }
     }

@@ -16,7 +16,7 @@ use crate::tag::Tag;
 use saphyr_input::input::Input;
 use saphyr_scalar::scalar::TagParts;
 use saphyr_scalar::{FaultText, Marker, Refusal, ScalarStyle, Span, Stop};
-use saphyr_scanner::{Growth, Scanner, Stopped, TokenKind, TokenParts};
+use saphyr_scanner::{Scanner, Stopped, TokenKind, TokenParts};
 use std::alloc::Global;
 use std::borrow::CowStr;
 use std::mem::replace;
@@ -44,15 +44,14 @@ pub struct Machine<T: Input> {
 }
 
 impl<T: Input> Machine<T> {
-    ghost use Rattle.std.specs.Prelude.{◌+◌, ◌<◌, ◌^◌, List, ℕ, IfOk, OnErr, OnOk, Ok, Some, length};
+    ghost use Rattle.std.specs.Prelude.{List, ℕ, IfOk, OnErr, OnOk, Ok, Some};
     ghost use Rattle.saphyr_scalar.specs.Views.Reader.{Moves};
     ghost use Rattle.saphyr_scalar.specs.declared.scalar.fault.Stop.TheVariants.{OutOfMemory, Refused};
-    ghost use Rattle.saphyr_scanner.specs.Steps.State.{with_rest};
     ghost use Rattle.saphyr_scanner.specs.Views.Engine.{stopped_by};
     ghost use Rattle.saphyr_scanner.specs.Views.Scanning.{IsReady, tokens_in};
     ghost use Rattle.saphyr_scanner.specs.Views.Tokens.{Piece, kind_with, parts_view, text_of, token_kind};
     ghost use Rattle.saphyr_machine.specs.Steps.Machine.{Machine as Seen};
-    ghost use Rattle.saphyr_machine.specs.Views.Machines.{machine_in, machine_over, happening, emitted_of, PeeksBy};
+    ghost use Rattle.saphyr_machine.specs.Views.Machines.{machine_in, happening, emitted_of, PeeksBy};
 
     // A machine that has read nothing.
     pub(super) fn new(alloc: Global, scanner: Scanner<T>) -> Self
@@ -69,20 +68,6 @@ impl<T: Input> Machine<T> {
             keep_tags: false,
             alloc,
         }
-    }
-
-    // Goes on before the characters of another input, behind which more may come or not. Returns the input that was
-    // there.
-    #[tactic(auto, unfolding(saphyr_scanner::specs::Views::Scanning::tokens_over))]
-    pub(super) fn exchange(&mut self, input: T, growth: Growth) -> T
-        requires { self.old.scanner.state.core.cursor.mark.index + length (T.rest input)
-            < 2 ^ 64 }
-        ensures scanner { self.new.scanner ≡ record self.old.scanner
-            { state = with_rest (T.rest input) self.old.scanner.state; growth = growth } }
-        ensures left { (rest : List ℕ) → machine_over rest self.new ≡ machine_over rest self.old }
-        ensures input { T.rest result ≡ self.old.scanner.state.core.cursor.rest }
-    {
-        self.scanner.exchange(input, growth)
     }
 
     // Gives back the text and the tag of the event that is overwritten, so the next one uses their memory.

@@ -111,10 +111,11 @@ impl NameList {
         None
     }
 
-    // Gives the ids to the names in a map, in their order.
-    fn put_into(&self, ids: &mut BTreeMap<String, usize>) -> Result<(), AllocError>
-        ensures { OnOk result
-            (ids_of ids.new ≡ with_listed (listed_names self.now) (ids_of ids.old)) }
+    /// Moves the names with their ids into a map, in their order.
+    pub fn move_into(&mut self, ids: &mut BTreeMap<String, usize>) -> Result<(), AllocError>
+        ensures moved { OnOk result
+            (ids_of ids.new ≡ with_listed (listed_names self.old) (ids_of ids.old)) }
+        ensures empty { OnOk result (listed_names self.new ≡ []) }
     {
         let alloc = *self.bytes.allocator();
         let mut next = 0;
@@ -123,16 +124,6 @@ impl NameList {
             ids.insert(String::from_str(alloc, self.text(name))?, name.id)?;
             next += 1;
         }
-        Ok(())
-    }
-
-    /// Moves the names with their ids into a map.
-    pub fn move_into(&mut self, ids: &mut BTreeMap<String, usize>) -> Result<(), AllocError>
-        ensures moved { OnOk result
-            (ids_of ids.new ≡ with_listed (listed_names self.old) (ids_of ids.old)) }
-        ensures empty { OnOk result (listed_names self.new ≡ []) }
-    {
-        self.put_into(ids)?;
         self.clear();
         Ok(())
     }

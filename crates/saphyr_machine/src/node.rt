@@ -7,15 +7,20 @@ ghost use Rattle.saphyr_machine.specs.Steps.Nodes as spec;
 use crate::context::NodeContext;
 use crate::event::Event;
 use crate::machine::Machine;
+use crate::property::Properties;
 use crate::state::State;
+use crate::tag::Tag;
 use saphyr_input::input::Input;
 use saphyr_scalar::Span;
 use saphyr_scanner::{Stopped, TokenKind};
 use std::borrow::CowStr;
 
 impl<T: Input> Machine<T> {
-    ghost use Rattle.std.specs.Prelude.{List, ℕ, Ok};
-    ghost use Rattle.saphyr_machine.specs.Views.Machines.{IsNext, machine_in, emitted_of, EmitsBy};
+    ghost use Rattle.std.specs.Prelude.{List, ℕ, Ok, option_map};
+    ghost use Rattle.saphyr_machine.specs.Views.Machines.{IsNext, machine_in, resolved_tag, emitted_of, EmitsBy};
+    ghost use Rattle.saphyr_machine.specs.Views.Nodes.{properties as seen};
+    ghost use Rattle.saphyr_scalar.specs.Views.Reader.{Moves};
+    ghost use Rattle.saphyr_scanner.specs.Views.Engine.{stopped_by};
 
     // The sequence that is open ends. Its event has the span that is there. For speed this is a function of its own, as
     // the next ones are: the place of an event is cleared where the function that makes it begins.
@@ -43,27 +48,126 @@ impl<T: Input> Machine<T> {
         }
     }
 
-    // A sequence without properties begins. Its event has the span that is there.
+    // A sequence begins. Its event has the span that is there.
     #[inline(always)]
-    fn begin_sequence<'input>(&mut self, state: State, next: &mut (Event<'input>, Span))
-        ensures { (more : List ℕ) → spec.begun_sequence state next.old.1 (machine_in more self.old)
-            ≡ Ok (emitted_of (machine_in more self.new) next.new) }
+    fn begin_sequence<'input>(
+        &mut self,
+        state: State,
+        anchor: usize,
+        tag: Option<Tag>,
+        next: &mut (Event<'input>, Span),
+    )
+        ensures { (more : List ℕ) → emitted_of (machine_in more self.new) next.new
+            ≡ spec.begun_sequence state anchor (option_map resolved_tag tag) next.old.1
+            (machine_in more self.old) }
     {
         self.state.set(state);
         // Many may begin one in another. The event is then there already.
-        if !matches!(next.0, Event::SequenceStart(0, None)) {
-            self.write_over(&mut next.0, Event::SequenceStart(0, None));
+        if anchor == 0 && tag.is_none() && matches!(next.0, Event::SequenceStart(0, None)) {
+            return;
         }
+        self.write_over(&mut next.0, Event::SequenceStart(anchor, tag));
     }
 
-    // A mapping without properties begins. Its event has the span that is there.
+    // A mapping begins. Its event has the span that is there.
     #[inline(always)]
-    pub(super) fn begin_mapping<'input>(&mut self, state: State, next: &mut (Event<'input>, Span))
-        ensures { (more : List ℕ) → spec.begun_mapping state next.old.1 (machine_in more self.old)
-            ≡ Ok (emitted_of (machine_in more self.new) next.new) }
+    pub(super) fn begin_mapping<'input>(
+        &mut self,
+        state: State,
+        anchor: usize,
+        tag: Option<Tag>,
+        next: &mut (Event<'input>, Span),
+    )
+        ensures { (more : List ℕ) → emitted_of (machine_in more self.new) next.new
+            ≡ spec.begun_mapping state anchor (option_map resolved_tag tag) next.old.1
+            (machine_in more self.old) }
     {
         self.state.set(state);
-        self.write_over(&mut next.0, Event::MappingStart(0, None));
+        self.write_over(&mut next.0, Event::MappingStart(anchor, tag));
+    }
+
+    // A node begins with the next token, which is of this kind. It is an alias, or it may have properties.
+    #[inline(never)]
+    fn node_with_properties<'input>(
+        &mut self,
+        context: NodeContext,
+        kind: TokenKind,
+        next: &mut (Event<'input>, Span),
+    ) -> Result<(), Stopped>
+        requires { IsNext kind self.old }
+        ensures { EmitsBy (spec.next_node context) self.old result next.new self.new }
+    {
+        // A name or a tag is read first, and then uses the memory of the event that is overwritten.
+        self.give_back(&mut next.0);
+        if let TokenKind::Alias = kind {
+            return self.alias(next);
+        }
+        let properties = self.properties(kind)?;
+        let start = properties.start;
+        self.content(properties, context, next)?;
+        next.1.start = start;
+        Ok(())
+    }
+
+    // The content of a node after its properties begins with the next token. Its event has the span that is there, once
+    // that begins with the properties.
+    #[inline(always)]
+    #[tactic(auto, unfolding(crate::specs::Steps::Nodes::next_content, crate::specs::Steps::Nodes::node_content))]
+    fn content<'input>(
+        &mut self,
+        properties: Properties,
+        context: NodeContext,
+        next: &mut (Event<'input>, Span),
+    ) -> Result<(), Stopped>
+        ensures { (more : List ℕ) → Moves (λ _. emitted_of (machine_in more self.new)
+            (next.new.0, spec.span_up_to (seen properties) next.new.1.end))
+            (stopped_by result self.new.scanner.stop)
+            (spec.next_content (seen properties) context (machine_in more self.old)) }
+    {
+        let Properties {
+            behind,
+            anchor,
+            tag,
+            ..
+        } = properties;
+        match self.peek()? {
+            TokenKind::FlowSequenceStart => {
+                self.skip_into(&mut next.1);
+                self.begin_sequence(State::FlowSequenceFirstEntry, anchor, tag, next);
+                Ok(())
+            }
+            TokenKind::FlowMappingStart => {
+                self.skip_into(&mut next.1);
+                self.begin_mapping(State::FlowMappingFirstKey, anchor, tag, next);
+                Ok(())
+            }
+            TokenKind::BlockSequenceStart if context.allows_block() => {
+                self.skip_into(&mut next.1);
+                self.begin_sequence(State::BlockSequenceEntry, anchor, tag, next);
+                Ok(())
+            }
+            TokenKind::BlockMappingStart if context.allows_block() => {
+                self.skip_into(&mut next.1);
+                self.begin_mapping(State::BlockMappingKey, anchor, tag, next);
+                Ok(())
+            }
+            TokenKind::BlockEntry if context.allows_indentless() => {
+                self.span_into(&mut next.1);
+                self.begin_sequence(State::IndentlessSequenceEntry, anchor, tag, next);
+                Ok(())
+            }
+            kind => match kind.style() {
+                Some(style) => {
+                    self.span_into(&mut next.1);
+                    let text = CowStr::Owned(self.take_text()?);
+                    self.pop();
+                    let event = Event::Scalar(text, style, anchor, tag);
+                    self.write_over(&mut next.0, event);
+                    Ok(())
+                }
+                None => self.without_content(behind, anchor, tag, next),
+            },
+        }
     }
 
     // A node begins with the next token, which is of this kind, and is no block collection. It is separate for speed:
@@ -82,20 +186,20 @@ impl<T: Input> Machine<T> {
         match kind {
             TokenKind::FlowSequenceStart => {
                 self.skip_into(&mut next.1);
-                self.begin_sequence(State::FlowSequenceFirstEntry, next);
+                self.begin_sequence(State::FlowSequenceFirstEntry, 0, None, next);
                 Ok(())
             }
             TokenKind::FlowMappingStart => {
                 self.skip_into(&mut next.1);
-                self.begin_mapping(State::FlowMappingFirstKey, next);
+                self.begin_mapping(State::FlowMappingFirstKey, 0, None, next);
                 Ok(())
             }
             TokenKind::BlockEntry if context.allows_indentless() => {
                 self.span_into(&mut next.1);
-                self.begin_sequence(State::IndentlessSequenceEntry, next);
+                self.begin_sequence(State::IndentlessSequenceEntry, 0, None, next);
                 Ok(())
             }
-            kind => self.rare_node(context, kind, next),
+            kind => self.node_with_properties(context, kind, next),
         }
     }
 
@@ -115,12 +219,12 @@ impl<T: Input> Machine<T> {
         match kind {
             TokenKind::BlockSequenceStart if context.allows_block() => {
                 self.skip_into(&mut next.1);
-                self.begin_sequence(State::BlockSequenceEntry, next);
+                self.begin_sequence(State::BlockSequenceEntry, 0, None, next);
                 Ok(())
             }
             TokenKind::BlockMappingStart if context.allows_block() => {
                 self.skip_into(&mut next.1);
-                self.begin_mapping(State::BlockMappingKey, next);
+                self.begin_mapping(State::BlockMappingKey, 0, None, next);
                 Ok(())
             }
             kind => self.other_node(context, kind, next),

@@ -4,7 +4,6 @@ ghost use Rattle.std.specs.Prelude.{◌≡◌, ◌+◌, ◌<◌, ◌^◌, ℕ, L
 ghost use Rattle.saphyr_scanner.specs.Steps.State.{with_rest};
 ghost use Rattle.saphyr_scanner.specs.Views.Scanning.{tokens_in};
 ghost use Rattle.saphyr_machine.specs.Answer.{OutOfMemory};
-ghost use Rattle.saphyr_scalar.specs.declared.scalar.position.Span.{Span as Place};
 ghost use Rattle.saphyr_machine.specs.Cursor.{EventCursor as Cursor, with_event_handed};
 ghost use Rattle.saphyr_machine.specs.Faults.{is_own};
 ghost use Rattle.saphyr_machine.specs.Views.Machines.{happening};
@@ -27,18 +26,6 @@ use std::mem::replace;
 pub fn no_event<'input>() -> (Event<'input>, Span) {
     let start = Marker::new(0, 0, 0);
     (Event::Nothing, Span::empty(start))
-}
-
-// Whether something is remembered of the event. Most are others, and one test tells that.
-#[inline(always)]
-fn is_remembered(event: &Event<'_>) -> bool
-    ensures { result ≡ false → (span : Place) → (c : Cursor)
-        → with_event_handed (happening event.now) span c ≡ c }
-{
-    matches!(
-        event,
-        Event::StreamEnd | Event::DocumentStart(_) | Event::DocumentEnd
-    )
 }
 
 /// A machine, with what was read ahead and what is remembered of the events that were handed out.
@@ -90,6 +77,7 @@ impl<'input, T: Input> EventReader<'input, T> {
 
     /// Goes on before the characters of another input, behind which more may come or not. Returns the input that was
     /// there.
+    #[tactic(auto, unfolding(saphyr_scanner::specs::Views::Scanning::tokens_over))]
     pub fn exchange(&mut self, input: T, growth: Growth) -> T
         requires { (scanning_of self.old).state.core.cursor.mark.index + length (T.rest input)
             < 2 ^ 64 }
@@ -98,7 +86,7 @@ impl<'input, T: Input> EventReader<'input, T> {
         ensures cursor { (rest : List ℕ) → cursor_over rest self.new ≡ cursor_over rest self.old }
         ensures input { T.rest result ≡ (scanning_of self.old).state.core.cursor.rest }
     {
-        self.machine.exchange(input, growth)
+        self.machine.scanner.exchange(input, growth)
     }
 
     /// Where a node comes next in block style, of which no token was read: the first column of its later lines.
@@ -214,7 +202,11 @@ impl<'input, T: Input> EventReader<'input, T> {
         ensures { (more : List ℕ) → cursor_in more self.new
             ≡ spec.with_event_handed (happening event.now) span.now (cursor_in more self.old) }
     {
-        if is_remembered(event) {
+        // Most events say nothing, and one test tells that.
+        if matches!(
+            event,
+            Event::StreamEnd | Event::DocumentStart(_) | Event::DocumentEnd
+        ) {
             self.remember_place(event, span);
         }
     }

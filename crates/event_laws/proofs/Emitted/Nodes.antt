@@ -5,7 +5,7 @@ use Rattle.saphyr_scanner.specs.Grammar.Forest as forest
 use Rattle.saphyr_scanner.specs.Grammar.Tokens as tokens
 use Rattle.saphyr_machine.specs.declared.state.State.TheVariants as state
 use Rattle.saphyr_machine.specs.Steps.Tags.{declared_prefix, resolved_tag_at, declared_prefix_or, undeclared_prefix}
-use Rattle.saphyr_machine.specs.Steps.Nodes.{NodeProperties, no_node_properties, node_content_at, node_content, next_content, node_behind_anchor_at, node_behind_anchor, node_behind_tag_at, node_behind_tag, node_at, node}
+use Rattle.saphyr_machine.specs.Steps.Nodes.{NodeProperties, no_node_properties, node_content_at, node_content, next_content, properties_behind_anchor_at, properties_behind_anchor, properties_behind_tag_at, properties_behind_tag, content_behind, node_at, node}
 use Rattle.event_laws.proofs.Emitted.Emitting.{SpansByKinds, Memory, at}
 use Rattle.event_laws.proofs.Remembering.{noted, after, own_id_in, resolve, resolve_any, with_properties, event_in, SaysParts, says}
 
@@ -75,14 +75,18 @@ content_alone : (k : Kind) (d : NodeContext) (t : Piece) (m : Machine) → IsCon
 content_alone k d t m h = grind arith
 
 content_behind_anchor : (k : Kind) (id : ℕ) (s : Span) (d : NodeContext) (t : Piece) (m : Machine) → IsContentKind k
-    → node_behind_anchor_at k id s d t m
+    → (properties_behind_anchor_at k id s t m >>= content_behind d)
     ≡ node_content (record { start = s.start; behind = s.end; anchor = id; tag = None }) d t m
-content_behind_anchor k id s d t m h = grind arith
+unfolding next_content
+content_behind_anchor (tokens.Tag handle suffix) id s d t m h = absurd h
+content_behind_anchor _ id s d t m h = refl
 
 content_behind_tag : (k : Kind) (tag : ResolvedTag) (s : Span) (d : NodeContext) (t : Piece) (m : Machine)
-    → IsContentKind k → node_behind_tag_at k tag s d t m
+    → IsContentKind k → content_behind d (properties_behind_tag_at k tag s t m)
     ≡ node_content (record { start = s.start; behind = s.end; anchor = 0; tag = Some tag }) d t m
-content_behind_tag k tag s d t m h = grind arith
+unfolding next_content
+content_behind_tag (tokens.Anchor name) tag s d t m h = absurd h
+content_behind_tag _ tag s d t m h = refl
 
 -- the machine has read these properties
 pub record Has (e : Memory) (anchor : Option (List ℕ)) (tag : Option Tag) (q : NodeProperties) : Type 0 where
@@ -110,7 +114,7 @@ node_comes : (f : SpansByKinds) (d : NodeContext) (x : State) (ss : List State) 
     → AreBoth (option_map anchor_token anchor) (option_map tag_token tag) front → IsContentKind k
     → resolve_any e.prefixes tag ≡ Some found
     → ComesToContent f d x ss e anchor tag k ks (next_node d (at f (front ++ k ∷ ks) x ss e))
-unfolding node node_content next_content node_behind_anchor node_behind_tag
+unfolding node node_content next_content properties_behind_anchor properties_behind_tag
 node_comes f d x ss e None None front k ks found h c r =
     record {
       properties = no_node_properties (f ks).start;

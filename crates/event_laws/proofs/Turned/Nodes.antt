@@ -7,7 +7,7 @@ use Rattle.saphyr_scanner.specs.Grammar.TokenGrammar as grammar
 use Rattle.saphyr_machine.specs.declared.state.State.TheVariants as state
 use Rattle.saphyr_machine.specs.Events.{ResolvedTag, Alias, SequenceStart, MappingStart}
 use Rattle.saphyr_machine.specs.Steps.Contexts.{allows_block}
-use Rattle.saphyr_machine.specs.Steps.Nodes.{NodeProperties, no_node_properties, node_content_at, node_content, next_content, alias_of, alias_node, node_behind_anchor_at, node_behind_anchor, node_behind_tag_at, node_behind_tag, node_at, node}
+use Rattle.saphyr_machine.specs.Steps.Nodes.{NodeProperties, no_node_properties, node_content_at, node_content, next_content, alias_of, alias_node, properties_behind_anchor_at, properties_behind_anchor, properties_behind_tag_at, properties_behind_tag, content_behind, node_at, node}
 use Rattle.event_laws.proofs.Emitted.Emitting.{Memory}
 use Rattle.event_laws.proofs.Remembering.{noted, resolve}
 use Rattle.event_laws.proofs.Turned.Following.{Claim, Then, Exactly, IsNodeOf, FirstEntries, FirstPairs, BlockEntries, BlockPairs, FollowsStates, IsAlive, BeginsWithEntry}
@@ -185,14 +185,20 @@ module _ (c : NodeContext) (r : Option Refusal) (x s : State) (ss : List State) 
 
   -- ## After an anchor
 
+  -- an anchor with this text, and a tag behind it
+  abbrev behind_both : Piece → Span → List ℕ → List Piece → ResolvedTag → Result (NodeProperties × Machine) Refusal
+  behind_both t sp text us tag =
+      Ok (
+        record { start = t.span.start; behind = sp.end; anchor = next_id e.anchors; tag = Some tag },
+        before us (noted (Some text) e),
+      )
+
   tag_behind : (rr : Result ResolvedTag Refusal) (text handle suffix : List ℕ) (t : Piece) (sp : Span)
       (us : List Piece) → t.kind ≡ tokens.Anchor (encode_utf8_all text)
       → resolved_tag_at e.prefixes handle suffix t.span.start ≡ rr
       → (tag : Tag) × (tokens.Tag handle suffix ≡ tag_token tag) → AreWellFormed us
       → TurnedNode (t ∷ piece_of (tokens.Tag handle suffix) sp ∷ us)
-      (rr >>= (λ tag. next_content
-      (record { start = t.span.start; behind = sp.end; anchor = next_id e.anchors; tag = Some tag }) c
-      (before us (noted (Some text) e))))
+      ((rr >>= behind_both t sp text us) >>= content_behind c)
   tag_behind (Err f) text handle suffix t sp us k q g w = tt
   tag_behind (Ok v) text handle suffix t sp us k q g w =
       let found : ResolvesTo e.prefixes handle suffix v = stands e.prefixes handle suffix t.span.start v g q in
@@ -203,29 +209,36 @@ module _ (c : NodeContext) (r : Option Refusal) (x s : State) (ss : List State) 
   behind_anchor_turned : (k : Kind) (sp : Span) (text : List ℕ) (t : Piece) (us : List Piece)
       → t.kind ≡ tokens.Anchor (encode_utf8_all text) → IsWellFormed k → AreWellFormed us
       → TurnedNode (t ∷ piece_of k sp ∷ us)
-      (node_behind_anchor_at k (next_id e.anchors) t.span c (piece_of k sp) (before us (noted (Some text) e)))
-  unfolding node_content
+      (properties_behind_anchor_at k (next_id e.anchors) t.span (piece_of k sp) (before us (noted (Some text) e))
+      >>= content_behind c)
+  unfolding next_content node_content
   behind_anchor_turned (tokens.Tag handle suffix) sp text t us h wk w =
       tag_behind (resolved_tag_at e.prefixes handle suffix t.span.start) text handle suffix t sp us h refl wk w
   behind_anchor_turned k sp text t us h wk w =
       content_turned k sp (t ∷ []) (record { anchor = Some text; tag = None }) _ us wk (anchor_front text t e h) tt
 
   anchored_turned : (ts : List Piece) (text : List ℕ) (t : Piece) → t.kind ≡ tokens.Anchor (encode_utf8_all text)
-      → AreWellFormed ts → TurnedNode (t ∷ ts) (node_behind_anchor (encode_utf8_all text) t.span c (before ts e))
-  unfolding node_behind_anchor
+      → AreWellFormed ts
+      → TurnedNode (t ∷ ts) (properties_behind_anchor (encode_utf8_all text) t.span (before ts e) >>= content_behind c)
+  unfolding properties_behind_anchor
   anchored_turned [] text t h w = tt
   anchored_turned (u ∷ us) text t h w = behind_anchor_turned u.kind u.span text t us h w.0 w.2
 
   -- ## After a tag
 
+  abbrev behind_tag : ResolvedTag → Span → Piece × Machine → Result (NodeProperties × Machine) Refusal
+  behind_tag v sp u = Ok (properties_behind_tag_at u.0.kind v sp u.0 u.1)
+
   behind_tag_turned : (k : Kind) (sp : Span) (g : Tag) (v : ResolvedTag) (t : Piece) (us : List Piece)
       → t.kind ≡ tag_token g → resolve e.prefixes g ≡ Some v → IsWellFormed k → AreWellFormed us
-      → TurnedNode (t ∷ piece_of k sp ∷ us) (node_behind_tag_at k v t.span c (piece_of k sp) (before us e))
-  unfolding node_content
+      → TurnedNode (t ∷ piece_of k sp ∷ us)
+      (content_behind c (properties_behind_tag_at k v t.span (piece_of k sp) (before us e)))
+  unfolding next_content node_content
   behind_tag_turned (tokens.Anchor name) sp g v t us h found wk w =
       let u : Piece = piece_of (tokens.Anchor (encode_utf8_all wk.0)) sp in
       subst (λ (n : List ℕ). TurnedNode (t ∷ piece_of (tokens.Anchor n) sp ∷ us)
-      (node_behind_tag_at (tokens.Anchor n) v t.span c (piece_of (tokens.Anchor n) sp) (before us e))) (sym wk.1)
+      (content_behind c (properties_behind_tag_at (tokens.Anchor n) v t.span (piece_of (tokens.Anchor n) sp)
+      (before us e)))) (sym wk.1)
       (next_turned us (t ∷ u ∷ []) (record { anchor = Some wk.0; tag = Some g }) _ w
       (both_front wk.0 g v t u e (inr (h, refl)) found) (λ m. tt))
   behind_tag_turned k sp g v t us h found wk w =
@@ -233,7 +246,7 @@ module _ (c : NodeContext) (r : Option Refusal) (x s : State) (ss : List State) 
 
   tagged_from : (ts : List Piece) (g : Tag) (v : ResolvedTag) (t : Piece) → t.kind ≡ tag_token g
       → resolve e.prefixes g ≡ Some v → AreWellFormed ts → TurnedNode (t ∷ ts)
-      (taken_token (before ts e) >>= (λ u. node_behind_tag_at u.0.kind v t.span c u.0 u.1))
+      ((taken_token (before ts e) >>= behind_tag v t.span) >>= content_behind c)
   tagged_from [] g v t h found w = tt
   tagged_from (u ∷ us) g v t h found w = behind_tag_turned u.kind u.span g v t us h found w.0 w.2
 
@@ -241,7 +254,7 @@ module _ (c : NodeContext) (r : Option Refusal) (x s : State) (ss : List State) 
       → resolved_tag_at e.prefixes handle suffix sp.start ≡ rr
       → (tag : Tag) × (tokens.Tag handle suffix ≡ tag_token tag) → AreWellFormed ts
       → TurnedNode (piece_of (tokens.Tag handle suffix) sp ∷ ts)
-      (rr >>= (λ tag. taken_token (before ts e) >>= (λ u. node_behind_tag_at u.0.kind tag sp c u.0 u.1)))
+      ((rr >>= (λ tag. taken_token (before ts e) >>= behind_tag tag sp)) >>= content_behind c)
   tagged_turned (Err f) handle suffix sp ts q g w = tt
   tagged_turned (Ok v) handle suffix sp ts q g w =
       let found : ResolvesTo e.prefixes handle suffix v = stands e.prefixes handle suffix sp.start v g q in
@@ -251,14 +264,15 @@ module _ (c : NodeContext) (r : Option Refusal) (x s : State) (ss : List State) 
 
   node_at_turned : (k : Kind) (sp : Span) (ts : List Piece) → IsWellFormed k → AreWellFormed ts
       → TurnedNode (piece_of k sp ∷ ts) (node_at k c (piece_of k sp) (before ts e))
-  unfolding alias_node node_behind_tag node_content
+  unfolding alias_node properties_behind_tag node_content
   node_at_turned (tokens.Alias name) sp ts wk w =
       subst (λ (n : List ℕ). TurnedNode (piece_of (tokens.Alias n) sp ∷ ts) (alias_node n sp (before ts e))) (sym wk.1)
       (alias_turned (meaning (encode_utf8_all wk.0) e.anchors.ids) wk.0
       (piece_of (tokens.Alias (encode_utf8_all wk.0)) sp) ts refl refl)
   node_at_turned (tokens.Anchor name) sp ts wk w =
-      subst (λ (n : List ℕ). TurnedNode (piece_of (tokens.Anchor n) sp ∷ ts) (node_behind_anchor n sp c (before ts e)))
-      (sym wk.1) (anchored_turned ts wk.0 (piece_of (tokens.Anchor (encode_utf8_all wk.0)) sp) refl w)
+      subst (λ (n : List ℕ). TurnedNode (piece_of (tokens.Anchor n) sp ∷ ts)
+      (properties_behind_anchor n sp (before ts e) >>= content_behind c)) (sym wk.1)
+      (anchored_turned ts wk.0 (piece_of (tokens.Anchor (encode_utf8_all wk.0)) sp) refl w)
   node_at_turned (tokens.Tag handle suffix) sp ts wk w =
       tagged_turned (resolved_tag_at e.prefixes handle suffix sp.start) handle suffix sp ts refl wk w
   node_at_turned k sp ts wk w = content_turned k sp [] forest.no_properties (no_node_properties sp.start) ts wk

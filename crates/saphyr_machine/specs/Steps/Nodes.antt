@@ -2,7 +2,6 @@
 use Rattle.std.specs.Prelude.{ℕ, Bool, true, false, nat_lt, ◌||◌, is_some, if◌then◌else◌, List, [], Option, Some, None, Result, Ok, Err}
 use Rattle.saphyr_scalar.specs.declared.scalar.position.Marker.{Marker}
 use Rattle.saphyr_scalar.specs.declared.scalar.position.Span.{Span}
-use Rattle.saphyr_scalar.specs.declared.scalar.style.ScalarStyle.{ScalarStyle}
 use Rattle.saphyr_scalar.specs.declared.scalar.style.ScalarStyle.TheVariants.{Plain}
 use Rattle.saphyr_scalar.specs.declared.scalar.fault.Refusal.{Refusal}
 use Rattle.saphyr_scalar.specs.declared.scalar.fault.FaultText.TheVariants as fault
@@ -43,37 +42,30 @@ node_without_content p t m =
     (pop (put_back t m))
     else refusal_at fault.NodeContentExpected t
 
-abbrev pub opened_sequence : State → NodeProperties → Marker → Machine → Emitted
-opened_sequence s p place m =
-    record { what = events.SequenceStart p.anchor p.tag; span = span_up_to p place; machine = with_state s m }
+-- ## Collections that begin or end
 
-abbrev pub opened_mapping : State → NodeProperties → Marker → Machine → Emitted
-opened_mapping s p place m =
-    record { what = events.MappingStart p.anchor p.tag; span = span_up_to p place; machine = with_state s m }
+abbrev pub begun_sequence : State → ℕ → Option ResolvedTag → Span → Machine → Emitted
+begun_sequence s anchor tag span m =
+    record { what = events.SequenceStart anchor tag; span = span; machine = with_state s m }
 
+abbrev pub begun_mapping : State → ℕ → Option ResolvedTag → Span → Machine → Emitted
+begun_mapping s anchor tag span m =
+    record { what = events.MappingStart anchor tag; span = span; machine = with_state s m }
+
+-- behind properties
 abbrev pub sequence_opening : State → NodeProperties → Piece → Machine → Result Emitted Refusal
-sequence_opening s p t m = Ok (opened_sequence s p t.span.end m)
+sequence_opening s p t m = Ok (begun_sequence s p.anchor p.tag (span_up_to p t.span.end) m)
 
 abbrev pub mapping_opening : State → NodeProperties → Piece → Machine → Result Emitted Refusal
-mapping_opening s p t m = Ok (opened_mapping s p t.span.end m)
-
-abbrev pub emitted_scalar : List ℕ → ScalarStyle → NodeProperties → Marker → Machine → Emitted
-emitted_scalar text style p place m =
-    record { what = events.Scalar text style p.anchor p.tag; span = span_up_to p place; machine = pop m }
-
--- ## Collections that begin without properties, or end
-
-abbrev pub begun_sequence : State → Span → Machine → Result Emitted Refusal
-begun_sequence s span m = emit (events.SequenceStart 0 None) span (with_state s m)
-
-abbrev pub begun_mapping : State → Span → Machine → Result Emitted Refusal
-begun_mapping s span m = emit (events.MappingStart 0 None) span (with_state s m)
+mapping_opening s p t m = Ok (begun_mapping s p.anchor p.tag (span_up_to p t.span.end) m)
 
 abbrev pub ended_sequence : Span → Machine → Result Emitted Refusal
 ended_sequence span m = emit events.SequenceEnd span (pop m)
 
 abbrev pub ended_mapping : Span → Machine → Result Emitted Refusal
 ended_mapping span m = emit events.MappingEnd span (pop m)
+
+-- ## Content
 
 -- the content of a node begins with the token
 abbrev pub node_content_at : Kind → NodeProperties → NodeContext → Piece → Machine → Result Emitted Refusal
@@ -109,38 +101,55 @@ alias_node name s m = alias_of (meaning name m.anchors.ids) s m
 abbrev pub register : List ℕ → Machine → Machine
 register name m = record m { anchors = with_anchor name m.anchors }
 
--- after an anchor that got the id
-abbrev pub node_behind_anchor_at : Kind → ℕ → Span → NodeContext → Piece → Machine → Result Emitted Refusal
-node_behind_anchor_at (tokens.Tag handle suffix) id s c t m = do
-  tag ← resolved_tag_at m.prefixes handle suffix s.start
-  next_content (record { start = s.start; behind = t.span.end; anchor = id; tag = Some tag }) c m
-node_behind_anchor_at _ id s c t m = node_content (record { start = s.start; behind = s.end; anchor = id; tag = None })
-    c t m
+-- ## Properties, and the machine behind them
 
-unfoldable pub node_behind_anchor : List ℕ → Span → NodeContext → Machine → Result Emitted Refusal
-node_behind_anchor name s c m = do
+-- after an anchor that got the id
+abbrev pub properties_behind_anchor_at : Kind → ℕ → Span → Piece → Machine → Result (NodeProperties × Machine) Refusal
+properties_behind_anchor_at (tokens.Tag handle suffix) id s t m = do
+  tag ← resolved_tag_at m.prefixes handle suffix s.start
+  Ok (record { start = s.start; behind = t.span.end; anchor = id; tag = Some tag }, m)
+properties_behind_anchor_at _ id s t m =
+    Ok (record { start = s.start; behind = s.end; anchor = id; tag = None }, put_back t m)
+
+unfoldable pub properties_behind_anchor : List ℕ → Span → Machine → Result (NodeProperties × Machine) Refusal
+properties_behind_anchor name s m = do
   t ← taken_token (register name m)
-  node_behind_anchor_at t.0.kind (next_id m.anchors) s c t.0 t.1
+  properties_behind_anchor_at t.0.kind (next_id m.anchors) s t.0 t.1
 
 -- after a tag
-abbrev pub node_behind_tag_at : Kind → ResolvedTag → Span → NodeContext → Piece → Machine → Result Emitted Refusal
-node_behind_tag_at (tokens.Anchor name) tag s c t m =
-    next_content (record { start = s.start; behind = t.span.end; anchor = next_id m.anchors; tag = Some tag }) c
-    (register name m)
-node_behind_tag_at _ tag s c t m =
-    node_content (record { start = s.start; behind = s.end; anchor = 0; tag = Some tag }) c t m
+abbrev pub properties_behind_tag_at : Kind → ResolvedTag → Span → Piece → Machine → NodeProperties × Machine
+properties_behind_tag_at (tokens.Anchor name) tag s t m =
+    (record { start = s.start; behind = t.span.end; anchor = next_id m.anchors; tag = Some tag }, register name m)
+properties_behind_tag_at _ tag s t m =
+    (record { start = s.start; behind = s.end; anchor = 0; tag = Some tag }, put_back t m)
 
-unfoldable pub node_behind_tag : List ℕ → List ℕ → Span → NodeContext → Machine → Result Emitted Refusal
-node_behind_tag handle suffix s c m = do
+unfoldable pub properties_behind_tag
+    : List ℕ → List ℕ → Span → Machine → Result (NodeProperties × Machine) Refusal
+properties_behind_tag handle suffix s m = do
   tag ← resolved_tag_at m.prefixes handle suffix s.start
   t ← taken_token m
-  node_behind_tag_at t.0.kind tag s c t.0 t.1
+  Ok (properties_behind_tag_at t.0.kind tag s t.0 t.1)
+
+-- a node may begin with the token
+abbrev pub properties_at : Kind → Piece → Machine → Result (NodeProperties × Machine) Refusal
+properties_at (tokens.Anchor name) t m = properties_behind_anchor name t.span m
+properties_at (tokens.Tag handle suffix) t m = properties_behind_tag handle suffix t.span m
+properties_at _ t m = Ok (no_node_properties t.span.start, put_back t m)
+
+abbrev pub next_properties : Machine → Result (NodeProperties × Machine) Refusal
+next_properties m = do
+  t ← taken_token m
+  properties_at t.0.kind t.0 t.1
+
+-- the content behind them
+abbrev pub content_behind : NodeContext → NodeProperties × Machine → Result Emitted Refusal
+content_behind c p = next_content p.0 c p.1
 
 -- a node begins with the token
 abbrev pub node_at : Kind → NodeContext → Piece → Machine → Result Emitted Refusal
 node_at (tokens.Alias name) c t m = alias_node name t.span m
-node_at (tokens.Anchor name) c t m = node_behind_anchor name t.span c m
-node_at (tokens.Tag handle suffix) c t m = node_behind_tag handle suffix t.span c m
+node_at (tokens.Anchor name) c t m = properties_behind_anchor name t.span m >>= content_behind c
+node_at (tokens.Tag handle suffix) c t m = properties_behind_tag handle suffix t.span m >>= content_behind c
 node_at _ c t m = node_content (no_node_properties t.span.start) c t m
 
 unfoldable pub node : NodeContext → Piece → Machine → Result Emitted Refusal
