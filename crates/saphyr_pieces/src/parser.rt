@@ -22,8 +22,8 @@ const MOST_CHARACTERS: usize = 4294967295;
 /// whole text, for all characters that may still come.
 ///
 /// An event comes when what came decides it. Where much waits for its end, as a long scalar does, as much has to come
-/// again before the parser looks. Of a root collection in brackets nothing comes before its last bracket, since what
-/// follows that may make it a key.
+/// again before the parser looks, and what may be the end. Of a root collection in brackets nothing comes before its
+/// last bracket, since what follows that may make it a key.
 pub struct PieceParser {
     reader: PieceReader,
 }
@@ -80,7 +80,7 @@ impl PieceParser {
     }
 
     /// Has the parser look for an event as soon as more bytes wait than these, once. Otherwise it looks when as much
-    /// came again as waited.
+    /// came again as waited, if that may decide one.
     ///
     /// So a caller that lets no more wait gives up only where no event can be told.
     pub fn look_past(&mut self, bytes: usize)

@@ -2,6 +2,7 @@
 //! characters that did not come, it goes back to a copy of itself, and waits for more.
 
 mod copy;
+mod ending;
 mod passed;
 mod waiting;
 
@@ -19,6 +20,7 @@ ghost use Rattle.saphyr_pieces.specs.declared.pieces.Source.TheVariants.{Given};
 
 use crate::owned::OwnedText;
 use crate::pieces::copy::grow;
+use crate::pieces::ending::Ending;
 use crate::pieces::passed::Passed;
 use saphyr_machine::{Event, EventReader, Fault, Progress};
 use saphyr_scalar::Span;
@@ -59,6 +61,9 @@ pub(crate) struct PieceReader {
     weight: usize,
     // The reader tries again as soon as more bytes wait than these.
     look_past: usize,
+    // What ends what waits, and how many bytes of `more` were looked at for that.
+    ending: Ending,
+    seen: usize,
     alloc: Global,
 }
 
@@ -105,6 +110,8 @@ impl PieceReader {
             since: String::new(alloc),
             weight: 0,
             look_past: usize::MAX,
+            ending: Ending::Any,
+            seen: 0,
             alloc,
         }
     }
@@ -125,6 +132,7 @@ impl PieceReader {
         grow(self.alloc, &mut self.reader, &self.more, growth)?;
         self.extend_copy(growth);
         self.more.clear();
+        self.seen = 0;
         self.starved = false;
         Ok(())
     }
@@ -203,7 +211,13 @@ impl PieceReader {
             return Some(Progress::Over);
         }
         match self.take_in(Growth::Growing) {
-            Ok(()) => self.step(next, fault),
+            Ok(()) => {
+                let progress = self.step(next, fault);
+                if progress.is_some() {
+                    self.ending = Ending::Any;
+                }
+                progress
+            }
             Err(_) => Some(self.fail(fault)),
         }
     }
@@ -353,6 +367,8 @@ impl PieceReader {
             since: String::new(self.alloc),
             weight: self.weight,
             look_past: self.look_past,
+            ending: Ending::Any,
+            seen: 0,
             alloc: self.alloc,
         })
     }

@@ -6,10 +6,17 @@ ghost use Rattle.saphyr_pieces.specs.Pieces.{waiting};
 ghost use Rattle.saphyr_pieces.specs.Views as spec;
 
 use crate::pieces::PieceReader;
+use crate::pieces::ending::Ending;
 use saphyr_machine::Event;
 
 /// How many bytes are little to read again. If more wait, they wait until as many came.
-const LITTLE: usize = 256;
+pub(super) const LITTLE: usize = 256;
+
+/// If so many times as much came as waits, the reader tries again, whatever came: a fault may be in it.
+const PATIENCE: usize = 8;
+
+/// At least so many bytes are searched at a time for what ends them, since a search of few takes as long.
+const PART: usize = 64;
 
 /// How many bytes of a text take as long to read as an open collection, or an anchor, takes to copy.
 const OPEN_WEIGHT: usize = 1;
@@ -39,6 +46,10 @@ fn has_content(line: &str, column: usize) -> bool {
 
 // Whether there is a CR in a text behind which something other than LF comes.
 fn has_lone_cr(text: &str) -> bool {
+    // Mostly there is no CR, and that is told by words of eight bytes.
+    if !text.contains('\r') {
+        return false;
+    }
     let mut last = 0;
     for b in text.bytes() {
         if last == b'\r' && b != b'\n' {
@@ -52,10 +63,11 @@ fn has_lone_cr(text: &str) -> bool {
 // Whether what came may well decide an event: a line ends that has content left of a column, or a bracket closes, or a
 // document begins.
 fn may_decide(came: &str, column: usize) -> bool {
-    let Some((lines, left)) = came.rsplit_once('\n') else {
-        return may_close(came);
-    };
     // Mostly it is one line, in which no line feed has to be found.
+    let (lines, left) = match came.strip_suffix('\n') {
+        Some(lines) => (lines, ""),
+        None => came.rsplit_once('\n').unwrap_or(("", came)),
+    };
     if has_content(lines, column) {
         return true;
     }
@@ -112,8 +124,8 @@ fn is_scalar_line(text: &str) -> bool {
     };
     !begins_otherwise
         && is_line_without_key(text)
-        && !text.starts_with("---")
-        && !text.starts_with("...")
+        && !(dashes > 2 && text.starts_with("---"))
+        && !(first == b'.' && text.starts_with("..."))
 }
 
 /// How many lines without a token a text begins with: empty ones, and those of blanks or a comment alone, if they end in
@@ -173,12 +185,14 @@ pub(super) fn weight_behind(event: &Event<'_>, weight: usize) -> usize {
 impl PieceReader {
     // Left of which column a line ends the block scalar that waits, if one does.
     fn column_of_end(&self) -> usize {
+        let text = self.reader.input().as_str();
         match self.reader.node_column() {
-            Some(column) => match first_of_node(self.reader.input().as_str()) {
-                (b'|' | b'>', 0) => column.max(1),
+            Some(column) if text.ends_with('\n') => match first_of_node(text) {
+                // A dash that waits begins no list, of which an event would have come.
+                (b'|' | b'>', 0 | 1) => column.max(1),
                 _ => usize::MAX,
             },
-            None => usize::MAX,
+            _ => usize::MAX,
         }
     }
 
@@ -191,14 +205,53 @@ impl PieceReader {
             && is_scalar_line(text)
     }
 
+    // Whether what came may end what waits, or is many times as much. Each byte is looked at once.
+    #[inline(never)]
+    fn may_end(&mut self, waits: usize) -> bool
+        requires sound { spec.IsSoundReader self.old }
+        ensures same { spec.pieces_of self.new ≡ spec.pieces_of self.old }
+        ensures sound { spec.IsSoundReader self.new }
+    {
+        let is_much = self.more.len() / PATIENCE >= waits;
+        let ending = match self.ending {
+            Ending::Any if is_much => return true,
+            Ending::Any if self.seen == 0 && self.reader.node_column().is_some() => {
+                Ending::of(self.reader.input().as_str())
+            }
+            ending => ending,
+        };
+        let ending = match self.more.get(self.seen..) {
+            Some(came) => ending.behind(came),
+            None => Ending::Any,
+        };
+        self.ending = ending;
+        self.seen = self.more.len();
+        is_much || matches!(ending, Ending::Any)
+    }
+
     /// Whether the reader should try again. Nothing depends on it but when an event comes, and how long that takes.
-    pub(super) fn has_enough(&self) -> bool {
+    pub(super) fn has_enough(&mut self) -> bool
+        requires sound { spec.IsSoundReader self.old }
+        ensures same { spec.pieces_of self.new ≡ spec.pieces_of self.old }
+        ensures sound { spec.IsSoundReader self.new }
+    {
+        let came = self.more.len();
+        if came == 0 {
+            return false;
+        }
         let left = self.reader.input().as_str().len();
         let waits = left.saturating_add(self.weight);
-        let came = self.more.len();
-        came >= waits.max(LITTLE)
-            || waits < LITTLE && may_decide(&self.more, self.column_of_end())
-            || left <= self.look_past && self.look_past - left < came
+        let decides = if came < waits.max(LITTLE) {
+            waits < LITTLE && may_decide(&self.more, self.column_of_end())
+        } else {
+            came.saturating_sub(self.seen) >= PART && self.may_end(waits)
+        };
+        if !decides && left <= self.look_past && self.look_past - left < came {
+            // Not all that came was looked at for its end.
+            self.ending = Ending::Any;
+            return true;
+        }
+        decides
     }
 
     /// Has the reader try again as soon as more bytes wait than these, even if less came than waited before.
