@@ -263,10 +263,11 @@ int32_t saphyr_new_pieces(bool keep_tags, size_t most_characters, size_t most_wa
  * Adds the next `len` bytes of a text that comes in pieces. They may be cut anywhere, even inside a character. The
  * events are those of all bytes, one behind the other, wherever they are cut. An event comes once no byte that may
  * follow changes it, also before its document has ended. While less than 256 bytes wait, the parser looks for that when
- * a line ends, a bracket closes or `---` comes; else when as many bytes came again as waited, so that a long scalar is
- * not read again for each line, and as soon as more wait than may. The events of a collection in brackets at a
- * document's root come with its last bracket. The stream's start comes before the first bytes. Bytes that are not
- * needed any more, since the text is refused, are not parsed.
+ * a line ends, a bracket closes or `---` comes; else when as many bytes came again as waited, and what waits may end in
+ * them, so that a long scalar is not read again for each line. It also looks when eight times as many came, since a
+ * fault may be inside, and as soon as more wait than may. The events of a collection in brackets at a document's root
+ * come with its last bracket. The stream's start comes before the first bytes. Bytes that are not needed any more,
+ * since the text is refused, are not parsed.
  *
  * A `len` of 0 says that no more come, with NULL or any other `bytes`: nothing can be added after it. So do not pass on
  * the 0 of a read that failed, or of one that has no bytes yet.
