@@ -1,12 +1,10 @@
-//! What ends the scalar or the collection that waits, as far as a look at its characters tells. Nothing depends on it
-//! but when the reader tries again.
-
-use crate::pieces::waiting::LITTLE;
+//! What ends the scalar, collection or directives that wait, as far as a look at the characters tells. Nothing depends
+//! on it but when the reader tries again.
 
 /// The last column of which spaces are counted in front of a line. To count more takes as long as to read them.
 const DEEPEST: usize = 16;
 
-/// What ends the node that a text begins with. Up to the text's end it did not come.
+/// What ends the node, or the directives, that a text begins with. Up to the text's end it did not come.
 #[derive(Clone, Copy)]
 pub(crate) enum Ending {
     /// It may have come, or it is not known what it is.
@@ -15,6 +13,8 @@ pub(crate) enum Ending {
     Quote(char),
     /// A line with content left of a column. The last line has so many spaces, or it has content from the column on.
     Line { column: usize, spaces: usize },
+    /// A line that is not blank, and no directive or comment. More of the text begins a line, if `at_start`.
+    Document { at_start: bool },
     /// A bracket behind which a collection does not go on. Nothing comes behind the last one yet, if it is `open`.
     Bracket { open: bool },
 }
@@ -49,18 +49,18 @@ fn has_quote(came: &str, quote: char) -> bool {
     false
 }
 
-// The column of a block scalar's first line, or 0 if it is not known: many blanks come first, or maybe a comment.
-fn first_column(lines: &str) -> usize {
+// The column of a block scalar's first content, or 0 if that may be a comment.
+fn first_column(lines: &str) -> Option<usize> {
     let mut column: usize = 0;
-    for b in lines.bytes().take(LITTLE) {
+    for b in lines.bytes() {
         match b {
             b' ' => column = column.saturating_add(1),
             b'\n' => column = 0,
-            b'#' => return 0,
-            _ => return column,
+            b'#' => return Some(0),
+            _ => return Some(column),
         }
     }
-    0
+    None
 }
 
 // How many spaces a line has that has so many already, but no more than a column. `None`: content is left of that.
@@ -91,16 +91,33 @@ fn behind_lines(came: &str, column: usize, before: usize) -> Ending {
     Ending::Line { column, spaces }
 }
 
-// What ends the block scalar that a text begins with.
-fn end_of_block(text: &str) -> Ending {
+// What ends the block scalar that a text begins with, if its content may begin at a column.
+fn end_of_block(text: &str, least: usize) -> Ending {
     let Some((_, lines)) = text.split_once('\n') else {
         return Ending::Any;
     };
-    let column = first_column(lines);
+    let column = first_column(lines).unwrap_or(least.max(1));
     if column == 0 || column > DEEPEST {
         return Ending::Any;
     }
     Ending::Line { column, spaces: 0 }.behind(lines)
+}
+
+// Whether a line is blank, a directive or a comment, as far as it came.
+fn is_before_document(line: &str) -> bool {
+    line.starts_with('%') || matches!(line.trim_ascii_start().bytes().next(), None | Some(b'#'))
+}
+
+// What ends directives, behind more of them.
+fn behind_directives(came: &str, at_start: bool) -> Ending {
+    for (number, line) in came.split('\n').enumerate() {
+        if (number > 0 || at_start) && !is_before_document(line) {
+            return Ending::Any;
+        }
+    }
+    Ending::Document {
+        at_start: came.ends_with('\n'),
+    }
 }
 
 // Whether a collection goes on behind a bracket that ends one.
@@ -131,14 +148,15 @@ fn behind_brackets(came: &str, open: bool) -> Ending {
 }
 
 impl Ending {
-    /// What ends the node that a text begins with, in block style.
-    pub(super) fn of(text: &str) -> Ending {
+    /// What ends the node that a text begins with, in block style, whose later lines begin at a column, or directives.
+    pub(super) fn of(text: &str, column: usize) -> Ending {
         let node = node_in(text);
         let mut behind = node.chars();
         match behind.next() {
             Some(quote @ ('"' | '\'')) => Ending::Quote(quote).behind(behind.as_str()),
             Some('[' | '{') => Ending::Bracket { open: false }.behind(node),
-            Some('|' | '>') => end_of_block(node),
+            Some('|' | '>') => end_of_block(node, column),
+            Some('%') => Ending::Document { at_start: true }.behind(node),
             _ => Ending::Any,
         }
     }
@@ -150,6 +168,9 @@ impl Ending {
             // A CR may end a line.
             Ending::Line { column, spaces } if !came.contains('\r') => {
                 behind_lines(came, column, spaces)
+            }
+            Ending::Document { at_start } if !came.contains('\r') => {
+                behind_directives(came, at_start)
             }
             Ending::Bracket { open } => behind_brackets(came, open),
             _ => Ending::Any,

@@ -213,12 +213,12 @@ impl PieceReader {
         ensures sound { spec.IsSoundReader self.new }
     {
         let is_much = self.more.len() / PATIENCE >= waits;
-        let ending = match self.ending {
-            Ending::Any if is_much => return true,
-            Ending::Any if self.seen == 0 && self.reader.node_column().is_some() => {
-                Ending::of(self.reader.input().as_str())
+        let ending = match (self.ending, self.reader.node_column()) {
+            (Ending::Any, _) if is_much => return true,
+            (Ending::Any, Some(column)) if self.seen == 0 => {
+                Ending::of(self.reader.input().as_str(), column)
             }
-            ending => ending,
+            (ending, _) => ending,
         };
         let ending = match self.more.get(self.seen..) {
             Some(came) => ending.behind(came),
