@@ -54,7 +54,7 @@ pub(crate) struct PieceReader {
     // The reader as it was before it handed out the last events, and how many these are.
     copy: Option<EventReader<'static, OwnedText>>,
     events: usize,
-    // How many bytes the copy's text has, and what came behind that.
+    // How many bytes the copy's text has, with what came behind that.
     copied: usize,
     since: String,
     // How much there is to copy but the text.

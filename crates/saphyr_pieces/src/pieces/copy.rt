@@ -143,8 +143,12 @@ impl PieceReader {
         ensures source { self.new.source ≡ self.old.source }
         ensures passed { self.new.passed ≡ self.old.passed }
     {
+        if self.copy.is_none() {
+            return;
+        }
         if let Growth::Growing = growth {
             if let Ok(()) = self.since.push_str(&self.more) {
+                self.copied = self.copied.saturating_add(self.more.len());
                 return;
             }
         }
@@ -161,7 +165,7 @@ impl PieceReader {
         ensures passed { self.new.passed ≡ self.old.passed }
     {
         let left = self.reader.input().as_str().len();
-        if self.copy.is_none() || is_far(self.copied.saturating_add(self.since.len()), left) {
+        if self.copy.is_none() || is_far(self.copied, left) {
             self.make_copy(left);
         }
     }
