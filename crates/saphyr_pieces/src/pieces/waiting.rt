@@ -110,11 +110,40 @@ fn is_line_without_key(text: &str) -> bool {
     true
 }
 
+// Whether the characters behind a quote are those of a scalar in one line, or of its start, and nothing comes behind it.
+// Of escapes, which may be faults, it has the most frequent ones.
+fn is_quoted_line(quote: u8, behind: &str) -> bool {
+    let mut is_open = true;
+    let mut last = 0;
+    for b in behind.bytes() {
+        let is_usual = if !is_open {
+            is_open = quote == b'\'' && b == quote && last == quote;
+            is_open || matches!(b, b' ' | b'\n')
+        } else if quote == b'"' && last == b'\\' {
+            matches!(b, b'n' | b't' | b'"')
+        } else {
+            is_open = b != quote;
+            last != b'\n' && b != b'\r'
+        };
+        if !is_usual {
+            return false;
+        }
+        last = b;
+    }
+    true
+}
+
 // Whether a text is a line or a part of one, of a scalar that may go on.
 fn is_scalar_line(text: &str) -> bool {
     let (first, dashes) = first_of_node(text);
     let begins_otherwise = match first {
-        b'"' | b'\'' | b'[' | b']' | b'{' | b'}' | b'%' | b'@' | b'`' | b'?' | b',' | 0xEF => true,
+        // Behind a dash it may be a key up to the next line.
+        b'"' | b'\'' => {
+            let node = text.trim_start_matches(['-', ' ']);
+            let behind = node.strip_prefix(first as char).unwrap_or(node);
+            dashes == 0 || !is_quoted_line(first, behind)
+        }
+        b'[' | b']' | b'{' | b'}' | b'%' | b'@' | b'`' | b'?' | b',' | 0xEF => true,
         // A dash may begin a list, of which an event comes, and in which the scalar has another column.
         b'|' | b'>' => dashes > 0,
         b'&' | b'!' => text
