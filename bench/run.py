@@ -11,8 +11,8 @@ smaller files, beyond those of an empty text, and the last lines have the least 
 the most memory at a time, in bytes for each byte of the text, beyond that of an empty text. The files are of
 `inputs.py`, or with --shapes those of `shapes.py`, which are small and stress one thing each. With --parse-only the
 programs count the events, and print nothing of them. So they do with --pieces, where the C face and libyaml get the
-text in pieces of so many bytes, and the Rust parsers from an iterator of characters. --small takes the instructions for a text of 48 bytes, whose
-parser is made, read to its end and freed. A `-` says that the peer refuses the file.
+text in pieces of so many bytes, and the Rust parsers from an iterator of characters. --small takes the instructions for
+a text of 48 bytes, whose parser is made, read to its end and freed. A `-` says that the peer refuses the file.
 
 The peers are the faces for C and Rust of this repository, libyaml where its header is there, with --crate SOURCES the
 Rust crate `saphyr-parser`, whose sources are in that folder, and whose dependencies cargo fetches, and with --peer
