@@ -137,54 +137,35 @@ impl<T: Input> Machine<T> {
             (stopped_by result self.new.scanner.stop)
             (spec.next_properties (machine_in more self.old)) }
     {
-        let Span { start, end } = self.span();
+        let mut span = self.span();
+        let start = span.start;
+        let mut anchor = 0;
+        let mut tag = None;
+        let mut next = kind;
         match kind {
             TokenKind::Anchor => {
-                let anchor = self.anchor()?;
-                let TokenKind::Tag = self.peek()? else {
-                    let tag = None;
-                    return Ok(Properties {
-                        start,
-                        behind: end,
-                        anchor,
-                        tag,
-                    });
-                };
-                let behind = self.span().end;
-                let tag = Some(self.tag(start)?);
-                Ok(Properties {
-                    start,
-                    behind,
-                    anchor,
-                    tag,
-                })
+                anchor = self.anchor()?;
+                next = self.peek()?;
             }
-            TokenKind::Tag => {
-                let tag = Some(self.tag(start)?);
-                let TokenKind::Anchor = self.peek()? else {
-                    let anchor = 0;
-                    return Ok(Properties {
-                        start,
-                        behind: end,
-                        anchor,
-                        tag,
-                    });
-                };
-                let behind = self.span().end;
-                let anchor = self.anchor()?;
-                Ok(Properties {
-                    start,
-                    behind,
-                    anchor,
-                    tag,
-                })
-            }
-            _ => Ok(Properties {
-                start,
-                behind: start,
-                anchor: 0,
-                tag: None,
-            }),
+            TokenKind::Tag => {}
+            // There are none, up to where the content begins.
+            _ => span.end = start,
         }
+        if let TokenKind::Tag = next {
+            self.span_into(&mut span);
+            tag = Some(self.tag(start)?);
+            if let TokenKind::Tag = kind {
+                if let TokenKind::Anchor = self.peek()? {
+                    self.span_into(&mut span);
+                    anchor = self.anchor()?;
+                }
+            }
+        }
+        Ok(Properties {
+            start,
+            behind: span.end,
+            anchor,
+            tag,
+        })
     }
 }
