@@ -43,6 +43,12 @@ impl OwnedText {
         }
     }
 
+    /// The memory of the text.
+    pub fn into_string(self) -> String {
+        let OwnedText { text, .. } = self;
+        text
+    }
+
     /// The characters that remain, as a text.
     #[inline]
     pub fn as_str(&self) -> &str

@@ -47,8 +47,9 @@ pub(crate) struct PieceReader {
     reader: EventReader<'static, OwnedText>,
     // The tokens that it passed since its last event.
     passed: Option<Passed>,
-    // What came behind that text.
+    // What came behind that text, and room for both.
     more: String,
+    room: String,
     // Whether the next event depends on what is behind that text.
     starved: bool,
     // The reader as it was before it handed out the last events, and how many these are.
@@ -64,6 +65,8 @@ pub(crate) struct PieceReader {
     // What ends what waits, and how many bytes of `more` were looked at for that.
     ending: Ending,
     seen: usize,
+    // How many bytes of `more` were looked at, where that is little, for what may decide an event.
+    looked: usize,
     alloc: Global,
 }
 
@@ -103,6 +106,7 @@ impl PieceReader {
             reader: empty_reader(alloc, limit),
             passed: None,
             more: String::new(alloc),
+            room: String::new(alloc),
             starved: false,
             copy: None,
             events: 0,
@@ -112,6 +116,7 @@ impl PieceReader {
             look_past: usize::MAX,
             ending: Ending::Any,
             seen: 0,
+            looked: 0,
             alloc,
         }
     }
@@ -127,12 +132,19 @@ impl PieceReader {
         ensures more { IfOk result (λ _. chars (string_bytes self.new.more) ≡ []) }
         ensures source { self.new.source ≡ self.old.source }
         ensures sound { spec.IsSoundReader self.new }
-        ensures same { OnErr result (self.new ≡ self.old) }
+        ensures same { OnErr result (spec.pieces_of self.new ≡ spec.pieces_of self.old) }
     {
-        grow(self.alloc, &mut self.reader, &self.more, growth)?;
+        grow(
+            self.alloc,
+            &mut self.reader,
+            &self.more,
+            growth,
+            &mut self.room,
+        )?;
         self.extend_copy(growth);
         self.more.clear();
         self.seen = 0;
+        self.looked = 0;
         self.starved = false;
         Ok(())
     }
@@ -360,6 +372,7 @@ impl PieceReader {
             reader: self.reader.try_clone()?,
             passed: copy_passed(&self.passed),
             more,
+            room: String::new(self.alloc),
             starved: self.starved,
             copy: None,
             events: 0,
@@ -369,6 +382,7 @@ impl PieceReader {
             look_past: self.look_past,
             ending: Ending::Any,
             seen: 0,
+            looked: 0,
             alloc: self.alloc,
         })
     }

@@ -16,6 +16,9 @@ use saphyr_scanner::Growth;
 use std::alloc::{AllocError, Global};
 use std::mem::replace;
 
+// So much room for a text is kept at most.
+const MOST_ROOM: usize = 1 << 14;
+
 // Reads so many events again.
 fn read_again(reader: &mut EventReader<'static, OwnedText>, events: usize) -> Result<(), AllocError>
     ensures { IfOk result (λ _. spec.ReadsOnBy events reader.old reader.new) }
@@ -67,12 +70,21 @@ fn pass_tokens(
     Ok(())
 }
 
-/// Has a reader go on over its text and more behind that. If memory runs out, it stays.
+// Keeps the memory of a text as room for another, if it is not too much.
+fn keep_room(room: &mut String, text: String) {
+    if text.capacity() <= MOST_ROOM {
+        drop(replace(room, text));
+    }
+}
+
+/// Has a reader go on over its text and more behind that, in the memory of another text, and leaves its own for the
+/// next. If memory runs out, it stays.
 pub(super) fn grow(
     alloc: Global,
     reader: &mut EventReader<'static, OwnedText>,
     more: &str,
     growth: Growth,
+    room: &mut String,
 ) -> Result<(), AllocError>
     ensures cursor { IfOk result (λ _. (later : List ℕ) → cursor_in later reader.new
         ≡ cursor_in (chars more.now ++ text_in growth later []) reader.old) }
@@ -82,13 +94,16 @@ pub(super) fn grow(
         return Err(AllocError);
     };
     let rest = reader.input().as_str();
-    let mut text = String::with_capacity(alloc, rest.len() + more.len())?;
-    text.push_str(rest)?;
-    text.push_str(more)?;
-    let Some(_) = reader.index().checked_add(text.as_str().len()) else {
+    room.clear();
+    room.reserve(rest.len() + more.len())?;
+    room.push_str(rest)?;
+    room.push_str(more)?;
+    let Some(_) = reader.index().checked_add(room.as_str().len()) else {
         return Err(AllocError);
     };
-    drop(reader.exchange(OwnedText::new(alloc, text), growth));
+    let text = replace(room, String::new(alloc));
+    let old = reader.exchange(OwnedText::new(alloc, text), growth);
+    keep_room(room, old.into_string());
     Ok(())
 }
 
@@ -97,13 +112,14 @@ fn catch_up(
     alloc: Global,
     copy: &mut EventReader<'static, OwnedText>,
     since: &str,
+    room: &mut String,
 ) -> Result<(), AllocError>
     ensures { IfOk result (λ _. spec.GoesOnOver (chars since.now) copy.old copy.new) }
 {
     if since.is_empty() {
         return Ok(());
     }
-    grow(alloc, copy, since, Growth::Growing)
+    grow(alloc, copy, since, Growth::Growing, room)
 }
 
 // Passes the lines that wait and have no token, so that their text is not kept.
@@ -215,7 +231,7 @@ impl PieceReader {
         let Some(mut copy) = self.copy.take() else {
             return Err(AllocError);
         };
-        catch_up(self.alloc, &mut copy, &self.since)?;
+        catch_up(self.alloc, &mut copy, &self.since, &mut self.room)?;
         read_again(&mut copy, self.events)?;
         pass_on(&mut copy, &mut self.passed)?;
         drop(replace(&mut self.reader, copy));

@@ -49,7 +49,7 @@ fn has_quote(came: &str, quote: char) -> bool {
     false
 }
 
-// The column of a block scalar's first content, or 0 if that may be a comment.
+// The column of a block scalar's first content, or 0 if that may be a comment. `None`: only blank lines came.
 fn first_column(lines: &str) -> Option<usize> {
     let mut column: usize = 0;
     for b in lines.bytes() {

@@ -8,6 +8,7 @@ ghost use Rattle.saphyr_pieces.specs.Views as spec;
 use crate::pieces::PieceReader;
 use crate::pieces::ending::Ending;
 use saphyr_machine::Event;
+use std::mem::replace;
 
 /// How many bytes are little to read again. If more wait, they wait until as many came.
 pub(super) const LITTLE: usize = 256;
@@ -17,6 +18,10 @@ const PATIENCE: usize = 8;
 
 /// At least so many bytes are searched at a time for what ends them, since a search of few takes as long.
 const PART: usize = 64;
+
+/// If no more bytes than these came since the last look, they are searched first, and all that came of their line only
+/// where they may decide an event.
+const SHORT: usize = 8;
 
 /// How many bytes of a text take as long to read as an open collection, or an anchor, takes to copy.
 const OPEN_WEIGHT: usize = 1;
@@ -31,13 +36,23 @@ pub(super) fn is_far(copied: usize, left: usize) -> bool {
     left < copied / 4 && copied - left >= COPY_WEIGHT
 }
 
-// Whether a line has content left of a column, or CR ends a line in it.
-fn has_content(line: &str, column: usize) -> bool {
+// Whether a part may decide an event with what came before it: it ends a line, closes a bracket, begins a document, or
+// is long.
+fn may_matter(part: &str) -> bool {
+    part.len() > SHORT
+        || part
+            .bytes()
+            .any(|b| matches!(b, b'\n' | b'\r' | b']' | b'}'))
+        || part.starts_with("---")
+}
+
+// Whether the first of some lines has content left of a column, or CR ends one of them.
+fn has_content(lines: &str, column: usize) -> bool {
     let mut indent: usize = 0;
-    for b in line.bytes() {
+    for b in lines.bytes() {
         if b != b' ' {
             let is_content = !matches!(b, b'#' | b'\n' | b'\r');
-            return is_content && indent < column || has_lone_cr(line);
+            return is_content && indent < column || has_lone_cr(lines);
         }
         indent = indent.saturating_add(1);
     }
@@ -71,12 +86,11 @@ fn may_decide(came: &str, column: usize) -> bool {
     if has_content(lines, column) {
         return true;
     }
-    for line in lines.lines() {
-        if has_content(line, column) {
-            return true;
-        }
+    match lines.split_once('\n') {
+        Some((_, others)) => others.lines().any(|line| has_content(line, column))
+            || may_close(left),
+        None => may_close(left),
     }
-    may_close(left)
 }
 
 // Whether a part of a line may decide an event.
@@ -100,14 +114,16 @@ fn first_of_node(text: &str) -> (u8, usize) {
 
 // Whether a text is a line or a part of one, and no colon in it may end a key.
 fn is_line_without_key(text: &str) -> bool {
+    let line = text.strip_suffix('\n').unwrap_or(text);
+    let line = line.strip_suffix('\r').unwrap_or(line);
     let mut last = 0;
-    for b in text.bytes() {
-        if last == b'\n' || last == b'\r' && b != b'\n' || last == b':' && b <= b' ' {
+    for b in line.bytes() {
+        if b <= b' ' && (last == b':' || matches!(b, b'\n' | b'\r')) {
             return false;
         }
         last = b;
     }
-    true
+    last != b':' || line.len() == text.len()
 }
 
 // Whether the characters behind a quote are those of a scalar in one line, or of its start, and nothing comes behind it.
@@ -141,7 +157,7 @@ fn is_scalar_line(text: &str) -> bool {
         b'"' | b'\'' => {
             let node = text.trim_start_matches(['-', ' ']);
             let behind = node.strip_prefix(first as char).unwrap_or(node);
-            dashes == 0 || !is_quoted_line(first, behind)
+            return dashes > 0 && is_quoted_line(first, behind) && !begins_marker(text);
         }
         b'[' | b']' | b'{' | b'}' | b'%' | b'@' | b'`' | b'?' | b',' | 0xEF => true,
         // A dash may begin a list, of which an event comes, and in which the scalar has another column.
@@ -151,10 +167,12 @@ fn is_scalar_line(text: &str) -> bool {
             .any(|b| matches!(b, b'"' | b'\'' | b'[' | b'{')),
         _ => false,
     };
-    !begins_otherwise
-        && is_line_without_key(text)
-        && !(dashes > 2 && text.starts_with("---"))
-        && !(first == b'.' && text.starts_with("..."))
+    !begins_otherwise && is_line_without_key(text) && !begins_marker(text)
+}
+
+// Whether a text begins with `---` or `...`.
+fn begins_marker(text: &str) -> bool {
+    text.starts_with("---") || text.starts_with("...")
 }
 
 /// How many lines without a token a text begins with: empty ones, and those of blanks or a comment alone, if they end in
@@ -258,6 +276,16 @@ impl PieceReader {
         is_much || matches!(ending, Ending::Any)
     }
 
+    // Whether what came since the last look may decide an event.
+    fn has_new(&mut self) -> bool
+        requires sound { spec.IsSoundReader self.old }
+        ensures same { spec.pieces_of self.new ≡ spec.pieces_of self.old }
+        ensures sound { spec.IsSoundReader self.new }
+    {
+        let looked = replace(&mut self.looked, self.more.len());
+        self.more.get(looked..).is_none_or(may_matter)
+    }
+
     /// Whether the reader should try again. Nothing depends on it but when an event comes, and how long that takes.
     pub(super) fn has_enough(&mut self) -> bool
         requires sound { spec.IsSoundReader self.old }
@@ -271,7 +299,7 @@ impl PieceReader {
         let left = self.reader.input().as_str().len();
         let waits = left.saturating_add(self.weight);
         let decides = if came < waits.max(LITTLE) {
-            waits < LITTLE && may_decide(&self.more, self.column_of_end())
+            waits < LITTLE && self.has_new() && may_decide(&self.more, self.column_of_end())
         } else {
             came.saturating_sub(self.seen) >= PART && self.may_end(waits)
         };
