@@ -272,6 +272,7 @@ impl<'input> Face<'input> {
     }
 
     /// The same of a text that comes in pieces, or why nothing comes.
+    #[inline]
     pub fn next_or_wait(&mut self, progress: &mut Progress) -> Result<Item<'input>, Wait> {
         match self.step() {
             MORE => Err(Wait::More),

@@ -43,13 +43,12 @@ impl<T: Iterator<Item = char>> BufferedInput<T> {
             if count == 0 {
                 break;
             }
-            self.has_ended = !push_all(line, &mut self.source, &mut ascii[..count], |_| true);
+            self.has_ended = !push_all(line, &mut self.source, &mut ascii[..count], |_, _| true);
         }
-        // A marker is told by the first four characters.
-        let mut count = 4 - line.len().min(3);
         while !is_part(line) && !line.ends_with('\r') && !self.has_ended {
-            self.has_ended = !push_all(line, &mut self.source, &mut ascii[..count], |c| c > '\r');
-            count = AT_ONCE;
+            // What ends a line, or the first four characters of one that are a marker, ends what is put together.
+            let goes_on = |before: &[u8], c| c > '\r' && (c != ' ' || before != b"---");
+            self.has_ended = !push_all(line, &mut self.source, &mut ascii, goes_on);
         }
     }
 
@@ -133,17 +132,18 @@ impl<T: Iterator<Item = char>> Input for BufferedInput<T> {
     }
 }
 
-/// Puts characters of a source behind a text, as many as there is room for, or up to the first that does not go on.
-/// Those of ASCII are put together first, which takes fewer instructions. Returns whether the source had not ended.
+/// Puts characters of a source behind a text, as many as there is room for, or up to the first that does not go on
+/// behind those before it. Those of ASCII are put together first, which takes fewer instructions. Returns whether the
+/// source had not ended.
 fn push_all(
     text: &mut String,
     source: &mut impl Iterator<Item = char>,
     ascii: &mut [u8],
-    goes_on: impl Fn(char) -> bool,
+    goes_on: impl Fn(&[u8], char) -> bool,
 ) -> bool {
     for at in 0..ascii.len() {
         match source.next() {
-            Some(c) if c.is_ascii() && goes_on(c) => ascii[at] = c as u8,
+            Some(c) if c.is_ascii() && goes_on(&ascii[..at], c) => ascii[at] = c as u8,
             other => {
                 push_ascii(text, &ascii[..at]);
                 text.extend(other);
