@@ -382,7 +382,7 @@ impl PieceReader {
             look_past: self.look_past,
             ending: Ending::Any,
             seen: 0,
-            looked: 0,
+            looked: self.looked,
             alloc: self.alloc,
         })
     }
