@@ -283,7 +283,7 @@ impl PieceReader {
         ensures sound { spec.IsSoundReader self.new }
     {
         let looked = replace(&mut self.looked, self.more.len());
-        self.more.get(looked..).is_none_or(may_matter)
+        self.more.get(looked..).is_none_or(may_matter) || self.more.starts_with("---")
     }
 
     /// Whether the reader should try again. Nothing depends on it but when an event comes, and how long that takes.
