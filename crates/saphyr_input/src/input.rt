@@ -23,7 +23,7 @@ use std::alloc::AllocError;
 /// loaded. Places past the end of the list can be loaded too, and read as NUL. To take characters
 /// off there leaves the list empty. All counts are counts of characters.
 ///
-/// Eight of the first eleven calls have no default body. An implementation that meets their contracts gets
+/// Ten of the first eleven calls have no default body. An implementation that meets their contracts gets
 /// all other calls by default bodies, and may override these for speed.
 pub trait Input {
     ghost use Rattle.saphyr_input.specs.Separation as separation;
@@ -84,25 +84,15 @@ pub trait Input {
         ensures loaded { loaded self.old ≤ loaded self.new + 1 };
 
     /// Takes `count` characters off, or all if there are fewer.
-    #[inline]
     fn skip_n(&mut self, count: usize)
         requires { count ≤ loaded self.old }
         ensures rest { rest self.new ≡ drop count (rest self.old) }
-        ensures loaded { loaded self.old ≤ loaded self.new + count }
-    {
-        for _ in 0..count {
-            self.skip();
-        }
-    }
+        ensures loaded { loaded self.old ≤ loaded self.new + count };
 
     /// The first character, or NUL at the end.
-    #[inline]
     fn peek(&self) -> char
         requires { 1 ≤ loaded self.now }
-        ensures { result ≡ slice_index (rest self.now) 0 }
-    {
-        self.peek_opt().unwrap_or('\0')
-    }
+        ensures { result ≡ slice_index (rest self.now) 0 };
 
     /// The character at place `n`, counted from 0, or NUL past the end.
     fn peek_nth(&self, n: usize) -> char

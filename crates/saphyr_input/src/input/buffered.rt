@@ -138,6 +138,18 @@ impl<I: Iterator<Item = char>> Input for BufferedInput<I> {
         self.loaded -= 1;
     }
 
+    #[inline]
+    fn skip_n(&mut self, count: usize) {
+        for _ in 0..count {
+            self.skip();
+        }
+    }
+
+    #[inline]
+    fn peek(&self) -> char {
+        self.peek_opt().unwrap_or('\0')
+    }
+
     fn peek_nth(&self, n: usize) -> char {
         self.ring.get(n).copied().unwrap_or('\0')
     }

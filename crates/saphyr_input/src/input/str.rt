@@ -7,11 +7,14 @@ mod text;
 mod wide;
 
 use self::text::{
-    behind_ascii, first_char, is_marker, leading_spaces, nth_char, run, run_here, second_char,
-    split_blanks, split_first, third_char, words,
+    ascii_run, behind_ascii, first_byte, first_char, is_marker, leading_spaces, nth_char, run,
+    run_here, second_char, split_blanks, split_first, third_char, words,
 };
-use crate::char_set::{CharSet, WordSet};
-use crate::char_traits::is_yaml_non_break;
+use crate::char_set::{Alpha, Blank, CharSet, NonBreak, NonSpace, WordSet};
+use crate::char_traits::{
+    is_alpha, is_blank, is_blank_or_breakz, is_break, is_breakz, is_digit, is_flow,
+    is_yaml_non_break, is_z,
+};
 use crate::input::{Input, SkipTabs};
 use std::alloc::AllocError;
 
@@ -102,6 +105,11 @@ impl Input for StrInput<'_> {
     }
 
     #[inline]
+    fn buf_is_empty(&self) -> bool {
+        self.loaded == 0
+    }
+
+    #[inline]
     fn raw_read_ch(&mut self) -> char {
         let (c, rest) = split_first(self.rest);
         self.rest = rest;
@@ -121,6 +129,13 @@ impl Input for StrInput<'_> {
     #[inline]
     fn skip(&mut self) {
         self.rest = split_first(self.rest).1;
+    }
+
+    #[inline]
+    fn skip_n(&mut self, count: usize) {
+        for _ in 0..count {
+            self.skip();
+        }
     }
 
     #[inline]
@@ -147,6 +162,37 @@ impl Input for StrInput<'_> {
     #[inline(always)]
     fn skip_ascii(&mut self) {
         self.rest = behind_ascii(self.rest);
+    }
+
+    #[inline]
+    fn look_ch(&mut self) -> char {
+        self.lookahead(1);
+        self.peek()
+    }
+
+    #[inline]
+    fn next_char_is(&self, c: char) -> bool {
+        first_char(self.rest) == c
+    }
+
+    #[inline]
+    fn nth_char_is(&self, n: usize, c: char) -> bool {
+        self.peek_nth(n) == c
+    }
+
+    #[inline]
+    fn next_2_are(&self, c1: char, c2: char) -> bool {
+        first_char(self.rest) == c1 && second_char(self.rest) == c2
+    }
+
+    #[inline]
+    fn next_3_are(&self, c1: char, c2: char, c3: char) -> bool {
+        self.next_2_are(c1, c2) && third_char(self.rest) == c3
+    }
+
+    #[inline]
+    fn next_is_document_indicator(&self) -> bool {
+        is_marker(self.rest, b'-') || is_marker(self.rest, b'.')
     }
 
     #[inline]
@@ -178,11 +224,97 @@ impl Input for StrInput<'_> {
         (blanks.count + comment_len, Ok(found))
     }
 
+    #[inline]
+    fn next_can_be_plain_scalar(&self, in_flow: bool) -> bool {
+        match first_char(self.rest) {
+            ':' => {
+                let next = second_char(self.rest);
+                !(is_blank_or_breakz(next) || in_flow && is_flow(next))
+            }
+            '\u{FEFF}' => false,
+            c => !(in_flow && is_flow(c)),
+        }
+    }
+
+    #[inline]
+    fn next_is_blank_or_break(&self) -> bool {
+        let c = first_byte(self.rest);
+        is_blank(c) || is_break(c)
+    }
+
+    #[inline]
+    fn next_is_blank_or_breakz(&self) -> bool {
+        is_blank_or_breakz(first_byte(self.rest))
+    }
+
+    #[inline]
+    fn next_is_blank(&self) -> bool {
+        is_blank(first_byte(self.rest))
+    }
+
+    #[inline]
+    fn next_is_break(&self) -> bool {
+        is_break(first_byte(self.rest))
+    }
+
+    #[inline]
+    fn next_is_breakz(&self) -> bool {
+        is_breakz(first_byte(self.rest))
+    }
+
+    #[inline]
+    fn next_is_z(&self) -> bool {
+        is_z(first_byte(self.rest))
+    }
+
+    #[inline]
+    fn next_is_flow(&self) -> bool {
+        is_flow(first_byte(self.rest))
+    }
+
+    #[inline]
+    fn next_is_digit(&self) -> bool {
+        is_digit(first_byte(self.rest))
+    }
+
+    #[inline]
+    fn next_is_alpha(&self) -> bool {
+        is_alpha(first_byte(self.rest))
+    }
+
+    fn skip_while_non_breakz(&mut self) -> usize {
+        self.lookahead(1);
+        let (count, rest) = run::<NonBreak>(self.rest);
+        self.rest = rest;
+        count
+    }
+
+    #[inline]
+    fn skip_while_blank(&mut self) -> usize {
+        self.lookahead(1);
+        let (count, rest) = ascii_run::<Blank>(self.rest);
+        self.rest = rest;
+        count
+    }
+
     fn skip_while<C: CharSet>(&mut self) -> usize {
         self.lookahead(1);
         let (count, rest) = run::<C>(self.rest);
         self.rest = rest;
         count
+    }
+
+    #[inline]
+    fn fetch_while_is_alpha(&mut self, out: &mut String) -> Result<usize, AllocError> {
+        self.lookahead(1);
+        let (count, rest) = ascii_run::<Alpha>(self.rest);
+        self.fetch(count, rest, out)
+    }
+
+    fn fetch_while_is_yaml_non_space(&mut self, out: &mut String) -> Result<usize, AllocError> {
+        self.lookahead(1);
+        let (count, rest) = run::<NonSpace>(self.rest);
+        self.fetch(count, rest, out)
     }
 
     fn fetch_while<C: CharSet>(&mut self, out: &mut String) -> Result<usize, AllocError> {
