@@ -7,7 +7,8 @@ Builds the C programs of tests/faces and the crate of rust/, and runs each case 
 both: their events and places are to be the case's, and its lines those that `dump_events` prints. Line by line each
 event has to be there when the rule of tests/prompt.py says. The C face is misused, each request for memory over the
 worked texts is refused in turn, and where valgrind is there, it looks for leaks. Where there is no compiler of C or no
-cargo, it says so, and tests nothing. SAPHYR_PARSER_LIB may name another folder with the library, as an absolute path.
+cargo, it says so, tests nothing and fails, unless the variable SKIP_MISSING is set. SAPHYR_PARSER_LIB may name another
+folder with the library, as an absolute path.
 """
 import concurrent.futures
 import os
@@ -36,6 +37,13 @@ def fail(said):
     FAILED.append(said)
     if len(FAILED) <= 20:
         print(said)
+
+
+def without(tested, lacking):
+    """Says that this is not tested, since there are no such programs. Returns the status, which is 0 if that was asked
+    for."""
+    print(f"{tested}: not tested, since there is no {' and no '.join(lacking)}")
+    return 0 if os.environ.get("SKIP_MISSING") else 1
 
 
 def libraries():
@@ -214,8 +222,7 @@ def main():
     compiler = shutil.which("cc") or shutil.which("clang")
     lacking = [name for name, found in (("compiler of C", compiler), ("cargo", shutil.which("cargo"))) if not found]
     if lacking:
-        print(f"faces: not tested, since there is no {' and no '.join(lacking)}")
-        return 0
+        return without("faces", lacking)
     resource.setrlimit(resource.RLIMIT_CORE, (0, 0))
     os.environ["RUST_BACKTRACE"] = "0"
     cases = [case for file in sorted(os.listdir(DATA)) for case in cases_of(file)]

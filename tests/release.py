@@ -9,7 +9,8 @@ The examples of release/examples print the events of a small text: in C99 and C+
 on the faces, print what they say. The Python module is run over all cases (tests/release/python_module.py), and the
 pages are read (release_pages.py). The shared library exports the header's calls alone. The version is the same wherever
 it stands, and so is the address of the repository, if one is given. Where there is no compiler of C, the script says
-so, and tests nothing; what else is missing it says, and tests the rest.
+so, and tests nothing; what else is missing it says, and tests the rest. Without that compiler or cargo it fails, unless
+the variable SKIP_MISSING is set.
 """
 import json
 import os
@@ -20,7 +21,7 @@ import sys
 import tarfile
 import tempfile
 
-from faces import CRATE, libraries
+from faces import CRATE, libraries, without
 from refused_memory import ROOT, program
 from release_pages import block, files_below, read, wrong_links, wrong_manuals, wrong_words
 
@@ -363,8 +364,7 @@ def main():
         return 0 if sys.argv[1:] == ["--help"] else 2
     compiler = shutil.which("cc") or shutil.which("clang")
     if not compiler:
-        print("release: not tested, since there is no compiler of C")
-        return 0
+        return without("release", ["compiler of C"])
     os.environ.setdefault("CC", compiler)
     libraries()
     with tempfile.TemporaryDirectory() as folder:
@@ -389,7 +389,8 @@ def main():
                 check(release, tools)
     lacking = "".join(f"; there is no {name}" for name, tool in tools.items() if not tool)
     print(f"release: {len(release.built)} programs ({', '.join(release.built)}){lacking}; {len(FAILED)} faults")
-    return 1 if FAILED else 0
+    skipped = 0 if tools["cargo"] else without("the crate of the release", ["cargo"])
+    return 1 if FAILED else skipped
 
 
 if __name__ == "__main__":

@@ -1,29 +1,37 @@
 #!/usr/bin/env python3
 """Cuts the worked texts of more than 500 characters at each place, and puts five characters in at each place.
 
-    tests/shapes.py [PROGRAM]           # half a minute, after tests/faces.py
+    tests/shapes.py                     # a minute, after tests/faces.py
+    tests/shapes.py PROGRAM             # by that program
     tests/shapes.py --against PROGRAM   # by the Rust crate
 
 With their lists these texts are too long to be stored. But each of the five has a shape, such as 255 `[` and as many
 `]`. So a function says from the shape and the place what the list is: each event with its span, and the fault. It says
 why, and was written from the pages and the Rust crate's lists, never from what this parser prints.
 
-PROGRAM reads and prints as tests/faces/cases.c does. Without one that file is compiled, with the library that
-tests/faces.py takes. With --against it is the program over the Rust crate that tests/against_crate.py describes. No
-text here is one that docs/DIFFERENCES.md tells, so the crate has to give these lists too.
+`cases` of tests/faces reads each text whole, and `pieces` in pieces, with the library that tests/faces.py takes. The
+program `test_cases` reads it from a string, from an iterator and from a list with a window of eight, and takes the
+events in each way that it has. Or PROGRAM alone reads it, and prints as tests/faces/cases.c does. With --against that
+is the program over the Rust crate that tests/against_crate.py describes. No text here is one that docs/DIFFERENCES.md
+tells, so the crate has to give these lists too.
 """
 import concurrent.futures
 import os
 import re
+import subprocess
 import sys
 import tempfile
 
-from against_crate import DATA, cases, run
+import faces
+from against_crate import DATA, cases, escaped, run
+from refused_memory import program
 from spans import compiled, given
 
 NUL, MARK = "\0", "\ufeff"
 PUT_IN = (NUL, MARK, "\t", "\n", "]")
 MOST_OPEN, MOST_KEY, MOST_STORED = 255, 1024, 500
+PIECE = "64"  # bytes
+FILES = ("worked", "json", "layout", "hostile", "standard", "cuts")  # what the program test_cases reads
 END = -1  # The text's end, as a place.
 REFUSED = {
     NUL: "found unprintable character",
@@ -273,30 +281,50 @@ def differences(lists, texts, ask):
             yield f"{shown(text)!r}: {shown(line)!r}, and expected {shown(other)!r}"
 
 
-def compare(ask):
-    """Compares all lists, on all processors, and returns the status."""
-    lists, count = expected(), os.cpu_count() or 1
+def told(lists, texts):
+    """What the program test_cases says of the texts, which are its cases of `cuts`."""
+    with tempfile.TemporaryDirectory() as folder:
+        for name in FILES:
+            with open(f"{folder}/{name}.txt", "w", encoding="utf-8", newline="\n") as file:
+                for text in texts if name == "cuts" else ("",):
+                    listed = "\n".join(map(escaped, lists[text].split("\n")))
+                    file.write(f"= shape {escaped(shown(text))}\n< {escaped(text)}\n{listed}\n")
+        ran = subprocess.run([program("test_cases")], cwd=folder, capture_output=True, text=True)
+    said = ran.stdout.splitlines()
+    if not all(f"cuts, {subject}: {len(texts)} of {len(texts)}" in said for subject in ("events", "trees")):
+        yield from (it for it in said if it.startswith("shape "))
+        yield f"test_cases, status {ran.returncode}: not all agree {ran.stderr}"
+
+
+def compare(lists, judge):
+    """What is otherwise, of all lists, on all processors."""
+    count = os.cpu_count() or 1
     parts = [list(lists)[first::count] for first in range(count)]
     with concurrent.futures.ThreadPoolExecutor(count) as pool:
-        found = list(pool.map(lambda texts: list(differences(lists, texts, ask)), parts))
-    wrong = [it for part in found for it in part]
+        found = list(pool.map(lambda texts: list(judge(texts)), parts))
+    return [it for part in found for it in part]
+
+
+def main(words):
+    if len(words) > 2 or (len(words) == 2) != (words[:1] == ["--against"]):
+        sys.exit(__doc__)
+    lists = expected()
+    with tempfile.TemporaryDirectory() as folder:
+        if words[:1] == ["--against"]:
+            asked = [lambda texts: run(words[1], texts)]
+        elif words:
+            asked = [lambda texts: given(words[0], texts)]
+        elif whole := compiled(folder):
+            pieces = compiled(folder, "pieces")
+            asked = [lambda texts: given(whole, texts), lambda texts: given(pieces, texts, PIECE)]
+        else:
+            return faces.without("shapes", ["compiler of C"])
+        wrong = [it for ask in asked for it in compare(lists, lambda texts: differences(lists, texts, ask))]
+    wrong += [] if words else compare(lists, lambda texts: told(lists, texts))
     for it in wrong[:20]:
         print(it)
     print(f"{len(lists)} texts of {len(SHAPES)} shapes: {len(wrong)} are otherwise")
     return 1 if wrong else 0
-
-
-def main(words):
-    if words[:1] == ["--against"] and len(words) == 2:
-        return compare(lambda texts: run(words[1], texts))
-    if len(words) > 1 or words[:1] == ["--against"]:
-        sys.exit(__doc__)
-    with tempfile.TemporaryDirectory() as folder:
-        program = words[0] if words else compiled(folder)
-        if program:
-            return compare(lambda texts: given(program, texts))
-    print("shapes: not tested, since there is no compiler of C")
-    return 0
 
 
 if __name__ == "__main__":

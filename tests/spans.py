@@ -388,10 +388,10 @@ def unescaped(text):
     return ESCAPED.sub(lambda it: NAMED[it[1]], text)
 
 
-def given(program, texts):
-    """The lines of each text, by a program as tests/faces/cases.c is."""
+def given(program, texts, *words):
+    """The lines of each text, by a program as tests/faces/cases.c is, with such arguments."""
     framed = b"".join(b"0 %d\n" % len(it.encode()) + it.encode() for it in texts)
-    said = subprocess.run([program], input=framed, capture_output=True, check=True).stdout
+    said = subprocess.run([program, *words], input=framed, capture_output=True, check=True).stdout
     return [it.decode().rstrip("\n").split("\n") for it in said.split(b"\xff")[:-1]]
 
 
@@ -439,26 +439,25 @@ def check_cases():
     return wrong + [f"no case has this row: {ROWS[row]}" for row in ROWS if not counts[row]], counts
 
 
-def compiled(folder):
-    """The program `cases` of the C face, or None where there is no compiler of C."""
-    made, compiler = f"{folder}/cases", shutil.which("cc") or shutil.which("clang")
+def compiled(folder, name="cases"):
+    """A program of tests/faces over the C face, or None where there is no compiler of C."""
+    made, compiler = f"{folder}/{name}", shutil.which("cc") or shutil.which("clang")
     if compiler:
-        faces.call([compiler, *faces.HOW, f"{ROOT}/tests/faces/cases.c", *faces.libraries(), "-o", made], ROOT)
+        faces.call([compiler, *faces.HOW, f"{ROOT}/tests/faces/{name}.c", *faces.libraries(), "-o", made], ROOT)
     return made if compiler else None
 
 
 def main(words):
     with tempfile.TemporaryDirectory() as folder:
         program = words[0] if words else compiled(folder)
-        if not program:
-            print("spans: the examples are not tested, since there is no compiler of C")
+        skipped = 0 if program else faces.without("the examples of spans", ["compiler of C"])
         wrong = check_page(program)
     of_cases, counts = check_cases()
     wrong += of_cases
     for it in wrong[:20]:
         print(it)
     print(f"spans: {counts.total()} events of cases, each by its row of the page; {len(wrong)} wrong")
-    return 1 if wrong else 0
+    return 1 if wrong else skipped
 
 
 if __name__ == "__main__":

@@ -7,7 +7,8 @@ FOLDER is the suite's data (`yaml-test-suite`, the branch `data`): a folder for 
 of one, with `in.yaml`, `test.event` and, where the text is no YAML, `error`. Debian's source package
 `libyaml-pp-perl` has it in `test-suite/yaml-test-suite-data`. PROGRAM is the one that `rt run` leaves in
 `crates/dump_events/out`. The suite's lines tell more than ours, which is taken out before they are compared: the style
-of collections, the markers of documents, and the names of anchors, for which ours have numbers.
+of collections, the markers of documents, and the names of anchors, for which ours have numbers. The status is 1 where
+a case is otherwise.
 """
 
 import pathlib
@@ -70,9 +71,10 @@ def main(words):
         print(f"{kind}: {len(right[kind])} of {len(right[kind]) + len(wrong[kind])}")
         if wrong[kind]:
             print(f"  these {listed}: {' '.join(wrong[kind])}")
-    if not right["valid"]:
+    if not right["valid"] and not wrong["valid"]:
         sys.exit(f"{folder} has no cases")
+    return 1 if any(wrong.values()) else 0
 
 
 if __name__ == "__main__":
-    main(sys.argv[1:])
+    sys.exit(main(sys.argv[1:]))

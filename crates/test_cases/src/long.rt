@@ -3,6 +3,7 @@ ghost use Rattle.std.specs.Prelude.{◌≡◌, ◌++◌, IfOk, OnOk, option_map,
 ghost use Rattle.test_cases.specs.Long as long;
 ghost use Rattle.test_cases.specs.Long.{DeepBlockAgrees, DeepFlowAgrees, LongKeyAgrees, IsDumpOf, times};
 
+use crate::failing;
 use crate::inputs::{Comparison, compare_inputs};
 use crate::writing::{WHOLE, is_dumped};
 use saphyr_parser::{CloneInput, Parser};
@@ -76,7 +77,8 @@ fn is_dump_of(alloc: Global, text: &str, fault: Option<&str>, lines: &str) -> Re
         lines,
         fault,
     };
-    compare_inputs(alloc, text, &dumped)
+    compare_inputs(alloc, text, &dumped)?;
+    failing::compare(alloc, text, lines, fault)
 }
 
 // A piece, so many times, between two others.

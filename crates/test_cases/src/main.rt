@@ -21,6 +21,7 @@
 //! compared, as when out of memory.
 #![tactic(auto)]
 
+mod failing;
 mod findings;
 mod inputs;
 mod limits;

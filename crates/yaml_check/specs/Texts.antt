@@ -29,7 +29,7 @@ remark_text remark.FirstCharacter = codes "a text that begins with this characte
 remark_text remark.QuotesOpen = codes "these quotes are not closed, or a line in them is not indented"
 remark_text remark.QuotesEnd =
     codes "the quotes from here on end before that: is a comma, a colon or an escape missing?"
-remark_text remark.Escape = codes "this is no escape; in single quotes a backslash stands for itself"
+remark_text remark.Escape = codes "this is no character's escape; in single quotes a backslash stands for itself"
 remark_text remark.Tab = codes "indent with spaces: a tab is no indentation"
 remark_text remark.SequenceLine = codes "a sequence begins on a line of its own, below its key"
 remark_text remark.BracketColumn = codes "indent each line between brackets, and the closing one"
