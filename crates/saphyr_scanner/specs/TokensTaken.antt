@@ -220,8 +220,8 @@ pub record Surroundings : Type 0 where
 
 -- The span is the piece that is read. It begins with neither a blank nor a break, with `-`, `?` or `:` only where no
 -- blank, break or NUL follows, and with `|` or `>`, which begin a block scalar outside flow, only inside flow. It goes
--- on as far as it can: behind the blanks and breaks after it is what no plain scalar goes on with. Outside flow its later
--- lines are right of the column of the innermost open block collection; inside flow no tab is left of that.
+-- on as far as it can: behind the blanks and breaks after it is what no plain scalar goes on with. Outside flow its
+-- later lines are right of the column of the innermost open block collection; inside flow no tab is left of that.
 pub record IsPlainToken (in_flow : Bool) (indent : ℕ) (value : List ℕ) (span : Span) (s t : Cursor) : Type 0 where
   pub start : span.start ≡ s.mark
   pub begins : IsTrue (may_begin_plain (slice_index s.rest 0))

@@ -36,7 +36,7 @@ plain_on_line f i s t text end r le small =
     piece_on_line (IsPlainLine f i) s.mark r.piece (r.white ++ t.rest) (omega (arith, ends, more, last, le))
     (omega (arith, ends, more, last, small))
 
--- No line ends in the white space after it, so no column is told from.
+-- No line ends in the white space after it, so what ends it doesn't depend on a column.
 later_break : (c : ℕ) (cs : List ℕ) → ends_line c cs ≡ false → (is_break c || list_any is_break cs) ≡ true
     → list_any is_break cs ≡ true
 later_break c [] e h = grind arith
@@ -48,7 +48,8 @@ no_break_on_line m [] = λ _ _ e. absurd (false≢true e)
 no_break_on_line m (c ∷ cs) = by_test (ends_line c cs) (next_line m 1) (along m 1)
     (λ (k : Marker). (end_of_text k cs).line ≤ m.line → (end_of_text k cs).line < top
     → (is_break c || list_any is_break cs) ≡ true → ⊥)
-    (λ _ le small _. absurd (let more = (piece_later (next_line m 1) cs []).kept small in omega (arith, more, le, small)))
+    (λ _ le small _. let more = (piece_later (next_line m 1) cs []).kept small in
+    absurd (omega (arith, more, le, small)))
     (λ unbroken le small e. no_break_on_line (along m 1) cs le small (later_break c cs unbroken e))
 
 pub end_on_line : (f : Bool) (i j : ℕ) (s t : Cursor) (text : List ℕ) (end : Marker) (r : IsPlainReading f s text end t)

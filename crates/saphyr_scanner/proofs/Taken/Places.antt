@@ -54,9 +54,9 @@ plain_ends f s t text end r = grind (arith, or_false_right, piece_reached, uncut
 plain_reached : (f : Bool) (s t : Cursor) (text : List ℕ) (end : Marker) (r : IsPlainReading f s text end t)
     → IsFalse (is_blank_or_break (slice_index t.rest 0)) → Reaches s t
 plain_reached f s t text end r e =
+    let unbroken = or_false_right (is_blank (slice_index t.rest 0)) (is_break (slice_index t.rest 0)) e in
     let b : IsReached end (r.white ++ t.rest) (end_of_text end r.white) t.rest =
-    piece_reached end r.white t.rest
-    (uncut_behind r.white t.rest (or_false_right (is_blank (slice_index t.rest 0)) (is_break (slice_index t.rest 0)) e)) in
+    piece_reached end r.white t.rest (uncut_behind r.white t.rest unbroken) in
     reached_reached s.mark s.rest end (r.white ++ t.rest) t.mark t.rest (plain_ends f s t text end r) (rw r.behind at b)
 
 -- ## What a token takes
