@@ -86,6 +86,7 @@ BYTES = re.compile("(?:%[0-9a-fA-F]{2})+")
 NAMED_HANDLE = re.compile("![0-9A-Za-z_-]*!")
 SPACES = re.compile(" *")
 BLANKS = re.compile(r"[ \t]*")
+WHITE_SPACE = re.compile(r"[ \t\n\r]*")
 LINE_TAIL = re.compile(r"[ \t]*(?:(?<=[ \t])#[^\0\n\r\ufeff]*)?(?=[\0\n\r]|\Z)")
 VERSION = re.compile(r"%YAML[ \t]+[0-9]{1,9}\.[0-9]{1,9}")
 TAG = re.compile(r"%TAG[ \t]+")
@@ -410,8 +411,17 @@ class Search:
             there, is_apart = self.behind(there, there.index + 1), c in WHITE
             if not is_apart and following in BLANK_OR_BREAKZ + MARK + ":" + FLOW:
                 piece = self.text[place.index:there.index]
-                if self.may_stand(piece, context, following):
+                if self.may_stand(piece, context, following) and self.ends_plain(there, context, column):
                     yield plain_value(normalized(piece)), there
+
+    def ends_plain(self, place, context, column):
+        """Whether no plain scalar goes on behind the white space at a place (EndsPlain)."""
+        here = self.passed(place, WHITE_SPACE.match(self.text, place.index).end())
+        c, following, in_flow = self.at(here.index), self.at(here.index + 1), context == IN_FLOW
+        is_colon = c == ":" and (following in BLANK_OR_BREAKZ or in_flow and following in FLOW)
+        is_marker = here.col == 0 and self.is_document_indicator(here.index)
+        is_left = not in_flow and here.col <= column
+        return c in END + MARK + "#" or in_flow and c in FLOW or is_colon or is_marker or is_left
 
     def may_stand(self, piece, context, following):
         """Whether a piece has no indicator that ends it inside flow (IsSafeInFlow), or begins none outside."""

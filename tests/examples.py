@@ -7,7 +7,7 @@ Asks the definitions of YAML's grammar, as recognizer.py has them, and those of 
 has them. It takes a second and needs no program. A new definition has a row here that fails without it.
 
 An answer is the lines of its events, without those of the stream, and without those of the document if that is the only
-one and has no `---`.
+one and has no `---`. Of `NOT_FIRST` it is one document, which a fault may follow.
 """
 import sys
 import threading
@@ -188,6 +188,14 @@ WRONG = [
     ("&a x\n--- *a\n", "=VAL &1 :x / -DOC / +DOC --- / =ALI *1"),
 ]
 
+# A document that is not taken from the beginning of the text, whatever comes after it.
+NOT_FIRST = [
+    ("a b", "=VAL :a"),
+    ("a\n\tb", "=VAL :a"),
+    ("a, b", "=VAL :a"),
+    ("a:b", "=VAL :a"),
+]
+
 
 def lines_of(answer):
     """All lines of an answer."""
@@ -205,6 +213,12 @@ def is_taken(text, answer):
     return any(answers.events(parts) == lines_of(answer) for parts in answers.Search(text, 2, answers.OPEN).answers())
 
 
+def is_first(text, answer):
+    """The same of an answer's document, whatever comes after it."""
+    first = answers.Search(text, 2, answers.OPEN).first_documents()
+    return any(answers.events(parts) == lines_of(answer)[1:-1] for parts in first)
+
+
 def wrong_rows():
     for text, answer in RIGHT:
         shown = "".join(line.removesuffix(" ---") + "\n" for line in lines_of(answer))
@@ -216,11 +230,12 @@ def wrong_rows():
     yield from (f"{text!r} is left out by no exception" for text in EXCEPTIONS if not derived(text, frozenset()))
     yield from (f"{text!r} is left out by an exception" for text in REFUSED if derived(text, frozenset()))
     yield from (f"{answer!r} is taken from {text!r}" for text, answer in WRONG if is_taken(text, answer))
+    yield from (f"{answer!r} is first in {text!r}" for text, answer in NOT_FIRST if is_first(text, answer))
 
 
 def main():
-    wrong, left_out = list(wrong_rows()), EXCEPTIONS + REFUSED
-    print(*wrong, f"{len(RIGHT)} right answers, {len(left_out)} texts left out and {len(WRONG)} wrong answers: "
+    wrong, left_out, other = list(wrong_rows()), EXCEPTIONS + REFUSED, WRONG + NOT_FIRST
+    print(*wrong, f"{len(RIGHT)} right answers, {len(left_out)} texts left out and {len(other)} wrong answers: "
           f"{len(wrong)} are otherwise", sep="\n")
     return bool(wrong)
 

@@ -11,6 +11,7 @@ pub mod Words
 pub mod Spelled
 pub mod Indented
 pub mod GapsRead
+pub mod NoWordBehind
 pub mod WordsRead
 pub mod WordEnds
 pub mod LineEnds

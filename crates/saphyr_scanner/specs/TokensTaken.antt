@@ -23,7 +23,7 @@ use Rattle.saphyr_scalar.specs.Spelling.LaterLines.{ArePlainLines}
 use Rattle.saphyr_scalar.specs.Spelling.IndentedQuotes.{HasIndentedLines}
 use Rattle.saphyr_scalar.specs.Spelling.QuotedMarkers.{HasNoMarker}
 use Rattle.saphyr_scalar.specs.Spelling.Quoted.{IsQuotedText}
-use Rattle.saphyr_scalar.specs.Reading.Plain.{IsPlainReading}
+use Rattle.saphyr_scalar.specs.Reading.Plain.{IsPlainReading, IsPlainEnd}
 use Rattle.saphyr_scalar.specs.Reading.BlockText.{IsBlockText}
 use Rattle.saphyr_scalar.specs.Spelling.Tag.{AreIn, IsAnchorName, IsTagText, EndsTag}
 use Rattle.saphyr_scalar.specs.Spelling.Directive.{ReadDirective, version, tag_prefix, reserved, IsReadDirective, IsLineTail}
@@ -219,10 +219,9 @@ pub record Surroundings : Type 0 where
   pub ends_json : Bool
 
 -- The span is the piece that is read. It begins with neither a blank nor a break, with `-`, `?` or `:` only where no
--- blank, break or NUL follows, and with `|` or `>`, which begin a block scalar outside flow, only inside flow. Where
--- blanks and breaks after it are passed no break comes after those, so that none of two characters is cut. Outside
--- flow its later lines are right of the column of the innermost open block collection; inside flow no tab is left
--- of that.
+-- blank, break or NUL follows, and with `|` or `>`, which begin a block scalar outside flow, only inside flow. It goes
+-- on as far as it can: behind the blanks and breaks after it is what no plain scalar goes on with. Outside flow its
+-- later lines are right of the column of the innermost open block collection; inside flow no tab is left of that.
 pub record IsPlainToken (in_flow : Bool) (indent : ℕ) (value : List ℕ) (span : Span) (s t : Cursor) : Type 0 where
   pub start : span.start ≡ s.mark
   pub begins : IsTrue (may_begin_plain (slice_index s.rest 0))
@@ -231,7 +230,7 @@ pub record IsPlainToken (in_flow : Bool) (indent : ℕ) (value : List ℕ) (span
       → IsFalse (is_blank_or_breakz (slice_index s.rest 1))
   pub no_block_scalar : in_flow ≡ false → IsFalse (is_one_of (codes "|>") (slice_index s.rest 0))
   pub reading : IsPlainReading in_flow s value span.end t
-  pub uncut : (reading.white ≡ []) ⊎ IsFalse (is_break (slice_index t.rest 0))
+  pub stops : IsPlainEnd in_flow indent reading.white t
   pub lines : ArePlainLines in_flow indent reading.piece (reading.white ++ t.rest)
 
 abbrev pub block_indicator : BlockStyle → ℕ

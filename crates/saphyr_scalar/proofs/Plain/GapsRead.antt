@@ -1,5 +1,6 @@
 -- What is read as a gap of a plain scalar is the reading of a piece of the text.
-use Rattle.saphyr_scalar.proofs.Common.{◌≡◌, ℕ, zero, suc, ◌+◌, Bool, true, false, List, [], ◌∷◌, ◌++◌, length, take, drop, slice_index, Result, Ok, refl, sym, ap, ◌∙◌, arith, subst, IsTrue, cond, append_assoc, encode_utf8_all, ◌||◌, ◌&&◌, ◌==◌, nat_lt, if◌then◌else◌, prefix_len, false≢true, nat_tests, append-nil, take-append-drop, length-take-le, encode_ascii, is_blank, is_break, tab, line_feed, carriage_return, is_blank_or_break, Marker, Refusal, Cursor, along, next_line, pass, pass_break, by_test, or_false_left, prefix_len-le-length, blank_no_break}
+use Rattle.saphyr_scalar.proofs.Common.{◌≡◌, ℕ, zero, suc, ◌+◌, Bool, true, false, List, [], ◌∷◌, ◌++◌, length, take, drop, slice_index, Result, Ok, Err, refl, sym, ap, ◌∙◌, arith, subst, IsTrue, cond, append_assoc, encode_utf8_all, ◌||◌, ◌&&◌, ◌==◌, nat_lt, if◌then◌else◌, prefix_len, false≢true, nat_tests, append-nil, take-append-drop, length-take-le, encode_ascii, is_blank, is_break, tab, line_feed, carriage_return, is_blank_or_break, Marker, Refusal, Cursor, ◌>>=◌, along, next_line, pass, pass_break, by_test, and_true_left, or_left, or_right, run_ends, prefix_len-le-length, blank_no_break}
+use Rattle.std.specs.List.{list_any}
 use Rattle.saphyr_scalar.specs.Spelling.Tag.{AreIn}
 use Rattle.saphyr_scalar.specs.Steps.Quoted.{mid_line}
 use Rattle.saphyr_scalar.specs.Values.Folding.{folded, line_feeds, raw_break}
@@ -41,19 +42,16 @@ more_run P c cs rest m end k white none line r =
       later = (rw r.is at line, r.later);
     }
 
-other_no_feed : (c : ℕ) → is_blank_or_break c ≡ false → (c == line_feed) ≡ false
-other_no_feed = non_space_no_feed
-
 -- the lines after a word's line
 
 record LinesRun (i : ℕ) (xs : List ℕ) (m : Marker) (f : List ℕ) (g : PlainGap) : Type 0 where
   breaks : ℕ
-  stop : NoFeed g.behind.rest
+  stop : IsNonSpace (slice_index g.behind.rest 0)
   run : Run (IsLine i g.behind) xs g.behind.rest m g.behind.mark breaks
   text : g.text ≡ f ++ line_feeds breaks
 
-reached_run : (i : ℕ) (a : Marker) (t : Bool) (f : List ℕ) (m : Marker) (xs : List ℕ) (g : PlainGap) → NoFeed xs
-    → reached_gap a t f (line_front m xs) ≡ Ok g → LinesRun i xs m f g
+reached_run : (i : ℕ) (a : Marker) (t : Bool) (f : List ℕ) (m : Marker) (xs : List ℕ) (g : PlainGap)
+    → IsNonSpace (slice_index xs 0) → reached_gap a t f (line_front m xs) ≡ Ok g → LinesRun i xs m f g
 reached_run i a t f m xs g stop e = grind (arith, may_stand_same, no_run, append-nil)
 
 more_text : (b : Bool) (k : ℕ) (f text : List ℕ) → text ≡ (if b then f ++ line_feed ∷ [] else f) ++ line_feeds k
@@ -68,7 +66,8 @@ lines_more : (i : ℕ) (f : List ℕ) (m : Marker) (c : ℕ) (cs : List ℕ) (g 
 lines_more i f m c cs g white line r = record {
   breaks = if ends_line c cs then suc r.breaks else r.breaks;
   stop = r.stop;
-  run = more_run (IsLine i g.behind) c cs g.behind.rest m g.behind.mark r.breaks white r.stop line r.run;
+  run = more_run (IsLine i g.behind) c cs g.behind.rest m g.behind.mark r.breaks white
+      (non_space_no_feed (slice_index g.behind.rest 0) r.stop) line r.run;
   text = more_text (ends_line c cs) r.breaks f g.text r.text;
 }
 
@@ -82,7 +81,7 @@ lines_run i a t f m (c ∷ cs) g =
     (λ ends. line_begins i a t (if ends_line c cs then f ++ line_feed ∷ [] else f) m c cs g ends e)
     (lines_run i a (is_blank c && (t || ((c == tab) && nat_lt m.col i)))
     (if ends_line c cs then f ++ line_feed ∷ [] else f) (if ends_line c cs then next_line m 1 else along m 1) cs g e))
-    (λ other e. reached_run i a t f m (c ∷ cs) g (other_no_feed c other) e)
+    (λ other e. reached_run i a t f m (c ∷ cs) g other e)
 
 -- a break before them
 break_run : (P : List ℕ → Type 0) (s : Cursor) (rest : List ℕ) (end : Marker) (k : ℕ)
@@ -159,7 +158,8 @@ pub record GapReads (i : ℕ) (xs : List ℕ) (m : Marker) (g : PlainGap) : Type
   pub are : AreIn is_blank_or_break white
   pub is : xs ≡ white ++ g.behind.rest
   pub place : end_of_text m white ≡ g.behind.mark
-  pub stop : NoFeed g.behind.rest
+  pub stop : IsNonSpace (slice_index g.behind.rest 0)
+  pub broken : g.behind.blank_so_far ≡ true → list_any is_break white ≡ true
   pub value : List ℕ
   pub text : encode_utf8_all value ≡ g.text
   pub reads : (c : ℕ) (cs : List ℕ) → IsNonSpace c
@@ -203,7 +203,8 @@ blanks_read i xs m other =
       are = all_white v blank;
       is = sym (take-append-drop n xs);
       place = passed_blanks m v blank ∙ ap (along m) (prefix_take xs);
-      stop = or_false_left _ _ other;
+      stop = rw (run_ends is_blank xs refl, other) refl;
+      broken = λ e. absurd (false≢true e);
       value = v;
       text = refl;
       reads = λ c cs non_space. folded_blanks v c cs blank non_space;
@@ -211,6 +212,13 @@ blanks_read i xs m other =
     }
 
 -- breaks
+has_lines : (v : List ℕ) (k : ℕ) → line_count v ≡ suc k → list_any is_break v ≡ true
+has_lines [] k = λ e. absurd (cc)
+has_lines (c ∷ v) k = by_test (ends_line c v) (suc (line_count v)) (line_count v)
+    (λ n. n ≡ suc k → (is_break c || list_any is_break v) ≡ true)
+    (λ ends _. or_left (is_break c) (list_any is_break v) (and_true_left (is_break c) _ ends))
+    (λ _ e. or_right (is_break c) (list_any is_break v) (has_lines v k e))
+
 feeds_encode : (k : ℕ) → encode_utf8_all (line_feeds k) ≡ line_feeds k
 feeds_encode zero = refl
 feeds_encode (suc k) = cc (encode_ascii 10 (omega arith), feeds_encode k)
@@ -225,15 +233,17 @@ lines_read : (i : ℕ) (xs : List ℕ) (m : Marker) (g : PlainGap) (t : Cursor) 
 lines_read i xs m g t mark rest breaks line r =
     let P = IsLine i g.behind in
     let k = suc r.breaks in
-    let behind = break_run P t g.behind.rest g.behind.mark r.breaks breaks r.stop line r.run in
+    let no_feed = non_space_no_feed (slice_index g.behind.rest 0) r.stop in
+    let behind = break_run P t g.behind.rest g.behind.mark r.breaks breaks no_feed line r.run in
     let blanks = prefix_len is_blank xs in
-    let all = blanks_run P xs g.behind.rest m g.behind.mark k r.stop (rw mark (rw rest behind)) in
+    let all = blanks_run P xs g.behind.rest m g.behind.mark k no_feed (rw mark (rw rest behind)) in
     record {
       white = all.white;
       are = all.are;
       is = all.is;
       place = all.place;
       stop = r.stop;
+      broken = λ _. has_lines all.white r.breaks all.count;
       value = raw_break r.breaks;
       text = folded_text r.breaks g r.text;
       reads = λ c cs non_space. folded_breaks r.breaks all.white c cs all.are all.count non_space;
@@ -243,8 +253,18 @@ lines_read i xs m g t mark rest breaks line r =
 next_lines_read : (i : ℕ) (a : Marker) (xs : List ℕ) (m : Marker) (g : PlainGap) (t : Cursor)
     → along m (prefix_len is_blank xs) ≡ t.mark → drop (prefix_len is_blank xs) xs ≡ t.rest
     → is_break (slice_index t.rest 0) ≡ true → next_lines i a (pass_break t) ≡ Ok g → GapReads i xs m g
-next_lines_read i a xs m g t mark rest breaks =
-    grind (arith, lines_run, lines_is_line, break_to_start, same_gap, lines_read, no_refusal)
+next_lines_read i a xs m g t mark rest breaks = by (lines i a false [] there.mark there.rest) refl
+  where
+    there : Cursor
+    there = pass_break t
+
+    by : (r : Result PlainGap Refusal) → lines i a false [] there.mark there.rest ≡ r
+        → (r >>= λ h. Ok (spec.folded_gap h)) ≡ Ok g → GapReads i xs m g
+    by (Ok h) q e = subst (GapReads i xs m) (sym (same_gap (spec.folded_gap h) g e))
+        (lines_read i xs m h t mark rest breaks
+        (lines_is_line i a [] there.mark there.rest h (break_to_start t breaks) q)
+        (lines_run i a false [] there.mark there.rest h q))
+    by (Err r) q e = absurd (no_refusal r g e)
 
 pub gap_reads : (i : ℕ) (a : Marker) (xs : List ℕ) (m : Marker) (g : PlainGap) → gap i a (mid_line m xs) ≡ Ok g
     → GapReads i xs m g

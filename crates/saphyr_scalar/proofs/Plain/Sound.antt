@@ -5,7 +5,7 @@ use Rattle.std.proofs.lemmas.List.{length-drop}
 use Rattle.saphyr_scalar.specs.declared.scalar.fault.FaultText.TheVariants as fault
 use Rattle.saphyr_scalar.specs.Steps.Quoted.{mid_line}
 use Rattle.saphyr_scalar.specs.Steps.Plain.{is_in_word, word_starts, next_word_starts, PlainGap, gap, PlainScalarRead, with_text, scalar_end, word, plain}
-use Rattle.saphyr_scalar.specs.Reading.Plain.{IsPlainReading}
+use Rattle.saphyr_scalar.specs.Reading.Plain.{IsPlainReading, IsPlainEnd}
 use Rattle.saphyr_scalar.specs.Spelling.LaterLines.{ArePlainLines}
 use Rattle.saphyr_scalar.proofs.Plain.Words.{word_left, word_len_more, word_len}
 use Rattle.saphyr_scalar.proofs.Plain.Pieces.{plain_behind_gap, all_word, word_stops, word_over, goes_says, starts_says}
@@ -60,7 +60,7 @@ word_turn n f i a m xs hyp short goes begins x is = by_gap (gap i a (mid_line en
         → next_word_starts f i g.behind ≡ Ok (b, u)
         → with_text text (if b then with_text g.text (word f i a u.mark u.rest) else scalar_end f end g) ≡ Ok x → Goal
     by_goes g eq false u q e = subst (WordReads f i m xs) (same_reading _ x e)
-        (last_word f i m xs g goes begins (front_of f xs goes) (gap_reads i a left end g eq))
+        (last_word f i m xs g u goes begins (front_of f xs goes) q (gap_reads i a left end g eq))
     by_goes g eq true u q e =
         let says = goes_says f i true g.behind u q in
         let gone = gap_end i a (mid_line end left) g eq in
@@ -107,7 +107,7 @@ plain_begins f i s x is = by (word_starts f s) refl is
 
 pub plain_lines : (f : Bool) (i : ℕ) (s t : Cursor) (text : List ℕ) (end : Marker) (comment : Option Marker)
     → plain f i s ≡ Ok (text, end, comment, t)
-    → (r : IsPlainReading f s text end t) × ArePlainLines f i r.piece (r.white ++ t.rest)
+    → (r : IsPlainReading f s text end t) × ArePlainLines f i r.piece (r.white ++ t.rest) × IsPlainEnd f i r.white t
 plain_lines f i s t text end comment is =
     let x : Read = (text, end, comment, t) in
     let (u, q, e) = plain_begins f i s x is in
@@ -131,6 +131,7 @@ plain_lines f i s t text end comment is =
         behind = r.behind;
       },
       r.later,
+      r.stops,
     )
 
 pub plain_reads : (f : Bool) (i : ℕ) (s t : Cursor) (text : List ℕ) (end : Marker) (comment : Option Marker)

@@ -1,15 +1,16 @@
 -- A word of a plain scalar, and a gap before more words, are read as a piece of the text.
-use Rattle.std.proofs.Common.{◌≡◌, ℕ, suc, ◌+◌, ◌≤◌, Bool, true, false, List, [], ◌∷◌, ◌++◌, length, take, drop, slice_index, Option, sym, ap, ◌∙◌, arith, IsTrue, append_assoc, encode_utf8_all}
+use Rattle.std.proofs.Common.{◌≡◌, ℕ, suc, ◌+◌, ◌≤◌, Bool, true, false, List, [], ◌∷◌, ◌++◌, length, take, drop, slice_index, Option, Ok, sym, ap, ◌∙◌, arith, IsTrue, append_assoc, encode_utf8_all}
 use Rattle.saphyr_scalar.proofs.Common.{append-nil, take-append-drop, length-take-le, encodes-append, is_blank_or_break, Marker, Cursor, along, by_test}
 use Rattle.saphyr_scalar.specs.Spelling.Tag.{AreIn}
 use Rattle.saphyr_scalar.specs.Values.Folding.{folded}
-use Rattle.saphyr_scalar.specs.Steps.Plain.{is_in_word, comment_of, PlainGap}
-use Rattle.saphyr_scalar.specs.Reading.Plain.{end_of_text, IsSpelledPlain, IsSafeInFlow, ends_piece}
+use Rattle.saphyr_scalar.specs.Steps.Plain.{is_in_word, next_word_starts, comment_of, PlainGap}
+use Rattle.saphyr_scalar.specs.Reading.Plain.{end_of_text, IsSpelledPlain, IsSafeInFlow, IsPlainEnd, ends_piece}
 use Rattle.saphyr_scalar.proofs.Plain.Words.{word_left, word_len}
 use Rattle.saphyr_scalar.proofs.Plain.Pieces.{word_stops}
 use Rattle.saphyr_scalar.proofs.Plain.Spelled.{Begins, Closes, word_spelled, white_spelled, word_safe, white_safe, word_follows, word_closes}
 use Rattle.saphyr_scalar.proofs.Plain.Runs.{IsNonSpace, AreNonSpace, items_of, non_space_no_feed, folded_word, passed_append, passed_word}
 use Rattle.saphyr_scalar.proofs.Plain.GapsRead.{GapReads}
+use Rattle.saphyr_scalar.proofs.Plain.NoWordBehind.{no_word_behind}
 use Rattle.saphyr_scalar.proofs.Plain.Indented.{GoesOn, IsLine, later_append, later_non_space, later_weaken}
 use Rattle.saphyr_scalar.specs.Spelling.LaterLines.{IsPlainLine, ArePlainLines}
 
@@ -50,6 +51,7 @@ pub record WordReads (f : Bool) (i : ℕ) (m : Marker) (xs : List ℕ) (x : Read
   pub are : AreIn is_blank_or_break white
   pub behind : end_of_text x.1 white ≡ x.3.mark
   pub later : ArePlainLines f i (first ∷ others) (white ++ x.3.rest)
+  pub stops : IsPlainEnd f i white x.3
 
 -- the word at the front
 pub record Front (f : Bool) (xs : List ℕ) : Type 0 where
@@ -75,8 +77,9 @@ safe_word true xs y behind e = word_safe xs y behind
 safe_word false xs y behind e = absurd (cc)
 
 -- the last word
-pub last_word : (f : Bool) (i : ℕ) (m : Marker) (xs : List ℕ) (g : PlainGap) → is_in_word f xs ≡ true → Begins m xs
-    → Front f xs → (let n = word_len f xs in GapReads i (drop n xs) (along m n) g)
+pub last_word : (f : Bool) (i : ℕ) (m : Marker) (xs : List ℕ) (g : PlainGap) (u : Cursor) → is_in_word f xs ≡ true
+    → Begins m xs → Front f xs → next_word_starts f i g.behind ≡ Ok (false, u)
+    → (let n = word_len f xs in GapReads i (drop n xs) (along m n) g)
     → WordReads f i m xs (
       encode_utf8_all (take (word_len f xs) xs)
           ++ [],
@@ -84,7 +87,7 @@ pub last_word : (f : Bool) (i : ℕ) (m : Marker) (xs : List ℕ) (g : PlainGap)
       comment_of f g.tabbed g.behind,
       g.behind,
     )
-last_word f i m xs g goes begins w r =
+last_word f i m xs g u goes begins w stop r =
     let n = word_len f xs in
     let count : length (w.first ∷ w.others) ≡ n = sym (ap length w.is) ∙ length-take-le n xs (word_within f xs) in
     record {
@@ -107,6 +110,7 @@ last_word f i m xs g goes begins w r =
       are = r.are;
       behind = r.place;
       later = later_non_space (IsPlainLine f i) (w.first ∷ w.others) (r.white ++ g.behind.rest) w.non_space;
+      stops = no_word_behind f i r.white g.behind u stop r.stop r.broken;
     }
 
 -- a word, a gap and what is read after it
@@ -164,4 +168,5 @@ word_more f i m xs g x goes begins w on r b =
           (later_append (IsPlainLine f i) r.white next rest (rw b.is at
           (later_weaken (IsLine i g.behind) (IsPlainLine f i) (λ line is. is f on) r.white g.behind.rest r.later))
           b.later);
+      stops = b.stops;
     }

@@ -1,8 +1,9 @@
 -- What is read as a plain scalar (YAML 1.2.2, 7.3.3): a piece of the text, its reading, and what comes after it.
-use Rattle.std.specs.Prelude.{◌≡◌, ◌≢◌, ℕ, Bool, true, ◌||◌, ◌==◌, List, [], ◌∷◌, ◌++◌, slice_index, IsTrue, IsFalse, if◌then◌else◌, encode_utf8_all}
-use Rattle.saphyr_input.specs.Classes.{nul, byte_order_mark, is_blank_or_breakz, is_bom, is_flow}
+use Rattle.std.specs.Prelude.{◌≡◌, ◌≢◌, ◌<◌, ◌⊎◌, ℕ, Bool, true, false, ◌||◌, ◌==◌, List, [], ◌∷◌, ◌++◌, slice_index, IsTrue, IsFalse, if◌then◌else◌, encode_utf8_all}
+use Rattle.std.specs.List.{list_any}
+use Rattle.saphyr_input.specs.Classes.{nul, byte_order_mark, is_break, is_blank_or_breakz, is_bom, is_flow}
 use Rattle.saphyr_input.specs.Breaks.{normalized}
-use Rattle.saphyr_input.specs.Places.{is_blank_or_break, is_document_indicator}
+use Rattle.saphyr_input.specs.Places.{can_be_plain, is_blank_or_break, is_document_indicator}
 use Rattle.saphyr_input.specs.Indicators.{colon, number_sign}
 use Rattle.saphyr_scalar.specs.Spelling.Tag.{AreIn}
 use Rattle.saphyr_scalar.specs.declared.scalar.position.Marker.{Marker}
@@ -53,3 +54,14 @@ pub record IsPlainReading (in_flow : Bool) (s : Cursor) (text : List ℕ) (end :
   pub ends : end_of_text s.mark piece ≡ end
   pub are_white : AreIn is_blank_or_break white
   pub behind : end_of_text end white ≡ t.mark
+
+-- 7.3.3, 8.2: No plain scalar goes on at t, behind the white space after it. There is neither a blank nor a break, but
+-- NUL, the end or `#`; a byte order mark, inside flow a flow indicator, or a colon before a blank, a break, NUL or the
+-- end, or inside flow before a flow indicator; a document marker at a line's start; or, outside flow and behind a
+-- break, a column left of `indent`, the first column right of the innermost open block collection.
+abbrev pub IsPlainEnd : Bool → ℕ → List ℕ → Cursor → Type 0
+IsPlainEnd in_flow indent white t =
+    IsFalse (is_blank_or_break (slice_index t.rest 0))
+    × ((slice_index t.rest 0 ≡ nul) ⊎ (slice_index t.rest 0 ≡ number_sign) ⊎ IsFalse (can_be_plain in_flow t.rest)
+    ⊎ ((t.mark.col ≡ 0) × IsTrue (is_document_indicator t.rest))
+    ⊎ ((in_flow ≡ false) × IsTrue (list_any is_break white) × (t.mark.col < indent)))

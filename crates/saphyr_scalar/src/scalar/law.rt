@@ -12,7 +12,7 @@ ghost use Rattle.saphyr_scalar.specs.declared.scalar.position.Span.{Span};
 ghost use Rattle.saphyr_scalar.specs.declared.values.BlockStyle.{BlockStyle};
 ghost use Rattle.saphyr_scalar.specs.Passing.{IsPassed};
 ghost use Rattle.saphyr_scalar.specs.Reading.BlockText.{IsBlockText};
-ghost use Rattle.saphyr_scalar.specs.Reading.Plain.{IsPlainReading};
+ghost use Rattle.saphyr_scalar.specs.Reading.Plain.{IsPlainReading, IsPlainEnd};
 ghost use Rattle.saphyr_scalar.specs.RefusedInside.{IsRefusedInside};
 ghost use Rattle.saphyr_scalar.specs.Spelling.Directive.{ReadDirective, IsReadDirective, IsLineTail};
 ghost use Rattle.saphyr_scalar.specs.Spelling.IndentedQuotes.{HasIndentedLines};
@@ -52,7 +52,7 @@ pub fn spells_each_quoted()
 {}
 
 /// What is read as a plain scalar is the reading of a piece of the text that is spelled as one. Only blanks
-/// and breaks follow it, up to the place that is reached.
+/// and breaks follow it, up to the place that is reached, where no plain scalar goes on.
 ///
 /// Each later line begins with at least `indent` spaces, or has only blanks. Inside flow it may begin with
 /// fewer spaces, but not with fewer and a tab. The scalar begins with a character that is neither a blank
@@ -64,7 +64,8 @@ pub fn reads_plain_values()
     ensures lines { (in_flow : Bool) (indent : ℕ) (s t : Cursor) (text : List ℕ) (end : Marker)
         (comment : Option Marker) → plain in_flow indent s ≡ Ok (text, end, comment, t)
         → (reading : IsPlainReading in_flow s text end t)
-        × ArePlainLines in_flow indent reading.piece (reading.white ++ t.rest) }
+        × ArePlainLines in_flow indent reading.piece (reading.white ++ t.rest)
+        × IsPlainEnd in_flow indent reading.white t }
     ensures first { (in_flow : Bool) (indent : ℕ) (s t : Cursor) (text : List ℕ) (end : Marker)
         (comment : Option Marker) → plain in_flow indent s ≡ Ok (text, end, comment, t)
         → is_blank_or_break (slice_index s.rest 0) ≡ false }

@@ -4,6 +4,7 @@ use Rattle.saphyr_scanner.proofs.Common.{◌≡◌, ℕ, ◌+◌, ◌≤◌, ◌
 use Rattle.std.specs.Prelude.{slice_index, Option, encode_utf8_all}
 use Rattle.saphyr_scalar.specs.Values.Folding.{folded}
 use Rattle.saphyr_scalar.specs.Reading.BlockText.{IsBlockText}
+use Rattle.saphyr_scalar.specs.Reading.Plain.{IsPlainEnd}
 use Rattle.saphyr_scalar.specs.Spelling.QuotedMarkers.{HasNoMarker}
 use Rattle.saphyr_scalar.specs.Steps.Anchor as anchors
 use Rattle.saphyr_scalar.specs.Steps.Block as blocks
@@ -58,6 +59,7 @@ pub record TextLaws : Type 0 where
   pub plain : (in_flow : Bool) (indent : ℕ) (s t : Cursor) (text : List ℕ) (end : Marker) (comment : Option Marker)
       → words.plain in_flow indent s ≡ Ok (text, end, comment, t)
       → (r : IsPlainReading in_flow s text end t) × ArePlainLines in_flow indent r.piece (r.white ++ t.rest)
+      × IsPlainEnd in_flow indent r.white t
   pub quotes : (quote : Quote) (indent : ℕ) (s t : Cursor) (text : List ℕ) → slice_index s.rest 0 ≡ mark quote
       → quoted.quoted quote indent s ≡ Ok (text, t)
       → (items : List Item) × (is : IsQuotedText quote s.rest items t.rest) × (encode_utf8_all (folded items) ≡ text)

@@ -98,7 +98,7 @@ plain_does n c starts =
               no_indicator = starts.no_indicator;
               no_block_scalar = starts.no_block_scalar;
               reading = read.0;
-              uncut = inr ends.1;
+              stops = read.2;
               lines = read.1;
             }),
             taken.nothing x.3.mark x.3.rest,

@@ -1,7 +1,9 @@
 -- Scalars that end on the line where they begin have no later lines.
-use Rattle.std.proofs.Common.{◌≡◌, ℕ, ◌≤◌, ◌<◌, Bool, true, false, List, [], ◌∷◌, ◌++◌, length, drop, slice_index, refl, sym, ap, ◌∙◌, arith, IsTrue}
-use Rattle.saphyr_scanner.proofs.Common.{◌&&◌, ◌==◌, not, false≢true, is_break, by_test, and_true_left, and_false, Item, Quote, mark, Marker, IsPassed, nothing, character, line_break, end_of_text, IsPlainReading, HasIndentedLines, AreLaterLines, ArePlainLines, IsPlainLine, IsText, IsQuotedText, closed, itself, broken, two_quotes, escaped, numbered, escaped_break, stands_for_itself, Cursor, along, next_line, mark_no_break}
+use Rattle.std.proofs.Common.{◌≡◌, ℕ, ◌≤◌, ◌<◌, Bool, true, false, List, [], ◌∷◌, ◌++◌, length, drop, slice_index, refl, sym, ap, ◌∙◌, arith, inl, inr, IsTrue}
+use Rattle.saphyr_scanner.proofs.Common.{◌||◌, ◌&&◌, ◌==◌, not, false≢true, is_break, by_test, and_true_left, and_false, Item, Quote, mark, Marker, IsPassed, nothing, character, line_break, end_of_text, IsPlainReading, HasIndentedLines, AreLaterLines, ArePlainLines, IsPlainLine, IsText, IsQuotedText, closed, itself, broken, two_quotes, escaped, numbered, escaped_break, stands_for_itself, Cursor, along, next_line, mark_no_break}
 use Rattle.saphyr_scalar.specs.Spelling.LineBreaks.{break_len, ends_line}
+use Rattle.std.specs.List.{list_any}
+use Rattle.saphyr_scalar.specs.Reading.Plain.{IsPlainEnd}
 use Rattle.saphyr_scalar.proofs.Passings.{digits_passed, one_place}
 use Rattle.saphyr_scalar.proofs.Quoted.Spellings.{no_break_simple, no_break_digits}
 use Rattle.saphyr_scanner.proofs.Taken.Later.{top, piece_later, passed_later}
@@ -33,6 +35,43 @@ plain_on_line f i s t text end r le small =
     (piece_later end r.white t.rest).kept (omega (arith, last, small)) in
     piece_on_line (IsPlainLine f i) s.mark r.piece (r.white ++ t.rest) (omega (arith, ends, more, last, le))
     (omega (arith, ends, more, last, small))
+
+-- No line ends in the white space after it, so what ends it doesn't depend on a column.
+later_break : (c : ℕ) (cs : List ℕ) → ends_line c cs ≡ false → (is_break c || list_any is_break cs) ≡ true
+    → list_any is_break cs ≡ true
+later_break c [] e h = grind arith
+later_break c (d ∷ ds) e h = grind arith
+
+no_break_on_line : (m : Marker) (cs : List ℕ) → (end_of_text m cs).line ≤ m.line → (end_of_text m cs).line < top
+    → list_any is_break cs ≡ true → ⊥
+no_break_on_line m [] = λ _ _ e. absurd (false≢true e)
+no_break_on_line m (c ∷ cs) = by_test (ends_line c cs) (next_line m 1) (along m 1)
+    (λ (k : Marker). (end_of_text k cs).line ≤ m.line → (end_of_text k cs).line < top
+    → (is_break c || list_any is_break cs) ≡ true → ⊥)
+    (λ _ le small _. let more = (piece_later (next_line m 1) cs []).kept small in
+    absurd (omega (arith, more, le, small)))
+    (λ unbroken le small e. no_break_on_line (along m 1) cs le small (later_break c cs unbroken e))
+
+pub end_on_line : (f : Bool) (i j : ℕ) (s t : Cursor) (text : List ℕ) (end : Marker) (r : IsPlainReading f s text end t)
+    → t.mark.line ≤ s.mark.line → t.mark.line < top → IsPlainEnd f i r.white t → IsPlainEnd f j r.white t
+end_on_line f i j s t text end r le small = by
+  where
+    no_break : list_any is_break r.white ≡ true → ⊥
+    no_break =
+        let last : (end_of_text end r.white).line ≡ t.mark.line = ap (λ (m : Marker). m.line) r.behind in
+        let ends : (end_of_text s.mark r.piece).line ≡ end.line = ap (λ (m : Marker). m.line) r.ends in
+        let more : end.line ≤ (end_of_text end r.white).line =
+        (piece_later end r.white t.rest).kept (omega (arith, last, small)) in
+        let first : s.mark.line ≤ (end_of_text s.mark r.piece).line =
+        (piece_later s.mark r.piece []).kept (omega (arith, last, more, ends, small)) in
+        no_break_on_line end r.white (omega (arith, last, ends, first, le)) (omega (arith, last, small))
+
+    by : IsPlainEnd f i r.white t → IsPlainEnd f j r.white t
+    by (n, inl z) = (n, inl z)
+    by (n, inr (inl z)) = (n, inr (inl z))
+    by (n, inr (inr (inl z))) = (n, inr (inr (inl z)))
+    by (n, inr (inr (inr (inl z)))) = (n, inr (inr (inr (inl z))))
+    by (n, inr (inr (inr (inr z)))) = absurd (no_break z.1)
 
 -- where a quoted scalar ends, and that it has no later lines if that is on its line
 record OnLine (k : ℕ) (q : Quote) (t : List ℕ) (items : List Item) (x : List ℕ) (is : IsText q t items x) (m : Marker) :

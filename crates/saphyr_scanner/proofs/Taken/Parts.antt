@@ -13,7 +13,7 @@ use Rattle.saphyr_scanner.proofs.Leads.{flat, place_pieces}
 use Rattle.saphyr_scanner.proofs.Queues.{flat_append, place_with_front}
 use Rattle.saphyr_scanner.proofs.Taken.Later.{top, apart_later}
 use Rattle.saphyr_scanner.proofs.Taken.Places.{token_later, tokens_later}
-use Rattle.saphyr_scanner.proofs.Taken.OnLine.{plain_on_line, quoted_on_line}
+use Rattle.saphyr_scanner.proofs.Taken.OnLine.{plain_on_line, end_on_line, quoted_on_line}
 use Rattle.saphyr_scanner.proofs.Taken.InPlace.{deeper, AreInside, inside_first, inside_rest}
 use Rattle.saphyr_scanner.proofs.Taken.KeysInPlace.{no_text}
 pub use Rattle.saphyr_scanner.proofs.Taken.InPlace.{is_quiet, AreQuiet}
@@ -72,7 +72,7 @@ quiet_token f b i j (tokens.Scalar style.Plain value) span s t q w le small h = 
   no_indicator = h.no_indicator;
   no_block_scalar = h.no_block_scalar;
   reading = h.reading;
-  uncut = h.uncut;
+  stops = end_on_line f i j s t value span.end h.reading le small h.stops;
   lines = plain_on_line f j s t value span.end h.reading le small;
 }
 quiet_token f b i j (tokens.Scalar style.SingleQuoted value) span s t q w le small h =

@@ -1,5 +1,5 @@
 -- Each token of a text leads from a place of it to a later one, and begins and ends at places of it.
-use Rattle.saphyr_scanner.proofs.Common.{◌≡◌, ℕ, Bool, ◌⊎◌, true, false, List, [], ◌∷◌, ◌++◌, IsFalse, refl, sym, ap, arith, subst, inl, inr, slice_index, is_break, Marker, Span, BlockStyle, Quote, Single, Double, Cursor, start_cursor, version, tag_prefix, reserved, end_of_text, IsPlainReading, NoBreaks, directive_no_break, Piece, or_false_right}
+use Rattle.saphyr_scanner.proofs.Common.{◌≡◌, ℕ, Bool, ◌⊎◌, true, false, List, [], ◌∷◌, ◌++◌, IsFalse, refl, sym, ap, arith, subst, inl, inr, slice_index, is_blank, is_break, is_blank_or_break, Marker, Span, BlockStyle, Quote, Single, Double, Cursor, start_cursor, version, tag_prefix, reserved, end_of_text, IsPlainReading, NoBreaks, directive_no_break, Piece, or_false_right}
 use Rattle.saphyr_scalar.specs.declared.scalar.style.ScalarStyle.TheVariants as style
 use Rattle.saphyr_scalar.specs.declared.values.BlockStyle.TheVariants as block_style
 use Rattle.saphyr_scanner.specs.Grammar.Tokens as tokens
@@ -10,7 +10,7 @@ use Rattle.saphyr_scanner.specs.TokensTaken.{Collections, Surroundings, surround
 use Rattle.saphyr_scanner.proofs.Taken.JsonEnds.{LeavesBrackets, LeavesBoth, GoesOn, plain_goes_on, span_goes_on, empty, bare}
 use Rattle.saphyr_scanner.proofs.Taken.Later.{LaterThan, reached_later}
 use Rattle.saphyr_scanner.proofs.LineTexts.{name_no_break, tag_no_break, tail_no_break}
-use Rattle.saphyr_scanner.proofs.Reached.{reached_reached, reached_counted, along_reached, apart_reached, passed_reached, piece_reached, Uncut, uncut_no_break, uncut_behind}
+use Rattle.saphyr_scanner.proofs.Reached.{reached_reached, reached_counted, along_reached, apart_reached, passed_reached, piece_reached, uncut_no_break, uncut_behind}
 
 abbrev pub Reaches : Cursor → Cursor → Type 0
 Reaches s t = IsReached s.mark s.rest t.mark t.rest
@@ -52,15 +52,12 @@ plain_ends : (f : Bool) (s t : Cursor) (text : List ℕ) (end : Marker) (r : IsP
 plain_ends f s t text end r = grind (arith, or_false_right, piece_reached, uncut_no_break)
 
 plain_reached : (f : Bool) (s t : Cursor) (text : List ℕ) (end : Marker) (r : IsPlainReading f s text end t)
-    → ((r.white ≡ []) ⊎ IsFalse (is_break (slice_index t.rest 0))) → Reaches s t
+    → IsFalse (is_blank_or_break (slice_index t.rest 0)) → Reaches s t
 plain_reached f s t text end r e =
+    let unbroken = or_false_right (is_blank (slice_index t.rest 0)) (is_break (slice_index t.rest 0)) e in
     let b : IsReached end (r.white ++ t.rest) (end_of_text end r.white) t.rest =
-    piece_reached end r.white t.rest (whole e) in
+    piece_reached end r.white t.rest (uncut_behind r.white t.rest unbroken) in
     reached_reached s.mark s.rest end (r.white ++ t.rest) t.mark t.rest (plain_ends f s t text end r) (rw r.behind at b)
-  where
-    whole : ((r.white ≡ []) ⊎ IsFalse (is_break (slice_index t.rest 0))) → Uncut r.white t.rest
-    whole (inl f) = let P : List ℕ → Type 0 = λ l. Uncut l t.rest in subst P (sym f) tt
-    whole (inr f) = uncut_behind r.white t.rest f
 
 -- ## What a token takes
 
@@ -113,7 +110,7 @@ indicator c span s t e h = character c span s t e h.0 (here_at s span.start h.1)
 plain : {i : Surroundings} {kind : Kind} (value : List ℕ) (span : Span) (s t : Cursor)
     → IsPlainToken i.in_flow i.indent value span s t → Takes i kind span s t
 plain {i} value span s t h = record {
-  reaches = plain_reached i.in_flow s t value span.end h.reading h.uncut;
+  reaches = plain_reached i.in_flow s t value span.end h.reading h.stops.0;
   start = here_at s span.start h.start;
   end = at_reached s span.end (h.reading.white ++ t.rest) (plain_ends i.in_flow s t value span.end h.reading);
   goes_on = inl (plain_goes_on i.in_flow s t value span.end h.reading);
