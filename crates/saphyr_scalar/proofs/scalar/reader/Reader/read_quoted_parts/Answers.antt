@@ -13,7 +13,7 @@ returns g c =
     let text = string_bytes c.read_quoted_word.new.text in
     let quote : slice_index here.rest 0 ≡ flow.mark a.quote = sym c.in_ok-c.ensures.next ∙ c.if-c-mark.true
     ∙ c.mark.ensures in
-    sym (c.in_ok-c.ensures.same a.indent ∙ c.loop-text.invariant.same)
+    sym (c.in_ok-c.ensures.same a.indent ∙ c.loop-c.invariant.same)
     ∙ quote_closes a.quote a.indent a.start text here c.in_ok-c.ensures.ended quote
     ∙ ap (λ s. let r : spec.TextRead = Ok (text, s) in r) (sym c.skip_non_blank.ensures)
 
@@ -31,12 +31,12 @@ read_quoted_gap-requires-clause-open g c =
     other c.args.quote c.in_ok-c.c (cursor_of c.read_quoted_word.new.self) c.in_ok-c.ensures.next
     (λ is. c.if-c-mark.false (is ∙ sym c.mark.ensures))
 
-pub loop-text-smaller : goal.loop-text-smaller
-loop-text-smaller g c = omega (arith, c.in_ok-next.ensures.shorter, c.in_ok-c.ensures.shorter)
+pub loop-c-smaller : goal.loop-c-smaller
+loop-c-smaller g c = omega (arith, c.in_ok-next.ensures.shorter, c.in_ok-c.ensures.shorter)
 
-pub loop-text-preserved : goal.loop-text-preserved
-loop-text-preserved g c = record {
-  same = c.in_ok-next.ensures.same ∙ c.in_ok-c.ensures.same c.args.indent ∙ c.loop-text.invariant.same;
+pub loop-c-preserved : goal.loop-c-preserved
+loop-c-preserved g c = record {
+  same = c.in_ok-next.ensures.same ∙ c.in_ok-c.ensures.same c.args.indent ∙ c.loop-c.invariant.same;
   next = c.in_ok-next.ensures.next;
   loaded = c.in_ok-next.ensures.loaded;
 }
@@ -44,16 +44,16 @@ loop-text-preserved g c = record {
 pub returns-in_err-c : goal.returns-in_err-c
 returns-in_err-c g c =
     moves_failed _ _ _ _ _ c.from_residual.ensures.1 (c.in_err-c.ensures.same c.args.indent)
-    (λ r h. sym c.loop-text.invariant.same ∙ h)
+    (λ r h. sym c.loop-c.invariant.same ∙ h)
 
 pub skip_non_blank-requires : goal.skip_non_blank-requires
 skip_non_blank-requires g c =
     quote_left c.args.quote (cursor_of c.read_quoted_word.new.self)
     (sym c.in_ok-c.ensures.next ∙ c.if-c-mark.true ∙ c.mark.ensures)
 
-pub loop-text-init : goal.loop-text-init
-loop-text-init g c = record {
-  same = ap (λ (s : Cursor). spec.with_front (string_bytes c.args.text)
+pub loop-c-init : goal.loop-c-init
+loop-c-init g c = record {
+  same = ap (λ (s : Cursor). spec.with_front (string_bytes c.args.text.now)
       (spec.inner_text_at c.args.quote c.args.indent c.args.start spec.no_gap s)) c.look-next.ensures.same;
   next = c.look-next.ensures.value ∙ sym (ap (λ (s : Cursor). slice_index s.rest 0) c.look-next.ensures.same);
   loaded = c.look-next.ensures.loaded;

@@ -2,8 +2,8 @@ use Rattle.saphyr_scalar.proofs.Common.{◌≡◌, ◌≤◌, length, slice_inde
 use Rattle.saphyr_scalar.specs.Steps.Quoted.{with_front, inner_text_at, no_gap}
 use Rattle.saphyr_scalar.proofs.scalar.reader.Reader.read_quoted_parts.Given as goal
 
-abbrev pub invariant-loop-text : goal.invariant-loop-text
-invariant-loop-text g l = record {
+abbrev pub invariant-loop-c : goal.invariant-loop-c
+invariant-loop-c g l = record {
   same : with_front (string_bytes l.text) (inner_text_at l.fn.quote l.fn.indent l.fn.start no_gap (cursor_of l.self))
       ≡ with_front (string_bytes l.fn.text)
       (inner_text_at l.fn.quote l.fn.indent l.fn.start no_gap (cursor_of l.fn.self));
@@ -11,5 +11,5 @@ invariant-loop-text g l = record {
   loaded : 1 ≤ loaded l.self;
 }
 
-abbrev pub decreases-loop-text : goal.decreases-loop-text
-decreases-loop-text g l = length (cursor_of l.self).rest
+abbrev pub decreases-loop-c : goal.decreases-loop-c
+decreases-loop-c g l = length (cursor_of l.self).rest
