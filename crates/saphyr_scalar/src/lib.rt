@@ -5,6 +5,6 @@ pub mod scalar;
 pub mod values;
 
 pub use scalar::{
-    BlockScalar, Directive, DirectiveLine, FaultText, Marker, PlainEnd, PlainScalar, Reader,
-    Refusal, ScalarStyle, ScanError, Span, Spare, Stop, TagParts, error_of_refusal,
+    BlockScalar, Directive, DirectiveLine, FaultText, Marker, PlainEnd, Reader, Refusal,
+    ScalarStyle, ScanError, Span, Spare, Stop, TagParts, error_of_refusal,
 };

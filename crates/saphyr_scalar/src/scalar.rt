@@ -25,7 +25,7 @@ pub use law::{
     reads_block_texts, reads_plain_values, refuses_inside, spells_each_directive,
     spells_each_property, spells_each_quoted, takes_characters,
 };
-pub use plain::{PlainEnd, PlainScalar};
+pub use plain::PlainEnd;
 pub use position::{Marker, Span};
 pub use reader::Reader;
 pub use spare::Spare;

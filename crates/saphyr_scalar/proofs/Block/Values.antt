@@ -218,6 +218,9 @@ value_broken st c i above k content others e plain some =
     ap (λ text. value_behind st c i above k text e) (sym (append_assoc (spaces i) content (10 ∷ others)))
     ∙ rw (f.ended, f.last, line_content i content some, append_assoc, append_assoc) refl
 
+-- A character at a line's start, and the rest of its line, with all lines below: their value behind what is above is
+-- the break before the line, the character and the value of the rest. The rest ends the scalar (`inl`), or has other
+-- lines below it (`inr`).
 content_line_read : (st : BlockStyle) (c : Chomping) (i : ℕ) (more : Bool) (k x : ℕ) (cs : List ℕ) (r : LinesRead)
     → is_yaml_non_break x ≡ true → LineRead st c i (is_blank x) cs r
     → BetweenRead st c i more k i (x ∷ cs) (lines_behind_text (break_before st (Some more) k (is_blank x) ++ x ∷ []) r)

@@ -105,6 +105,8 @@ broken_lines i x others plain some =
       ap last_line whole ∙ f.last,
     )
 
+-- The same of the first line with content. No text is above it, so the value is that of the whole scalar: a line feed
+-- for each empty line before it, and then the line.
 begin_first : (st : BlockStyle) (c : Chomping) (i k x : ℕ) (cs : List ℕ) (r : LinesRead) → is_yaml_non_break x ≡ true
     → LineRead st c i (is_blank x) cs r
     → FirstRead st c i k i (x ∷ cs) (lines_behind_text (line_feeds k) (lines_behind_text (x ∷ []) r))

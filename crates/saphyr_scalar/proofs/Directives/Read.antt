@@ -80,6 +80,8 @@ version_line m major minor t tail x (gap, high, low, blanks, first, second, e) i
     (ends_at (slice_index z 0) (tail_first tail x is_tail ends)).no_digit) (line_read m (along a n) tail x is_tail ends)
     ∙ line_place (version major minor) m (along a n) (length t) tail x (along_three m 1 4 n (length t) len)
 
+-- A line that is spelled as a tag directive is read as one. It is parted into `%TAG`, the value and the end of the
+-- line, each read by a lemma of its own. Then the lengths of the parts are added up to the place behind the line.
 tag_line : (m : Marker) (h p t tail x : List ℕ) → IsTagDirective h p t → IsLineTail tail
     → is_breakz (slice_index x 0) ≡ true
     → directive (mid_line m (t ++ (tail ++ x)))

@@ -80,6 +80,8 @@ then_prefix start h r = r >>= λ x. behind_prefix start h x
 handle_first : (h y : List ℕ) → IsHandleText h → is_blank (slice_index (h ++ y) 0) ≡ false
 handle_first h y k = grind arith
 
+-- The value of a tag directive is read part by part: blanks, a handle, blanks, a prefix. Each equation passes one
+-- part, which ends at the first character of the next.
 pub tag_read : (start m : Marker) (first h second p t y : List ℕ) → AreSomeBlanks first → IsHandleText h
     → AreSomeBlanks second
     → IsPrefix p t → is_blank_or_breakz (slice_index y 0) ≡ true

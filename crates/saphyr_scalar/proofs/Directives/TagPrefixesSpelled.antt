@@ -32,6 +32,8 @@ OfHandle m xs x = HandleOf m xs x.0 x.1
 both_fail : (a b : Bool) → a ≡ false → b ≡ false → (a || b) ≡ false
 both_fail a b p q = grind arith
 
+-- What was read behind a first `!` is the rest of a handle. The character behind the word tells which: another `!`
+-- ends a named handle, and without one the word has to be empty.
 word_spelled : (start m : Marker) (ys text : List ℕ) (u : Cursor)
     → handle_behind_word start (with_run is_alpha [] (mid_line (along m 1) ys)) ≡ Ok (text, u)
     → HandleOf m (exclamation_mark ∷ ys) text u
@@ -90,6 +92,8 @@ pub record PrefixOf (m : Marker) (xs text : List ℕ) (u : Cursor) : Type 0 wher
   pub rest : xs ≡ written ++ u.rest
   pub place : u ≡ mid_line (along m (length written)) u.rest
 
+-- A prefix that was read is spelled as one: a first character of the smaller set, and others. The two steps of the
+-- reading are taken apart, and their pieces of the text put behind each other.
 prefix_spelled : (start m : Marker) (xs text : List ℕ) (u : Cursor) → prefix start (mid_line m xs) ≡ Ok (text, u)
     → PrefixOf m xs text u
 unfolding prefix
@@ -154,6 +158,9 @@ first_of : (set : ℕ → Bool) (xs more : List ℕ) → set 0 ≡ false → set
 first_of set [] more none h = none
 first_of set (c ∷ cs) more none h = h
 
+-- What was read as the value of a tag directive is spelled as one. Its steps are taken apart: the handle and the
+-- prefix are known by their own lemmas, and the blanks before them are runs. The first run is not empty, since the
+-- directive's name ends where it begins.
 pub tag_spelled : (start m : Marker) (xs : List ℕ) (d : ReadDirective) (u : Cursor)
     → is_blank_or_breakz (slice_index xs 0) ≡ true → tag_directive start (mid_line m xs) ≡ Ok (d, u) → TagOf d m xs u
 unfolding tag_directive

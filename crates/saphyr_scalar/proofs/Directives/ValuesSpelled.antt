@@ -34,6 +34,7 @@ version_value d k zs u is =
       is = subst (λ (e : ReadDirective). IsReadDirective e (37 ∷ (codes "YAML" ++ more))) is.says spelled;
     }
 
+-- The four parts of a tag directive's value are one piece of the text behind the name, as long as the parts together.
 tag_value : (d : ReadDirective) (k : Marker) (zs : List ℕ) (u : Cursor) → TagOf d k zs u
     → ValueOf d k (codes "TAG") zs u
 tag_value d k zs u is =

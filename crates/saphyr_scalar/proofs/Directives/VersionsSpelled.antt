@@ -77,6 +77,9 @@ pub record VersionOf (d : ReadDirective) (m : Marker) (xs : List ℕ) (u : Curso
   pub text : xs ≡ gap ++ (high ++ (full_stop ∷ (low ++ u.rest)))
   pub place : u ≡ mid_line (along m (length gap + length high + 1 + length low)) u.rest
 
+-- What was read as a version is spelled as one: blanks, digits, a full stop, digits. The steps of the reading are
+-- taken apart, and both numbers are known by `digits_spelled`. The blanks are some, since the directive's name ends
+-- where they begin.
 pub version_spelled : (start m : Marker) (xs : List ℕ) (d : ReadDirective) (u : Cursor)
     → is_blank_or_breakz (slice_index xs 0) ≡ true → version_directive start (mid_line m xs) ≡ Ok (d, u)
     → VersionOf d m xs u

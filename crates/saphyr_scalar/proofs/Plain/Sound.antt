@@ -28,6 +28,9 @@ abbrev Hypothesis : ℕ → Bool → ℕ → Marker → Type 0
 Hypothesis n f i a = (m : Marker) (xs : List ℕ) → length xs ≤ n → is_in_word f xs ≡ true → Begins m xs → (x : Read)
     → word f i a m xs ≡ Ok x → WordReads f i m xs x
 
+-- A word of a plain scalar and all behind it, if this is known of shorter texts. All characters of the word are taken
+-- at once. Behind them the scalar ends, or a gap follows, and then a word of a shorter text. The cases are those of
+-- the reading: of the gap (`by_gap`), and of the question whether a word follows (`by_answer`, `by_goes`).
 word_turn : (n : ℕ) (f : Bool) (i : ℕ) (a m : Marker) (xs : List ℕ) → Hypothesis n f i a → length xs ≤ suc n
     → is_in_word f xs ≡ true → Begins m xs → (x : Read) → word f i a m xs ≡ Ok x → WordReads f i m xs x
 word_turn n f i a m xs hyp short goes begins x is = by_gap (gap i a (mid_line end left)) refl
@@ -105,6 +108,8 @@ plain_begins f i s x is = by (word_starts f s) refl is
     by (Ok (false, u)) q e = absurd (no_reading _ x e)
     by (Err r) q e = absurd (no_reading r x e)
 
+-- What was read as a plain scalar is the reading of a piece of the text, and its later lines are indented. All of it
+-- is known from the first word on (`word_reads`).
 pub plain_lines : (f : Bool) (i : ℕ) (s t : Cursor) (text : List ℕ) (end : Marker) (comment : Option Marker)
     → plain f i s ≡ Ok (text, end, comment, t)
     → (r : IsPlainReading f s text end t) × ArePlainLines f i r.piece (r.white ++ t.rest) × IsPlainEnd f i r.white t

@@ -49,6 +49,8 @@ pub escape_of_byte : (b : ℕ) (m : Marker) (xs : List ℕ) (u : Cursor) (is : B
     → IsByteEscape b (percent_sign ∷ is.high ∷ is.low ∷ [])
 escape_of_byte b m xs u is = (is.high, is.low, hex_is is.high is.is_high, hex_is is.low is.is_low, is.value, refl)
 
+-- The trailing bytes that were read are escaped one behind the other. By induction on how many are left: the first is
+-- an escape of three characters, and the others are read from behind it.
 pub trailing_spelled : (start m : Marker) (n v : ℕ) (xs : List ℕ) (w : ℕ) (u : Cursor)
     → trailing_bytes start n v (mid_line m xs) ≡ Ok (w, u) → TrailingOf n v w m xs u
 unfolding trailing_bytes

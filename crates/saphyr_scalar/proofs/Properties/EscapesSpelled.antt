@@ -34,6 +34,8 @@ pub record EscapeOf (c : ℕ) (m : Marker) (xs : List ℕ) (u : Cursor) : Type 0
   pub text : xs ≡ piece ++ u.rest
   pub place : u ≡ mid_line (along m (length piece)) u.rest
 
+-- A character that was read by its bytes is spelled by the escapes of exactly its UTF-8. The first byte tells how many
+-- others there are. Since the character is encoded in so many bytes, only these bytes give it (`bytes_unique`).
 pub escape_spelled : (start m : Marker) (xs : List ℕ) (c : ℕ) (u : Cursor)
     → percent_escape start (mid_line m xs) ≡ Ok (c, u) → EscapeOf c m xs u
 unfolding percent_escape
@@ -120,6 +122,8 @@ pub record OneMore (set : UriSet) (start m : Marker) (xs text : List ℕ) (t : C
   pub next : decoded_characters set start 0 (along m (length first.piece)) here.rest ≡ Ok (others, t)
   pub bytes : encode_utf8 c ++ others ≡ text
 
+-- The first of the characters that were read, and those behind it. The two steps of the reading are taken apart, and
+-- the second begins behind the spelling of the first.
 one_character : (set : UriSet) (start m : Marker) (xs text : List ℕ) (t : Cursor)
     → is_in_set set (slice_index xs 0) ≡ true
     → decoded_characters set start 0 m xs ≡ Ok (text, t) → OneMore set start m xs text t

@@ -72,6 +72,8 @@ escape_passed start m (d ∷ ds) x e =
     subst (λ u. IsPassed m (92 ∷ d ∷ ds) x.1.mark u) rest
     ((escape_spelled start m d ds x.0 x.1 e).passes x.1.mark x.1.rest (nothing x.1.mark x.1.rest))
 
+-- An escape, or two single quotes, is passed, or it is refused at the scalar's start. Where neither is read, the
+-- character is the closing quote, or a backslash with a break behind it.
 special_passes : (q : Quote) (start m : Marker) (c : ℕ) (cs : List ℕ) → IsQuotedContent c → is_literal q c ≡ false
     → SpecialPasses q start m c cs (special q start (mid_line m (c ∷ cs)))
 unfolding special
@@ -121,6 +123,9 @@ one_break s m t p e =
 behind_break : (c : ℕ) (cs : List ℕ) → drop (break_len (c ∷ cs)) (c ∷ cs) ≡ drop (pred (break_len (c ∷ cs))) cs
 behind_break c cs = grind arith
 
+-- What is refused inside a quoted scalar is refused at its start or at a place inside it. The proof goes through the
+-- text as `inner_text` does, with `p`: all before the character was passed. So a blank or a gap is at such a place,
+-- and behind an escape or a break there is another one.
 inside_refused : (q : Quote) (indent : ℕ) (s : Cursor) (gap : QuotedGap) (k : ℕ) (m : Marker) (t : List ℕ)
     → IsPassed s.mark s.rest m (drop k t) → Refused (IsRefusedInside s) (inner_text q indent s.mark gap k m t)
 unfolding inner_text

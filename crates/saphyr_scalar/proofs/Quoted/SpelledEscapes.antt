@@ -44,6 +44,8 @@ record Digits (v n : ℕ) (m : Marker) (xs : List ℕ) (w : ℕ) (s : Cursor) : 
   value : spelling.hexadecimal_from v ds ≡ w
   passes : (n : Marker) (u : List ℕ) → IsPassed s.mark s.rest n u → IsPassed m xs n u
 
+-- Hexadecimal digits that were read are the first characters, as many as were asked for, and spell the number. By
+-- induction on how many are left.
 digits_spelled : (start : Marker) (n v : ℕ) (t : Cursor) (w : ℕ) (s : Cursor) → Gave (digits start n v t) w s
     → Digits v n t.mark t.rest w s
 unfolding digits

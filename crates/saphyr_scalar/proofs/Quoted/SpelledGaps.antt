@@ -77,6 +77,9 @@ blank_reached indent m c cs h = grind arith
 from_start : (n : ℕ) (xs : List ℕ) → quotes.IsReached (n - 0) xs → quotes.IsReached n xs
 from_start n xs h = let same : n - 0 ≡ n = omega arith in subst (λ k. quotes.IsReached k xs) same h
 
+-- A blank before a word is the first item of what was read, and what comes behind it is known. On the line of the word
+-- before it, the gap keeps its bytes. On a later line it keeps none, and a tab left of the column would have been
+-- refused.
 pub blank_step : (n : ℕ) (q : Quote) (indent : ℕ) (start : Marker) (gap : QuotedGap) (m : Marker) (c : ℕ)
     (cs b : List ℕ)
     (s : Cursor) → is_blank c ≡ true → length cs ≤ n → Known n q indent start

@@ -107,6 +107,8 @@ further : (indent : ℕ) (m : Marker) (xs y : List ℕ) (s : Cursor) → m.col �
     → Spelled indent Double (over_lines true 0) m xs y s → Further indent m xs y s
 further indent m xs y s start r = grind arith
 
+-- What follows an escaped break is known as the rest of a later line, unless it is the closing quote: then the scalar
+-- ends there, at any column.
 line_word : (n : ℕ) (indent : ℕ) (start m : Marker) (xs y : List ℕ) (s : Cursor) → m.col ≡ 0 → length xs ≤ n
     → Known n Double indent start
     → GaveText (inner_text Double indent start (escaped_gap Double (slice_index xs 0)) 0 m xs) y s

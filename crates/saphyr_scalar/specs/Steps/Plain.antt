@@ -1,5 +1,5 @@
 -- Plain scalars (YAML 1.2.2, 7.3.3).
-use Rattle.std.specs.Prelude.{◌≡◌, ◌<◌, ◌≤◌, ℕ, zero, suc, pred, ◌-◌, Bool, true, false, ◌||◌, ◌&&◌, ◌==◌, not, nat_lt, List, [], ◌∷◌, ◌++◌, length, take, slice_index, Result, Ok, Option, Some, None, if◌then◌else◌, encode_utf8, string_bytes}
+use Rattle.std.specs.Prelude.{◌≡◌, ◌<◌, ◌≤◌, ℕ, zero, suc, pred, ◌-◌, Bool, true, false, ◌||◌, ◌&&◌, ◌==◌, not, nat_lt, List, [], ◌∷◌, ◌++◌, length, take, slice_index, Result, Ok, Option, Some, None, if◌then◌else◌, encode_utf8}
 use Rattle.saphyr_input.specs.Classes.{is_z, is_break, is_blank, is_blank_or_breakz, is_flow, is_bom, tab, line_feed, space}
 use Rattle.saphyr_input.specs.Places.{can_be_plain, is_document_indicator, is_blank_or_break}
 use Rattle.saphyr_input.specs.Indicators.{hyphen, number_sign}
@@ -7,7 +7,6 @@ use Rattle.saphyr_scalar.specs.declared.scalar.position.Marker.{Marker}
 use Rattle.saphyr_scalar.specs.declared.scalar.fault.Refusal.{Refusal}
 use Rattle.saphyr_scalar.specs.declared.scalar.fault.FaultText.TheVariants as fault
 use Rattle.saphyr_scalar.specs.declared.scalar.plain.PlainEnd.{PlainEnd}
-use Rattle.saphyr_scalar.specs.declared.scalar.plain.PlainScalar.{PlainScalar}
 use Rattle.saphyr_scalar.specs.Views.Cursor.{Cursor, ◌>>=◌, refuse, along, next_line, pass_blanks, pass_break}
 pub use Rattle.saphyr_scalar.specs.Spelling.LineBreaks.{ends_line}
 use Rattle.saphyr_scalar.specs.Steps.Quoted.{mid_line, with_run}
@@ -117,11 +116,7 @@ comment_of in_flow tabbed s =
 abbrev pub PlainScalarRead : Type 0
 PlainScalarRead = Result (List ℕ × Marker × Option Marker × Cursor) Refusal
 
--- what contracts see of a scalar and of the reader after it
-abbrev pub seen_plain_scalar : PlainScalar → Cursor → List ℕ × Marker × Option Marker × Cursor
-seen_plain_scalar scalar s = (string_bytes scalar.text, scalar.end, scalar.comment, s)
-
--- the same of a scalar whose text was put behind another
+-- what contracts see of a scalar whose text was put behind another, and of the reader after it
 abbrev pub seen_plain_end : PlainEnd → List ℕ → Cursor → List ℕ × Marker × Option Marker × Cursor
 seen_plain_end scalar text s = (text, scalar.end, scalar.comment, s)
 

@@ -86,8 +86,8 @@ impl FaultText {
     ghost use Rattle.saphyr_scalar.specs.Known.{is_seen};
     ghost use Rattle.saphyr_scalar.specs.Texts as spec;
 
-    // The text without the character that some texts show after it.
-    fn words(self) -> &'static str
+    /// The text without the character that some texts show after it.
+    pub fn words(self) -> &'static str
         ensures { result.now ≡ spec.words self }
     {
         match self {

@@ -15,24 +15,14 @@ use crate::scalar::position::Marker;
 use crate::scalar::reader::Reader;
 use saphyr_input::char_traits::{is_blank, is_break};
 use saphyr_input::input::Input;
-use std::alloc::Global;
-use std::mem::replace;
 
-/// The text of a plain scalar, and how it ended.
-#[derive(Drop)]
-pub struct PlainScalar {
-    pub text: String,
+/// How a plain scalar ended, whose text was put behind another.
+#[derive(Clone, Copy)]
+pub struct PlainEnd {
     /// The place after its last word.
     pub end: Marker,
     /// The `#` of a comment that ended the scalar outside flow. The next line must not go on with
     /// the scalar.
-    pub comment: Option<Marker>,
-}
-
-/// How a plain scalar ended: as in `PlainScalar`, whose text was put behind another.
-#[derive(Clone, Copy)]
-pub struct PlainEnd {
-    pub end: Marker,
     pub comment: Option<Marker>,
 }
 
@@ -46,7 +36,7 @@ struct WordEnd {
 }
 
 impl<T: Input> Reader<T> {
-    ghost use Rattle.saphyr_scalar.specs.Views.Reader.{cursor_of, loaded, GivesBy, ReadsBy, WritesBy};
+    ghost use Rattle.saphyr_scalar.specs.Views.Reader.{cursor_of, loaded, GivesBy, WritesBy};
 
     // Whether another word of a plain scalar begins after a gap.
     #[inline(always)]
@@ -83,24 +73,24 @@ impl<T: Input> Reader<T> {
         indent: usize,
         start: Marker,
         mut word_end: WordEnd,
-        mut text: String,
-    ) -> Result<PlainScalar, Stop>
-        requires { IsSplitPoint (string_bytes text) word_end.len }
-        ensures { ReadsBy spec.seen_plain_scalar (λ s. spec.scalar_behind_gap in_flow indent start
-            word_end.len word_end.mark word_end.tabbed (string_bytes text) s) self.old result
-            self.new }
+        text: &mut String,
+    ) -> Result<PlainEnd, Stop>
+        requires { IsSplitPoint (string_bytes text.old) word_end.len }
+        ensures { WritesBy spec.seen_plain_end (λ before s. spec.scalar_behind_gap in_flow indent
+            start word_end.len word_end.mark word_end.tabbed before s) text.old self.old result
+            text.new self.new }
     {
         loop {
             if !self.next_plain_word_starts(in_flow, indent)? {
                 text.truncate(word_end.len);
                 let comment = self.plain_comment(in_flow, word_end.tabbed);
                 let end = word_end.mark;
-                return Ok(PlainScalar { text, end, comment });
+                return Ok(PlainEnd { end, comment });
             }
-            self.read_plain_words(in_flow, &mut text)?;
+            self.read_plain_words(in_flow, text)?;
             let mark = self.mark;
             let len = text.len();
-            let tabbed = self.read_word_gap(indent, start, &mut text)?;
+            let tabbed = self.read_word_gap(indent, start, text)?;
             word_end = WordEnd { mark, len, tabbed };
         }
     }
@@ -113,16 +103,17 @@ impl<T: Input> Reader<T> {
         in_flow: bool,
         indent: usize,
         start: Marker,
-        mut text: String,
-    ) -> Result<PlainScalar, Stop>
+        text: &mut String,
+    ) -> Result<PlainEnd, Stop>
         requires ended { spec.is_in_word in_flow (cursor_of self.old).rest ≡ false }
         requires on_line { (cursor_of self.old).blank_so_far ≡ false }
-        ensures { ReadsBy spec.seen_plain_scalar (λ s. spec.with_text (string_bytes text)
-            (spec.word in_flow indent start s.mark s.rest)) self.old result self.new }
+        ensures { WritesBy spec.seen_plain_end (λ before s. spec.with_text before
+            (spec.word in_flow indent start s.mark s.rest)) text.old self.old result text.new
+            self.new }
     {
         let mark = self.mark;
         let len = text.len();
-        let tabbed = self.read_word_gap(indent, start, &mut text)?;
+        let tabbed = self.read_word_gap(indent, start, text)?;
         let word_end = WordEnd { mark, len, tabbed };
         self.read_plain_behind(in_flow, indent, start, word_end, text)
     }
@@ -136,14 +127,15 @@ impl<T: Input> Reader<T> {
         indent: usize,
         start: Marker,
         mark: Marker,
-        mut text: String,
-    ) -> Result<PlainScalar, Stop>
+        text: &mut String,
+    ) -> Result<PlainEnd, Stop>
         requires { (cursor_of self.old).blank_so_far ≡ true }
-        ensures { ReadsBy spec.seen_plain_scalar (λ s. spec.with_text (string_bytes text)
-            (lines.scalar_behind_line in_flow indent start mark s)) self.old result self.new }
+        ensures { WritesBy spec.seen_plain_end (λ before s. spec.with_text before
+            (lines.scalar_behind_line in_flow indent start mark s)) text.old self.old result
+            text.new self.new }
     {
         let len = text.len();
-        let tabbed = self.read_folded_lines(indent, start, &mut text)?;
+        let tabbed = self.read_folded_lines(indent, start, text)?;
         let word_end = WordEnd { mark, len, tabbed };
         self.read_plain_behind(in_flow, indent, start, word_end, text)
     }
@@ -181,7 +173,6 @@ impl<T: Input> Reader<T> {
     #[inline(never)]
     fn read_plain_on(
         &mut self,
-        alloc: Global,
         c: char,
         in_flow: bool,
         indent: usize,
@@ -198,21 +189,10 @@ impl<T: Input> Reader<T> {
             (lines.scalar_behind_word (class.is_break c) in_flow indent start end s))
             text.old self.old result text.new self.new }
     {
-        let whole = replace(text, String::new(alloc));
         if is_break(c) {
-            let folded = self.read_plain_lines(in_flow, indent, start, end, whole)?;
-            *text = folded.text;
-            return Ok(PlainEnd {
-                end: folded.end,
-                comment: folded.comment,
-            });
+            return self.read_plain_lines(in_flow, indent, start, end, text);
         }
-        let scalar = self.read_plain_rest(in_flow, indent, start, whole)?;
-        *text = scalar.text;
-        Ok(PlainEnd {
-            end: scalar.end,
-            comment: scalar.comment,
-        })
+        self.read_plain_rest(in_flow, indent, start, text)
     }
 
     /// Takes off a plain scalar, inside flow or outside, and the blanks and breaks after it (YAML
@@ -232,7 +212,6 @@ impl<T: Input> Reader<T> {
     #[inline(always)]
     pub fn read_plain_onto(
         &mut self,
-        alloc: Global,
         in_flow: bool,
         indent: usize,
         text: &mut String,
@@ -256,7 +235,7 @@ impl<T: Input> Reader<T> {
             return Ok(PlainEnd { end, comment });
         }
         // For speed the result is taken apart: otherwise it would be in memory on the frequent way too.
-        let rest = self.read_plain_on(alloc, c, in_flow, indent, start, end, text)?;
+        let rest = self.read_plain_on(c, in_flow, indent, start, end, text)?;
         let (end, comment) = (rest.end, rest.comment);
         Ok(PlainEnd { end, comment })
     }

@@ -5,21 +5,18 @@ mod gap;
 mod words;
 
 ghost use Rattle.std.specs.Prelude.{◌≡◌, slice_index, string_bytes};
-ghost use Rattle.saphyr_input.specs.Indicators.{apostrophe, quotation_mark};
 ghost use Rattle.saphyr_scalar.specs.Steps.Quoted as spec;
 ghost use Rattle.saphyr_scalar.specs.Values.Flow as flow;
-ghost use Rattle.saphyr_scalar.specs.declared.values.Quote.TheVariants.{Single, Double};
 
 use crate::scalar::fault::Stop;
 use crate::scalar::position::Marker;
+use crate::scalar::quoted::words::{InDouble, InSingle, Quotes};
 use crate::scalar::reader::Reader;
 use crate::values::Quote;
 use saphyr_input::input::Input;
-use std::alloc::Global;
-use std::mem::replace;
 
 impl<T: Input> Reader<T> {
-    ghost use Rattle.saphyr_scalar.specs.Views.Reader.{cursor_of, ReadsTextBy, WritesBy, text_alone};
+    ghost use Rattle.saphyr_scalar.specs.Views.Reader.{cursor_of, WritesBy, text_alone};
 
     // Whether the closing quote is here, and not the first of two single quotes. `c` is the first character.
     #[inline(always)]
@@ -38,91 +35,40 @@ impl<T: Input> Reader<T> {
     }
 
     // Moves what is left of a quoted scalar to the end of its text, and takes off the closing quote.
-    #[inline(always)]
-    fn read_quoted_parts(
+    #[inline(never)]
+    fn read_quoted_rest<Q: Quotes>(
         &mut self,
-        quote: Quote,
         indent: usize,
         start: Marker,
-        mut text: String,
-    ) -> Result<String, Stop>
-        ensures { ReadsTextBy (λ s. spec.with_front (string_bytes text)
-            (spec.inner_text_at quote indent start spec.no_gap s)) self.old result self.new }
+        text: &mut String,
+    ) -> Result<(), Stop>
+        ensures { WritesBy text_alone (λ before s. spec.with_front before
+            (spec.inner_text_at Q.quote indent start spec.no_gap s)) text.old self.old result
+            text.new self.new }
     {
+        let quote = Q::quote();
         let mut next = self.look();
         loop {
-            let c = self.read_quoted_word(next, quote, start, &mut text)?;
+            let c = self.read_quoted_word(next, quote, start, text)?;
             if c == quote.mark() {
                 break;
             }
-            next = self.read_quoted_gap(c, quote, indent, start, &mut text)?;
+            next = self.read_quoted_gap(c, quote, indent, start, text)?;
         }
         self.skip_non_blank();
-        Ok(text)
-    }
-
-    // What is left of a double quoted scalar.
-    #[inline(never)]
-    fn read_double_rest(
-        &mut self,
-        indent: usize,
-        start: Marker,
-        text: String,
-    ) -> Result<String, Stop>
-        ensures { ReadsTextBy (λ s. spec.with_front (string_bytes text)
-            (spec.inner_text_at Double indent start spec.no_gap s)) self.old result self.new }
-    {
-        self.read_quoted_parts(Quote::Double, indent, start, text)
-    }
-
-    // What is left of a single quoted scalar.
-    #[inline(never)]
-    fn read_single_rest(
-        &mut self,
-        indent: usize,
-        start: Marker,
-        text: String,
-    ) -> Result<String, Stop>
-        ensures { ReadsTextBy (λ s. spec.with_front (string_bytes text)
-            (spec.inner_text_at Single indent start spec.no_gap s)) self.old result self.new }
-    {
-        self.read_quoted_parts(Quote::Single, indent, start, text)
-    }
-
-    // What is left of a scalar of either kind. Each has a loop of its own, which doesn't ask again and again which kind
-    // it is.
-    #[inline(always)]
-    fn read_quoted_rest(
-        &mut self,
-        quote: Quote,
-        indent: usize,
-        start: Marker,
-        text: String,
-    ) -> Result<String, Stop>
-        ensures { ReadsTextBy (λ s. spec.with_front (string_bytes text)
-            (spec.inner_text_at quote indent start spec.no_gap s)) self.old result self.new }
-    {
-        match quote {
-            Quote::Double => self.read_double_rest(indent, start, text),
-            Quote::Single => self.read_single_rest(indent, start, text),
-        }
+        Ok(())
     }
 
     // Takes off a quoted scalar, from its opening quote on, and puts its text behind another. Most have only words on
     // one line without escapes: then that is all.
-    #[inline(always)]
-    fn read_behind(
-        &mut self,
-        alloc: Global,
-        quote: Quote,
-        indent: usize,
-        text: &mut String,
-    ) -> Result<(), Stop>
-        requires { slice_index (cursor_of self.old).rest 0 ≡ flow.mark quote }
+    #[inline(never)]
+    fn read_behind<Q: Quotes>(&mut self, indent: usize, text: &mut String) -> Result<(), Stop>
+        requires { slice_index (cursor_of self.old).rest 0 ≡ flow.mark Q.quote }
         ensures { WritesBy text_alone
-            (λ before s. spec.with_front before (spec.quoted quote indent s))
+            (λ before s. spec.with_front before (spec.quoted Q.quote indent s))
             text.old self.old result text.new self.new }
     {
+        let quote = Q::quote();
         let start = self.mark;
         self.skip_non_blank();
         let c = self.take_literal_words(quote, text)?;
@@ -130,41 +76,7 @@ impl<T: Input> Reader<T> {
             self.skip_non_blank();
             return Ok(());
         }
-        let whole = replace(text, String::new(alloc));
-        *text = self.read_quoted_rest(quote, indent, start, whole)?;
-        Ok(())
-    }
-
-    // Puts the text of a double quoted scalar behind another.
-    #[inline(never)]
-    fn read_double_behind(
-        &mut self,
-        alloc: Global,
-        indent: usize,
-        text: &mut String,
-    ) -> Result<(), Stop>
-        requires { slice_index (cursor_of self.old).rest 0 ≡ quotation_mark }
-        ensures { WritesBy text_alone
-            (λ before s. spec.with_front before (spec.quoted Double indent s))
-            text.old self.old result text.new self.new }
-    {
-        self.read_behind(alloc, Quote::Double, indent, text)
-    }
-
-    // Puts the text of a single quoted scalar behind another.
-    #[inline(never)]
-    fn read_single_behind(
-        &mut self,
-        alloc: Global,
-        indent: usize,
-        text: &mut String,
-    ) -> Result<(), Stop>
-        requires { slice_index (cursor_of self.old).rest 0 ≡ apostrophe }
-        ensures { WritesBy text_alone
-            (λ before s. spec.with_front before (spec.quoted Single indent s))
-            text.old self.old result text.new self.new }
-    {
-        self.read_behind(alloc, Quote::Single, indent, text)
+        self.read_quoted_rest::<Q>(indent, start, text)
     }
 
     /// Takes off a quoted scalar, from its opening quote to its closing one, and puts its text behind
@@ -178,7 +90,6 @@ impl<T: Input> Reader<T> {
     #[inline(always)]
     pub fn read_quoted_onto(
         &mut self,
-        alloc: Global,
         quote: Quote,
         indent: usize,
         text: &mut String,
@@ -189,8 +100,8 @@ impl<T: Input> Reader<T> {
             text.old self.old result text.new self.new }
     {
         match quote {
-            Quote::Double => self.read_double_behind(alloc, indent, text),
-            Quote::Single => self.read_single_behind(alloc, indent, text),
+            Quote::Double => self.read_behind::<InDouble>(indent, text),
+            Quote::Single => self.read_behind::<InSingle>(indent, text),
         }
     }
 }

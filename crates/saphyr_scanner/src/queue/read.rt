@@ -18,7 +18,6 @@ use crate::token::TokenKind;
 use saphyr_input::input::Input;
 use saphyr_scalar::values::Quote;
 use saphyr_scalar::{Marker, Reader, Stop};
-use std::alloc::Global;
 
 impl Queue {
     /// Reads a plain scalar, and puts its token at the end. Returns a comment that ended it. After an error no token
@@ -26,7 +25,6 @@ impl Queue {
     #[inline(always)]
     pub(crate) fn read_plain<T: Input>(
         &mut self,
-        alloc: Global,
         reader: &mut Reader<T>,
         in_flow: bool,
         indent: usize,
@@ -37,7 +35,7 @@ impl Queue {
     {
         self.make_room()?;
         let start = reader.mark();
-        match self.texts.read_plain(alloc, reader, in_flow, indent) {
+        match self.texts.read_plain(reader, in_flow, indent) {
             Ok((scalar, count)) => {
                 let (end, comment) = (scalar.end, scalar.comment);
                 match Place::of_text(TokenKind::Plain, &start, &end, count, &mut self.texts) {
@@ -62,7 +60,6 @@ impl Queue {
     #[inline(always)]
     pub(crate) fn read_quoted<T: Input>(
         &mut self,
-        alloc: Global,
         reader: &mut Reader<T>,
         quote: Quote,
         in_block: bool,
@@ -74,7 +71,7 @@ impl Queue {
             (quoted_whole in_block quote indent (cursor_of reader.old))) }
     {
         self.make_room()?;
-        match Place::read_quoted(alloc, reader, quote, in_block, indent, &mut self.texts) {
+        match Place::read_quoted(reader, quote, in_block, indent, &mut self.texts) {
             Ok((place, is_at_end)) => {
                 self.places.push_reserved(place);
                 Ok(is_at_end)

@@ -131,7 +131,6 @@ impl Texts {
     #[inline(always)]
     pub(super) fn read_plain<T: Input>(
         &mut self,
-        alloc: Global,
         reader: &mut Reader<T>,
         in_flow: bool,
         indent: usize,
@@ -144,7 +143,7 @@ impl Texts {
             (λ read. spec.IsTextOf read.1 (spec.added self.old self.new)) }
     {
         let before = self.texts.len();
-        match reader.read_plain_onto(alloc, in_flow, indent, &mut self.texts) {
+        match reader.read_plain_onto(in_flow, indent, &mut self.texts) {
             Ok(end) => Ok((end, self.texts.len() - before)),
             Err(stop) => Err(lose(&mut self.texts, &mut self.spent, stop)),
         }
@@ -154,7 +153,6 @@ impl Texts {
     #[inline(always)]
     pub(super) fn read_quoted<T: Input>(
         &mut self,
-        alloc: Global,
         reader: &mut Reader<T>,
         quote: Quote,
         indent: usize,
@@ -168,7 +166,7 @@ impl Texts {
             (λ count. spec.IsTextOf count (spec.added self.old self.new)) }
     {
         let before = self.texts.len();
-        match reader.read_quoted_onto(alloc, quote, indent, &mut self.texts) {
+        match reader.read_quoted_onto(quote, indent, &mut self.texts) {
             Ok(()) => Ok(self.texts.len() - before),
             Err(stop) => Err(lose(&mut self.texts, &mut self.spent, stop)),
         }

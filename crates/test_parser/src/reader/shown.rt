@@ -135,11 +135,11 @@ fn push_found<T: Input>(
         }
         '%' => push_directive(line, reader.read_directive(alloc)),
         '"' => {
-            let read = reader.read_quoted_onto(alloc, Quote::Double, indent, &mut text);
+            let read = reader.read_quoted_onto(Quote::Double, indent, &mut text);
             push_text(line, text.as_str(), read)
         }
         '\'' => {
-            let read = reader.read_quoted_onto(alloc, Quote::Single, indent, &mut text);
+            let read = reader.read_quoted_onto(Quote::Single, indent, &mut text);
             push_text(line, text.as_str(), read)
         }
         '|' => push_block(
@@ -151,7 +151,7 @@ fn push_found<T: Input>(
             reader.read_block_scalar(alloc, BlockStyle::Folded, indent),
         ),
         _ => {
-            let read = reader.read_plain_onto(alloc, in_flow, indent, &mut text);
+            let read = reader.read_plain_onto(in_flow, indent, &mut text);
             push_plain(line, text.as_str(), read)
         }
     }

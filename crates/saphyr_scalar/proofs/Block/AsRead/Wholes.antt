@@ -182,6 +182,8 @@ no_lines_at_end : (xs rest : List ℕ) → is_z (slice_index xs 0) ≡ true → 
 no_lines_at_end xs rest z [] e h = tt
 no_lines_at_end xs rest z (c ∷ cs) e h = grind (arith, nat_tests, eqb-true, slice_index)
 
+-- A block scalar whose header is cut by the text's end. No line follows, so nothing is before its content, and all
+-- that is left to show is that the empty rest has the form of lines.
 whole_at_end : (style : BlockStyle) (indent : ℕ) (s : Cursor) (h : BlockHeader) (first : List ℕ) (u : Cursor) (y : Read)
     → s.rest ≡ first ++ u.rest → IsPassed s.mark s.rest u.mark u.rest → is_z (slice_index u.rest 0) ≡ true
     → u.blank_so_far ≡ false → behind_header style indent s.mark (h, u) ≡ Ok y → BlockParts style indent s h first u y

@@ -6,6 +6,8 @@ ghost use Rattle.saphyr_input.specs.Fronts.{StandsFor};
 ghost use Rattle.saphyr_scalar.specs.Steps.Quoted as spec;
 ghost use Rattle.saphyr_scalar.specs.Steps.Sets as sets;
 ghost use Rattle.saphyr_scalar.specs.Views.Cursor.{Cursor};
+ghost use Rattle.saphyr_scalar.specs.declared.values.Quote.{Quote};
+ghost use Rattle.saphyr_scalar.specs.declared.values.Quote.TheVariants as kind;
 
 use crate::scalar::byte_sets::{is_in_double, is_in_single};
 use crate::scalar::fault::{Refusal, Stop};
@@ -53,6 +55,14 @@ fn joins_quoted(byte: u8, next: u8) -> bool
     byte == b' ' && !is_blank_or_breakz(next as char)
 }
 
+// A kind of quotes. Each has code of its own, which doesn't ask again and again which kind it is.
+pub(crate) trait Quotes {
+    ghost quote: { Quote };
+
+    fn quote() -> Quote
+        ensures { result ≡ quote };
+}
+
 // The characters that stand for themselves between single quotes and are no blank.
 pub(crate) struct InSingle;
 
@@ -73,6 +83,15 @@ impl CharSet for InSingle {
     #[inline(always)]
     fn has_ascii(byte: u8) -> bool {
         is_in_single(byte)
+    }
+}
+
+impl Quotes for InSingle {
+    ghost quote = { kind.Single };
+
+    #[inline(always)]
+    fn quote() -> Quote {
+        Quote::Single
     }
 }
 
@@ -107,6 +126,15 @@ impl CharSet for InDouble {
     #[inline(always)]
     fn has_ascii(byte: u8) -> bool {
         is_in_double(byte)
+    }
+}
+
+impl Quotes for InDouble {
+    ghost quote = { kind.Double };
+
+    #[inline(always)]
+    fn quote() -> Quote {
+        Quote::Double
     }
 }
 

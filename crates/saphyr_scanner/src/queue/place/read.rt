@@ -18,7 +18,6 @@ use saphyr_input::char_traits::is_breakz;
 use saphyr_input::input::{Input, SkipTabs};
 use saphyr_scalar::values::Quote;
 use saphyr_scalar::{FaultText, Reader, Refusal, Stop};
-use std::alloc::Global;
 
 // Whether an indicator that may follow a quoted scalar is here. Outside flow that is a colon on the scalar's first
 // line.
@@ -82,7 +81,6 @@ impl Place {
     #[inline(always)]
     #[tactic(auto, unfolding(crate::specs::Views::Reads::quoted_whole))]
     pub(in crate::queue) fn read_quoted<T: Input>(
-        alloc: Global,
         reader: &mut Reader<T>,
         quote: Quote,
         in_block: bool,
@@ -95,7 +93,7 @@ impl Place {
             (quoted_whole in_block quote indent (cursor_of reader.old)) }
     {
         let start = reader.mark();
-        let count = texts.read_quoted(alloc, reader, quote, indent)?;
+        let count = texts.read_quoted(reader, quote, indent)?;
         let is_at_end = pass_behind_quotes(reader, in_block, start.line)?;
         let place = Place::of_text(kind_of(quote), &start, &reader.mark(), count, texts)?;
         Ok((place, is_at_end))

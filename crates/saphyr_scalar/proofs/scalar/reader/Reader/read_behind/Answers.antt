@@ -1,6 +1,6 @@
-use Rattle.saphyr_scalar.proofs.Common.{rules, Cursor, IsTrue, Ok, string_bytes, sym, ap, ◌∙◌, pass, cursor_of}
+use Rattle.saphyr_scalar.proofs.Common.{Cursor, IsTrue, Ok, string_bytes, subst, sym, ap, ◌∙◌, pass, cursor_of, Moves}
+use Rattle.saphyr_scalar.specs.Views.Reader.{text_alone}
 use Rattle.saphyr_scalar.specs.Steps.Quoted as spec
-use Rattle.saphyr_scalar.proofs.Plain.Pieces.{moves_failed}
 use Rattle.saphyr_scalar.proofs.Quoted.Gaps.{closing_closes}
 use Rattle.saphyr_scalar.proofs.Quoted.Inside.{quoted_inside}
 use Rattle.saphyr_scalar.proofs.scalar.reader.Reader.read_behind.Goals as goal
@@ -11,33 +11,26 @@ returns-then-is_at_closing_quote g c =
     let start = (cursor_of a.self.now).mark in
     let there = cursor_of c.take_literal_words.new.self in
     let text = string_bytes c.take_literal_words.new.text in
-    let closing : IsTrue (spec.is_closing a.quote there.rest) = sym c.is_at_closing_quote.ensures.value
+    let kind = c.quote-quote.ensures in
+    let closes : IsTrue (spec.is_closing c.quote-quote.result there.rest) = sym c.is_at_closing_quote.ensures.value
     ∙ c.if-is_at_closing_quote.true in
+    let closing = rw kind at closes in
+    let moved = rw kind at (c.in_ok-c.ensures.moved.same a.indent start) in
     ap (spec.with_front (string_bytes a.text.now))
-    (quoted_inside a.quote a.indent (cursor_of a.self.now) _ c.skip_non_blank.ensures)
-    ∙ sym (c.in_ok-c.ensures.moved.same a.indent start)
-    ∙ closing_closes a.quote a.indent start text there closing
+    (quoted_inside g.Q.Quotes.quote a.indent (cursor_of a.self.now) _ c.skip_non_blank.ensures)
+    ∙ sym moved ∙ closing_closes g.Q.Quotes.quote a.indent start text there closing
     ∙ ap (λ s. let r : spec.TextRead = Ok (text, s) in r)
     (ap (pass 1) (sym c.is_at_closing_quote.ensures.same) ∙ sym c.skip_non_blank-then-is_at_closing_quote.ensures)
-
-pub returns-in_err-text : goal.returns-in_err-text
-returns-in_err-text g c =
-    let a = c.args in
-    let start = (cursor_of a.self.now).mark in
-    let there = cursor_of c.take_literal_words.new.self in
-    let begun = ap (spec.with_front (string_bytes a.text.now))
-    (quoted_inside a.quote a.indent (cursor_of a.self.now) _ c.skip_non_blank.ensures)
-    ∙ sym (c.in_ok-c.ensures.moved.same a.indent start)
-    ∙ ap (λ (s : Cursor). spec.with_front (string_bytes c.take_literal_words.new.text)
-    (spec.inner_text_at a.quote a.indent start spec.no_gap s)) (sym c.is_at_closing_quote.ensures.same)
-    ∙ ap (λ text. spec.with_front (string_bytes text)
-    (spec.inner_text_at a.quote a.indent start spec.no_gap (cursor_of c.is_at_closing_quote.new.self)))
-    (sym c.replace-whole.ensures.value) in
-    moves_failed _ _ _ _ _ c.from_residual-in_err-text.ensures.1 c.in_err-text.ensures (λ r h. begun ∙ h)
 
 pub returns : goal.returns
 returns g c =
     let a = c.args in
-    ap (spec.with_front (string_bytes a.text.now))
-    (quoted_inside a.quote a.indent (cursor_of a.self.now) _ c.skip_non_blank.ensures)
-    ∙ search rules
+    let start = (cursor_of a.self.now).mark in
+    let there = cursor_of c.take_literal_words.new.self in
+    let moved = rw c.quote-quote.ensures at (c.in_ok-c.ensures.moved.same a.indent start) in
+    let begun = ap (spec.with_front (string_bytes a.text.now))
+    (quoted_inside g.Q.Quotes.quote a.indent (cursor_of a.self.now) _ c.skip_non_blank.ensures)
+    ∙ sym moved ∙ ap (λ (s : Cursor). spec.with_front (string_bytes c.take_literal_words.new.text)
+    (spec.inner_text_at g.Q.Quotes.quote a.indent start spec.no_gap s)) (sym c.is_at_closing_quote.ensures.same) in
+    subst (λ (r : spec.TextRead). Moves (λ x. text_alone x (string_bytes c.read_quoted_rest.new.text)
+    (cursor_of c.read_quoted_rest.new.self)) c.read_quoted_rest.result r) (sym begun) c.read_quoted_rest.ensures
