@@ -4,7 +4,8 @@ use Rattle.saphyr_scalar.proofs.scalar.reader.Reader.read_quoted_rest.Given as g
 
 abbrev pub invariant-loop-c : goal.invariant-loop-c
 invariant-loop-c g l = record {
-  same : with_front (string_bytes l.text) (inner_text_at g.Q.Quotes.quote l.fn.indent l.fn.start no_gap (cursor_of l.self))
+  same : with_front (string_bytes l.text)
+      (inner_text_at g.Q.Quotes.quote l.fn.indent l.fn.start no_gap (cursor_of l.self))
       ≡ with_front (string_bytes l.fn.text)
       (inner_text_at g.Q.Quotes.quote l.fn.indent l.fn.start no_gap (cursor_of l.fn.self));
   next : l.next ≡ slice_index (cursor_of l.self).rest 0;
