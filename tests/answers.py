@@ -817,13 +817,14 @@ def printed(value):
     return "".join(SHOWN.get(c, c) for c in value)
 
 
-def events(parts):
+def events(parts, keep=False):
     """The printed events of the parts of a forest, or None where an alias or a handle stands for nothing."""
-    lines, count, latest, prefixes = [], 0, {}, {}
+    lines, count, latest, kept, prefixes = [], 0, {}, {}, {}
     for part in parts:
         line = part.name
         if isinstance(part, Document):
-            latest, prefixes = {}, {"": "", "!": "!", "!!": "tag:yaml.org,2002:", **dict(part.prefixes)}
+            kept = {**(kept if keep else {}), **dict(part.prefixes)}
+            latest, prefixes = {}, {"": "", "!": "!", "!!": "tag:yaml.org,2002:", **kept}
             line += " ---" * part.explicit
         elif isinstance(part, Reference):
             if part.anchor_name not in latest:

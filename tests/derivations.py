@@ -467,12 +467,16 @@ class Derivation:
         return "".join("".join(self.random.choices(kind, k=len(it))) if it[:1] == "\n" else it for it, kind in runs)
 
 
-def events(forest):
-    """The printed events of a forest (ForestEvents.antt, Anchors.antt, TagResolution.antt and Printed.antt)."""
-    lines, count = ["+STR"], 0
+def events(forest, keep=False):
+    """The printed events of a forest (ForestEvents.antt, Anchors.antt, TagResolution.antt and Printed.antt).
+
+    With `keep` a document's prefixes hold for later documents too.
+    """
+    lines, count, kept = ["+STR"], 0, {}
     for declared, parts in forest:
         lines.append("+DOC")
-        latest, prefixes = {}, {"": "", "!": "!", "!!": "tag:yaml.org,2002:", **declared}
+        kept = {**kept, **declared} if keep else declared
+        latest, prefixes = {}, {"": "", "!": "!", "!!": "tag:yaml.org,2002:", **kept}
         for name, (anchor, tag), shown in parts:
             if anchor is not None:
                 count += 1

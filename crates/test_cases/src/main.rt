@@ -12,7 +12,7 @@
 //! while there is some. Last, the documents of each text are loaded as trees, within limits of several widths,
 //! and the events of the trees are compared with those of the parser. Where events, their places or a fault
 //! differ from the list, the first difference is printed, for at most 20 of the cases. The last line for a file
-//! counts the cases that agree.
+//! counts the cases that agree. Of the wrong lists of `wrong.rt` none does.
 //!
 //! With `refused` it reads cases from standard input and takes each in each way of `refused_memory`. A line for
 //! each way says whether all is as the case lists it, or so up to a request for memory that was refused.
@@ -31,6 +31,7 @@ mod refusing;
 mod trees;
 mod ways;
 mod writing;
+mod wrong;
 
 use findings::{Subject, compare_all};
 use refused_memory::{WAYS, take};
@@ -42,6 +43,16 @@ use test_events::{Case, Difference, parse_cases, printed};
 
 /// The names of the files.
 const FILES: &[&str] = &["worked", "json", "layout", "hostile", "standard", "cuts"];
+
+/// What is compared of wrong lists.
+const SUBJECTS: &[Subject] = &[
+    Subject::Events,
+    Subject::RefusedEvents,
+    Subject::FailedWrites,
+    Subject::GrantedMemory,
+    Subject::Trees,
+    Subject::Differences,
+];
 
 /// The argument with which requests for memory may be refused.
 const REFUSED: &[u8] = b"refused";
@@ -129,7 +140,8 @@ fn compare_files(rt: &HostRuntime) -> Result<(), Failure> {
     check_file(rt, "worked", Subject::FailedWrites)?;
     check_file(rt, "worked", Subject::GrantedMemory)?;
     check_files(rt, Subject::Trees)?;
-    check_long_texts(rt)
+    check_long_texts(rt)?;
+    check_wrong_lists(rt)
 }
 
 fn check_files(rt: &HostRuntime, subject: Subject) -> Result<(), Failure> {
@@ -181,6 +193,14 @@ fn check_long_texts(rt: &HostRuntime) -> Result<(), Failure> {
             let text = difference.text()?;
             println!(rt; "long text, {text}")?;
         }
+    }
+    Ok(())
+}
+
+// Finds a difference in each wrong list, but for what `dump` doesn't write: places, and `---`.
+fn check_wrong_lists(rt: &HostRuntime) -> Result<(), Failure> {
+    for &subject in SUBJECTS {
+        compare_text(rt, "wrong lists", wrong::LISTS, subject)?;
     }
     Ok(())
 }

@@ -4,11 +4,6 @@
 //! case lists. Or, if a request for memory was refused, they are a beginning of it, then out of memory, and what
 //! has to come after that. The program itself refuses no request: `tests/refused_memory.py` has each be refused
 //! in turn.
-ghost use Rattle.std.specs.Prelude.{◌≡◌, OnOk, Ok};
-ghost use Rattle.saphyr_parser.specs.Cursor.{to_come};
-ghost use Rattle.test_events.specs.Listings.{Agrees, ListAll};
-ghost use Rattle.test_cases.specs.declared.refused_memory.Way.TheVariants.{NextEvent};
-ghost use Rattle.test_cases.specs.declared.refused_memory.outcome.Outcome.TheVariants.{Whole};
 
 mod clones;
 mod ended;
@@ -59,27 +54,20 @@ pub const WAYS: &[(&str, Way)] = &[
 ];
 
 /// Takes a case in each way. No request for memory is refused here, so all is as the case lists it.
-pub fn compare(alloc: Global, case: &Case) -> Result<(), Difference>
-    ensures { OnOk result (Agrees case.now) }
-{
+pub fn compare(alloc: Global, case: &Case) -> Result<(), Difference> {
     let text = printed(alloc, case.lines.as_slice())?;
     are_whole(alloc, case, text.as_str())
 }
 
-fn are_whole(alloc: Global, case: &Case, text: &str) -> Result<(), Difference>
-    ensures { OnOk result (Agrees case.now) }
-{
+fn are_whole(alloc: Global, case: &Case, text: &str) -> Result<(), Difference> {
     for &(name, way) in WAYS {
         let taken = is_whole(alloc, case, text, way);
         Difference::found_in(alloc, name, taken)?;
     }
-    // What is whole by this way has a clause.
-    is_whole(alloc, case, text, Way::NextEvent)
+    Ok(())
 }
 
-fn is_whole(alloc: Global, case: &Case, text: &str, way: Way) -> Result<(), Difference>
-    ensures { way ≡ NextEvent → OnOk result (Agrees case.now) }
-{
+fn is_whole(alloc: Global, case: &Case, text: &str, way: Way) -> Result<(), Difference> {
     match take(alloc, case, text, way)? {
         Outcome::Whole => Ok(()),
         Outcome::Refused => Err(Difference::OutOfMemory(AllocError)),
@@ -87,9 +75,7 @@ fn is_whole(alloc: Global, case: &Case, text: &str, way: Way) -> Result<(), Diff
 }
 
 /// Takes a case in one way. The text is what `dump` is to write.
-pub fn take(alloc: Global, case: &Case, text: &str, way: Way) -> Result<Outcome, Difference>
-    ensures { way ≡ NextEvent → result ≡ Ok Whole → Agrees case.now }
-{
+pub fn take(alloc: Global, case: &Case, text: &str, way: Way) -> Result<Outcome, Difference> {
     take_by(alloc, &mut parser_of(alloc, case), case, text, way)
 }
 
@@ -100,10 +86,7 @@ fn take_by<T: CloneInput>(
     case: &Case,
     text: &str,
     way: Way,
-) -> Result<Outcome, Difference>
-    ensures { way ≡ NextEvent → result ≡ Ok Whole
-        → ListAll case.now.lines.items (to_come parser.old) }
-{
+) -> Result<Outcome, Difference> {
     let lines = case.lines.as_slice();
     match way {
         Way::NextEvent => ways::by_next_event(alloc, parser, lines),

@@ -1,9 +1,4 @@
 //! The documents of a text as trees, within limits.
-ghost use Rattle.std.specs.Prelude.{OnOk};
-ghost use Rattle.saphyr_parser.specs.Cursor.{to_come};
-ghost use Rattle.test_events.specs.Listings.{ListAll};
-ghost use Rattle.test_cases.specs.Agreement.{TreesAgree};
-ghost use Rattle.test_cases.specs.Trees.{HasTrees, IsReadOrRefused};
 
 use crate::inputs::parser_of;
 use crate::limits::{WIDE, Wanted, first_beyond, needed};
@@ -15,9 +10,7 @@ use yaml_tree::{Document, Limits, TreeFault, load_documents};
 
 /// Compares the trees of a text with the events that its parser gives: within limits as wide as the text
 /// needs, within limits of one less and of nothing, and on a parser that is not new.
-pub fn compare(alloc: Global, case: &Case) -> Result<(), Difference>
-    ensures { OnOk result (TreesAgree case.now) }
-{
+pub fn compare(alloc: Global, case: &Case) -> Result<(), Difference> {
     compare_trees(alloc, &parser_of(alloc, case), case.lines.as_slice())
 }
 
@@ -25,21 +18,8 @@ fn compare_trees<T: CloneInput>(
     alloc: Global,
     parser: &Parser<'_, T>,
     lines: &[String],
-) -> Result<(), Difference>
-    ensures { OnOk result
-        (ListAll lines.now (to_come parser.now) × HasTrees (to_come parser.now)) }
-{
+) -> Result<(), Difference> {
     is_left_to_clone(alloc, parser, lines)?;
-    load_each(alloc, parser, lines)
-}
-
-fn load_each<T: CloneInput>(
-    alloc: Global,
-    parser: &Parser<'_, T>,
-    lines: &[String],
-) -> Result<(), Difference>
-    ensures { OnOk result (HasTrees (to_come parser.now)) }
-{
     load_clone(alloc, parser, lines)?;
     load_near(alloc, parser, lines)?;
     load_again(alloc, parser)?;
@@ -50,9 +30,7 @@ fn load_clone<T: CloneInput>(
     alloc: Global,
     parser: &Parser<'_, T>,
     lines: &[String],
-) -> Result<(), Difference>
-    ensures { OnOk result (HasTrees (to_come parser.now)) }
-{
+) -> Result<(), Difference> {
     let mut clone = parser.try_clone()?;
     load_all(alloc, &mut clone, parser, lines, WIDE)
 }
@@ -109,9 +87,7 @@ fn load_all<T: CloneInput>(
     fresh: &Parser<'_, T>,
     lines: &[String],
     limits: Limits,
-) -> Result<(), Difference>
-    ensures { OnOk result (HasTrees (to_come parser.old)) }
-{
+) -> Result<(), Difference> {
     let answer = load_documents(alloc, parser, limits);
     let loaded = is_loaded(alloc, &answer, fresh, lines);
     drop(answer);
@@ -208,9 +184,7 @@ fn is_loaded<T: CloneInput>(
     answer: &Result<Vec<Document>, TreeFault>,
     fresh: &Parser<'_, T>,
     lines: &[String],
-) -> Result<(), Difference>
-    ensures { OnOk result (IsReadOrRefused answer.now) }
-{
+) -> Result<(), Difference> {
     match answer {
         Ok(documents) => has_loaded(alloc, documents.as_slice(), fresh, lines),
         Err(TreeFault::Parse(Fault::Scan(error))) => is_ended(alloc, error, lines),

@@ -1,9 +1,5 @@
 //! The events of a text by each way to take them: one by one, by `load`, with a peek before each, and by
 //! clones.
-ghost use Rattle.std.specs.Prelude.{◌≡◌, ◌<◌, IfOk, OnOk, true};
-ghost use Rattle.saphyr_parser.specs.Cursor.{Stays, count, keeping_tags, to_come};
-ghost use Rattle.test_events.specs.Listings.{Agrees, ListAll};
-ghost use Rattle.test_cases.specs.Handed.{HasMore, LoadsOn, MayLoad, StandsBetween, TakesAnswer};
 
 use crate::inputs::{Comparison, compare_inputs};
 use saphyr_parser::{CloneInput, Fault, Input, Parser};
@@ -14,9 +10,7 @@ use test_events::{Case, ComparingReceiver, Difference, Expected};
 const MOST_CLONED: usize = 16;
 
 /// Compares the events of a text with its lines, through each input and by each way.
-pub fn compare(alloc: Global, case: &Case) -> Result<(), Difference>
-    ensures { OnOk result (Agrees case.now) }
-{
+pub fn compare(alloc: Global, case: &Case) -> Result<(), Difference> {
     compare_inputs(alloc, case.text.as_str(), &Ways { alloc, case })
 }
 
@@ -27,12 +21,49 @@ struct Ways<'a> {
 }
 
 impl Comparison for Ways<'_> {
-    ghost agrees = { λ w parser.
-        ListAll w.case.now.lines.items (to_come (keeping_tags w.case.now.keeps_tags parser)) };
-
     fn compare<T: CloneInput>(&self, parser: Parser<'_, T>) -> Result<(), Difference> {
         let mut parser = parser.keep_tags(self.case.keeps_tags);
         by_each_way(self.alloc, &mut parser, self.case.lines.as_slice())
+    }
+}
+
+/// Finds a difference between the events of a text and its lines, through each input and by each way.
+pub fn differ(alloc: Global, case: &Case) -> Result<(), Difference> {
+    compare_inputs(alloc, case.text.as_str(), &Differing { alloc, case })
+}
+
+#[derive(Clone, Copy)]
+struct Differing<'a> {
+    alloc: Global,
+    case: &'a Case,
+}
+
+impl Comparison for Differing<'_> {
+    fn compare<T: CloneInput>(&self, parser: Parser<'_, T>) -> Result<(), Difference> {
+        let mut parser = parser.keep_tags(self.case.keeps_tags);
+        each_way_differs(self.alloc, &mut parser, self.case.lines.as_slice())
+    }
+}
+
+fn each_way_differs<T: CloneInput>(
+    alloc: Global,
+    parser: &mut Parser<'_, T>,
+    lines: &[String],
+) -> Result<(), Difference> {
+    is_found(alloc, "by load", by_load(alloc, parser, lines))?;
+    is_found(alloc, "by peek", by_peek(alloc, parser, lines))?;
+    is_found(alloc, "by clones", by_clones(alloc, parser, lines))?;
+    is_found(alloc, "one by one", is_left(alloc, parser, lines))
+}
+
+// A difference was found, for which there was memory.
+fn is_found(alloc: Global, way: &str, found: Result<(), Difference>) -> Result<(), Difference> {
+    match found {
+        Ok(()) => Err(Difference::described(format!(in alloc; "{way}: no difference"))),
+        Err(difference) => {
+            drop(difference.text()?);
+            Ok(())
+        }
     }
 }
 
@@ -41,18 +72,14 @@ pub fn is_left<T: Input + Drop>(
     alloc: Global,
     parser: &mut Parser<'_, T>,
     lines: &[String],
-) -> Result<(), Difference>
-    ensures { OnOk result (ListAll lines.now (to_come parser.old)) }
-{
+) -> Result<(), Difference> {
     is_passed(parser, &mut Expected::new(alloc, lines))
 }
 
 fn is_passed<T: Input + Drop>(
     parser: &mut Parser<'_, T>,
     expected: &mut Expected<'_>,
-) -> Result<(), Difference>
-    ensures { OnOk result (ListAll expected.old (to_come parser.old)) }
-{
+) -> Result<(), Difference> {
     for item in parser.by_ref() {
         expected.pass_given(Some(item))?;
     }
@@ -64,9 +91,7 @@ pub fn is_left_to_clone<T: CloneInput>(
     alloc: Global,
     parser: &Parser<'_, T>,
     lines: &[String],
-) -> Result<(), Difference>
-    ensures { OnOk result (ListAll lines.now (to_come parser.now)) }
-{
+) -> Result<(), Difference> {
     let mut clone = parser.try_clone()?;
     is_left(alloc, &mut clone, lines)
 }
@@ -76,9 +101,7 @@ fn by_each_way<T: CloneInput>(
     alloc: Global,
     parser: &mut Parser<'_, T>,
     lines: &[String],
-) -> Result<(), Difference>
-    ensures { OnOk result (ListAll lines.now (to_come parser.old)) }
-{
+) -> Result<(), Difference> {
     Difference::found_in(alloc, "by load", by_load(alloc, parser, lines))?;
     Difference::found_in(alloc, "by peek", by_peek(alloc, parser, lines))?;
     if lines.len() <= MOST_CLONED {
@@ -92,10 +115,7 @@ fn by_load<T: CloneInput>(
     alloc: Global,
     parser: &Parser<'_, T>,
     lines: &[String],
-) -> Result<(), Difference>
-    ensures { StandsBetween parser.now
-        → OnOk result (ListAll lines.now (to_come parser.now)) }
-{
+) -> Result<(), Difference> {
     let mut clone = parser.try_clone()?;
     load_each(alloc, &mut clone, &mut ComparingReceiver::new(alloc, lines))
 }
@@ -104,11 +124,13 @@ fn load_each<T: CloneInput>(
     alloc: Global,
     parser: &mut Parser<'_, T>,
     receiver: &mut ComparingReceiver<'_>,
-) -> Result<(), Difference>
-    ensures { StandsBetween parser.old
-        → OnOk result (ListAll receiver.old.left (to_come parser.old)) }
-{
-    while loads_on(alloc, parser, receiver)? {}
+) -> Result<(), Difference> {
+    // Each `load` takes a line at least, and then nothing more comes.
+    for _ in 0..=receiver.left().len() {
+        if !loads_on(alloc, parser, receiver)? {
+            break;
+        }
+    }
     receiver.check_end()
 }
 
@@ -118,47 +140,25 @@ fn loads_on<T: CloneInput>(
     alloc: Global,
     parser: &mut Parser<'_, T>,
     receiver: &mut ComparingReceiver<'_>,
-) -> Result<bool, Difference>
-    ensures less { IfOk result (λ more. more ≡ true
-        → count (to_come parser.new) < count (to_come parser.old)) }
-    ensures lists { MayLoad parser.old → IfOk result (λ more.
-        LoadsOn more receiver.old receiver.new parser.old parser.new) }
-{
-    if gives_more(parser)? {
-        return load_document(alloc, parser, receiver);
+) -> Result<bool, Difference> {
+    if !gives_more(parser)? {
+        return Ok(false);
     }
-    Ok(false)
+    let answer = parser.load(receiver, false);
+    is_unrefused(alloc, receiver, answer)
 }
 
-fn gives_more<T: CloneInput>(parser: &Parser<'_, T>) -> Result<bool, AllocError>
-    ensures { IfOk result (λ more. HasMore more (to_come parser.now)) }
-{
+fn gives_more<T: CloneInput>(parser: &Parser<'_, T>) -> Result<bool, AllocError> {
     let mut clone = parser.try_clone()?;
     Ok(gives_one(&mut clone))
 }
 
 /// Whether a parser gives anything more, which is passed.
-pub fn gives_one<T: Input>(parser: &mut Parser<'_, T>) -> bool
-    ensures { HasMore result (to_come parser.old) }
-{
+pub fn gives_one<T: Input>(parser: &mut Parser<'_, T>) -> bool {
     let item = parser.next_event();
     let gives = item.is_some();
     drop(item);
     gives
-}
-
-fn load_document<T: Input>(
-    alloc: Global,
-    parser: &mut Parser<'_, T>,
-    receiver: &mut ComparingReceiver<'_>,
-) -> Result<bool, Difference>
-    ensures less { 0 < count (to_come parser.old) → IfOk result (λ more. more ≡ true
-        → count (to_come parser.new) < count (to_come parser.old)) }
-    ensures lists { StandsBetween parser.old → IfOk result (λ more.
-        LoadsOn more receiver.old receiver.new parser.old parser.new) }
-{
-    let answer = parser.load(receiver, false);
-    is_unrefused(alloc, receiver, answer)
 }
 
 // All that was handed over is as expected, and so is the fault that was answered. Whether none was.
@@ -166,9 +166,7 @@ fn is_unrefused(
     alloc: Global,
     receiver: &mut ComparingReceiver<'_>,
     answer: Result<(), Fault>,
-) -> Result<bool, Difference>
-    ensures { IfOk result (λ more. TakesAnswer answer more receiver.old receiver.new) }
-{
+) -> Result<bool, Difference> {
     if matches!(answer, Err(Fault::Receiver)) {
         drop(answer);
         receiver.check()?;
@@ -184,9 +182,7 @@ fn by_peek<T: CloneInput>(
     alloc: Global,
     parser: &Parser<'_, T>,
     lines: &[String],
-) -> Result<(), Difference>
-    ensures { OnOk result (ListAll lines.now (to_come parser.now)) }
-{
+) -> Result<(), Difference> {
     let mut clone = parser.try_clone()?;
     peek_each(&mut clone, &mut Expected::new(alloc, lines))
 }
@@ -194,9 +190,7 @@ fn by_peek<T: CloneInput>(
 fn peek_each<T: Input + Drop>(
     parser: &mut Parser<'_, T>,
     expected: &mut Expected<'_>,
-) -> Result<(), Difference>
-    ensures { OnOk result (ListAll expected.old (to_come parser.old)) }
-{
+) -> Result<(), Difference> {
     for _line in expected.left() {
         is_shown(parser, expected)?;
         is_shown(parser, expected)?;
@@ -210,10 +204,7 @@ fn peek_each<T: Input + Drop>(
 fn is_shown<T: Input>(
     parser: &mut Parser<'_, T>,
     expected: &mut Expected<'_>,
-) -> Result<(), Difference>
-    ensures same { expected.new ≡ expected.old }
-    ensures stays { Stays (to_come parser.old) (to_come parser.new) }
-{
+) -> Result<(), Difference> {
     expected.is_next(parser.peek())
 }
 
@@ -221,10 +212,7 @@ fn is_shown<T: Input>(
 fn pass_next<T: Input>(
     parser: &mut Parser<'_, T>,
     expected: &mut Expected<'_>,
-) -> Result<(), Difference>
-    ensures { OnOk result (ListAll expected.new (to_come parser.new)
-        → ListAll expected.old (to_come parser.old)) }
-{
+) -> Result<(), Difference> {
     expected.pass_given(parser.next_event())
 }
 
@@ -233,9 +221,7 @@ fn by_clones<T: CloneInput>(
     alloc: Global,
     parser: &Parser<'_, T>,
     lines: &[String],
-) -> Result<(), Difference>
-    ensures { OnOk result (ListAll lines.now (to_come parser.now)) }
-{
+) -> Result<(), Difference> {
     let mut clone = parser.try_clone()?;
     clone_each(alloc, &mut clone, &mut Expected::new(alloc, lines))
 }
@@ -244,9 +230,7 @@ fn clone_each<T: CloneInput>(
     alloc: Global,
     parser: &mut Parser<'_, T>,
     expected: &mut Expected<'_>,
-) -> Result<(), Difference>
-    ensures { OnOk result (ListAll expected.old (to_come parser.old)) }
-{
+) -> Result<(), Difference> {
     for _line in expected.left() {
         clone_twice(alloc, parser, expected.left())?;
         pass_next(parser, expected)?;
@@ -258,9 +242,7 @@ fn clone_twice<T: CloneInput>(
     alloc: Global,
     parser: &mut Parser<'_, T>,
     lines: &[String],
-) -> Result<(), Difference>
-    ensures { Stays (to_come parser.old) (to_come parser.new) }
-{
+) -> Result<(), Difference> {
     is_left_to_clone(alloc, parser, lines)?;
     let _ = parser.peek();
     is_left_to_clone(alloc, parser, lines)

@@ -1,10 +1,4 @@
 //! What `dump` writes, and what a writer has taken where it fails.
-ghost use Rattle.std.specs.Prelude.{◌≡◌, IfOk, OnOk, Some, false, option_map};
-ghost use Rattle.saphyr_parser.specs.Cursor.{to_come};
-ghost use Rattle.test_events.specs.Lines.{line_of_fault};
-ghost use Rattle.test_events.specs.Listings.{fault_line_of, case_answer};
-ghost use Rattle.test_cases.specs.Agreement.{DumpAgrees};
-ghost use Rattle.test_cases.specs.Dumped.{IsDump, IsWritten};
 
 use crate::inputs::parser_of;
 use saphyr_parser::{DumpFault, Fault, Input, Parser, dump};
@@ -23,17 +17,12 @@ pub const WHOLE: Manner = Manner {
 
 /// Has each write of a text's lines fail in turn, by an error and by nothing taken. Where there are few,
 /// each byte is refused too.
-pub fn compare(alloc: Global, case: &Case) -> Result<(), Difference>
-    ensures { OnOk result (DumpAgrees case.now) }
-{
+pub fn compare(alloc: Global, case: &Case) -> Result<(), Difference> {
     let text = printed(alloc, case.lines.as_slice())?;
     compare_text(alloc, case, text.as_str())
 }
 
-fn compare_text(alloc: Global, case: &Case, text: &str) -> Result<(), Difference>
-    ensures { OnOk result
-        (IsDump (fault_line_of case.now.lines.items) text.now (case_answer case.now)) }
-{
+fn compare_text(alloc: Global, case: &Case, text: &str) -> Result<(), Difference> {
     let by_bytes = Manner {
         at_a_time: 1,
         ..WHOLE
@@ -73,10 +62,7 @@ fn fail_each(alloc: Global, case: &Case, text: &str, manner: Manner) -> Result<(
 }
 
 // Writes the lines of a case. Whether the writer has failed.
-fn write_case(alloc: Global, case: &Case, text: &str, manner: Manner) -> Result<bool, Difference>
-    ensures { IfOk result (λ has_failed.
-        IsWritten has_failed (fault_line_of case.now.lines.items) text.now (case_answer case.now)) }
-{
+fn write_case(alloc: Global, case: &Case, text: &str, manner: Manner) -> Result<bool, Difference> {
     is_dumped(
         alloc,
         parser_of(alloc, case),
@@ -94,10 +80,7 @@ pub fn is_dumped<T: Input + Drop>(
     text: &str,
     fault: Option<&str>,
     manner: Manner,
-) -> Result<bool, Difference>
-    ensures { IfOk result (λ has_failed.
-        IsWritten has_failed (option_map (λ line. line.now) fault.entry) text.now (to_come parser.entry)) }
-{
+) -> Result<bool, Difference> {
     let mut writer = KeepingWriter::new(alloc, manner);
     let answer = dump(&mut parser, &mut writer);
     drop(parser);
@@ -116,10 +99,7 @@ pub fn is_dumped<T: Input + Drop>(
 }
 
 // The line of a fault is as expected. No writer has failed.
-fn is_fault(alloc: Global, found: Fault, fault: Option<&str>) -> Result<bool, Difference>
-    ensures { IfOk result (λ has_failed. (has_failed ≡ false)
-        × (option_map (λ line. line.now) fault.entry ≡ Some (line_of_fault found))) }
-{
+fn is_fault(alloc: Global, found: Fault, fault: Option<&str>) -> Result<bool, Difference> {
     let mut line = String::new(alloc);
     let pushed = push_item(&mut line, Err(&found));
     drop(found);

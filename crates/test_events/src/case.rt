@@ -1,8 +1,4 @@
 //! The cases of a file.
-ghost use Rattle.std.specs.Prelude.{◌≡◌, [], IfOk, OnOk, map, option_map};
-ghost use Rattle.std.specs.Str.Lines.{lines};
-ghost use Rattle.test_events.specs.Files.{LineComes, TakesLine, case_of, cases_of, fields_of};
-ghost use Rattle.test_events.specs.Listings.{fault_line_of, is_fault_line};
 
 use crate::escape::unescaped;
 use std::alloc::{AllocError, Global};
@@ -27,9 +23,7 @@ impl Drop for Case {
 }
 
 /// The cases of a file.
-pub fn parse_cases(alloc: Global, text: &str) -> Result<Vec<Case>, AllocError>
-    ensures { IfOk result (λ cases. map fields_of cases.items ≡ cases_of (lines text.now)) }
-{
+pub fn parse_cases(alloc: Global, text: &str) -> Result<Vec<Case>, AllocError> {
     let mut cases = Vec::new(alloc);
     for line in text.lines() {
         parse_line(alloc, &mut cases, line)?;
@@ -38,9 +32,7 @@ pub fn parse_cases(alloc: Global, text: &str) -> Result<Vec<Case>, AllocError>
 }
 
 // Takes the next line of a file.
-fn parse_line(alloc: Global, cases: &mut Vec<Case>, line: &str) -> Result<(), AllocError>
-    ensures { OnOk result (LineComes line.now cases.old.items cases.new.items) }
-{
+fn parse_line(alloc: Global, cases: &mut Vec<Case>, line: &str) -> Result<(), AllocError> {
     if let Some(title) = line.strip_prefix("= ") {
         cases.push(Case::new(alloc, title)?)?;
     } else if let Some(case) = cases.last_mut() {
@@ -50,25 +42,19 @@ fn parse_line(alloc: Global, cases: &mut Vec<Case>, line: &str) -> Result<(), Al
 }
 
 /// Whether a line is that of a fault.
-pub fn is_fault(line: &str) -> bool
-    ensures { result ≡ is_fault_line line.now }
-{
+pub fn is_fault(line: &str) -> bool {
     line.starts_with("! ")
 }
 
 impl Case {
     /// The line of the fault that ends the events, where one does.
-    pub fn fault_line(&self) -> Option<&str>
-        ensures { option_map (λ line. line.now) result ≡ fault_line_of self.now.lines.items }
-    {
+    pub fn fault_line(&self) -> Option<&str> {
         let line = self.lines.last()?.as_str();
         if is_fault(line) { Some(line) } else { None }
     }
 
     // The case that a line `= TITLE` begins.
-    fn new(alloc: Global, title: &str) -> Result<Case, AllocError>
-        ensures { IfOk result (λ case. fields_of case ≡ case_of (title.now, [])) }
-    {
+    fn new(alloc: Global, title: &str) -> Result<Case, AllocError> {
         let name = title.strip_suffix(" keep_tags");
         Ok(Case {
             name: String::from_str(alloc, name.unwrap_or(title))?,
@@ -79,9 +65,7 @@ impl Case {
     }
 
     // Takes the next line of the case.
-    fn take_line(&mut self, alloc: Global, line: &str) -> Result<(), AllocError>
-        ensures { OnOk result (TakesLine line.now (fields_of self.old) (fields_of self.new)) }
-    {
+    fn take_line(&mut self, alloc: Global, line: &str) -> Result<(), AllocError> {
         match line.strip_prefix("< ") {
             Some(text) => self.text = unescaped(alloc, text)?,
             None => self.lines.push(unescaped(alloc, line)?)?,

@@ -1,5 +1,4 @@
 //! How the answers of a parser differ from a list.
-ghost use Rattle.std.specs.Prelude.{◌≡◌, is_ok};
 
 use std::alloc::{AllocError, Global};
 
@@ -48,9 +47,7 @@ impl Difference {
     }
 
     /// What was found, with where that was.
-    pub fn found_in(alloc: Global, place: &str, found: Result<(), Self>) -> Result<(), Self>
-        ensures { is_ok result ≡ is_ok found }
-    {
+    pub fn found_in(alloc: Global, place: &str, found: Result<(), Self>) -> Result<(), Self> {
         match found {
             Ok(()) => Ok(()),
             Err(difference) => Err(difference.within(alloc, place)),

@@ -1,15 +1,9 @@
 //! The escapes in a line of a case.
-ghost use Rattle.std.specs.Prelude.{◌≡◌, IfOk, string_bytes};
-ghost use Rattle.test_events.specs.Escapes as escapes;
-ghost use Rattle.test_events.specs.Escapes.{EscapeStep, ReadsBack};
 
 use std::alloc::{AllocError, Global};
 
 /// A line with the characters that its escapes stand for.
-pub fn unescaped(alloc: Global, line: &str) -> Result<String, AllocError>
-    ensures is { IfOk result (λ text. string_bytes text ≡ escapes.unescaped_bytes line.now) }
-    ensures written { IfOk result (λ text. ReadsBack line.now (string_bytes text)) }
-{
+pub fn unescaped(alloc: Global, line: &str) -> Result<String, AllocError> {
     let mut text = String::new(alloc);
     let mut escape = Escape::None;
     for c in line.chars() {
@@ -32,9 +26,7 @@ pub enum Escape {
 
 impl Escape {
     // The character that is there once the next one is read, and how much has then been read.
-    fn read(self, c: char) -> (Option<char>, Escape)
-        ensures { EscapeStep self c result.0 result.1 }
-    {
+    fn read(self, c: char) -> (Option<char>, Escape) {
         match self {
             Escape::None if c == '\\' => (None, Escape::Begun),
             Escape::None => (Some(c), Escape::None),
@@ -47,9 +39,7 @@ impl Escape {
 }
 
 // The character that a backslash and this one stand for.
-fn named(c: char) -> char
-    ensures { result ≡ escapes.named_character c }
-{
+fn named(c: char) -> char {
     match c {
         'n' => '\n',
         'r' => '\r',
@@ -59,16 +49,12 @@ fn named(c: char) -> char
 }
 
 // The character with this number.
-fn char_of(code: u32) -> char
-    ensures { result ≡ escapes.char_of code }
-{
+fn char_of(code: u32) -> char {
     char::from_u32(code).unwrap_or('\u{fffd}')
 }
 
 // A number with a further hexadecimal digit. A brace adds nothing.
-fn with_digit(number: u32, c: char) -> u32
-    ensures { result ≡ escapes.with_digit number c }
-{
+fn with_digit(number: u32, c: char) -> u32 {
     match c.to_digit(16) {
         Some(digit) => number.wrapping_mul(16).wrapping_add(digit),
         None => number,

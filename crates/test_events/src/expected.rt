@@ -1,12 +1,9 @@
 //! The lines that a parser is to give.
-ghost use Rattle.std.specs.Prelude.{◌≡◌, OnOk, [], drop, is_ok, if◌then◌else◌, string_bytes};
-ghost use Rattle.test_events.specs.Lines.{Comes, ComesFirst, item_of};
 
 use crate::difference::Difference;
 use crate::printing::push_item;
 use saphyr_parser::{Event, Fault, Span};
 use std::alloc::Global;
-use std::marker::Model;
 
 /// The lines that are still to come.
 pub struct Expected<'a> {
@@ -26,19 +23,8 @@ impl Drop for Expected<'_> {
     }
 }
 
-impl<'a> Model for Expected<'a> {
-    ghost use Rattle.std.specs.Prelude.{List, String};
-    ghost use Rattle.std.specs.declared.alloc.Global.{Global as Heap};
-
-    ghost Value = { List (String Heap) };
-
-    ghost view = { λ e. e.lines.now };
-}
-
 impl<'a> Expected<'a> {
-    pub fn new(alloc: Global, lines: &'a [String]) -> Self
-        ensures { result ≡ lines.now }
-    {
+    pub fn new(alloc: Global, lines: &'a [String]) -> Self {
         Expected {
             alloc,
             lines,
@@ -47,9 +33,7 @@ impl<'a> Expected<'a> {
     }
 
     /// The lines that haven't come.
-    pub fn left(&self) -> &'a [String]
-        ensures { result.now ≡ self.now }
-    {
+    pub fn left(&self) -> &'a [String] {
         self.lines
     }
 
@@ -57,10 +41,7 @@ impl<'a> Expected<'a> {
     pub fn is_next(
         &mut self,
         item: Option<Result<&(Event<'_>, Span), &Fault>>,
-    ) -> Result<(), Difference>
-        ensures comes { OnOk result (Comes (item_of item.entry) self.old) }
-        ensures same { self.new ≡ self.old }
-    {
+    ) -> Result<(), Difference> {
         let Some(item) = item else {
             return self.ends();
         };
@@ -73,10 +54,7 @@ impl<'a> Expected<'a> {
     pub fn pass(
         &mut self,
         item: Option<Result<&(Event<'_>, Span), &Fault>>,
-    ) -> Result<(), Difference>
-        ensures comes { OnOk result (Comes (item_of item.entry) self.old) }
-        ensures rest { self.new ≡ (if is_ok result then drop 1 self.old else self.old) }
-    {
+    ) -> Result<(), Difference> {
         let passed = self.is_next(item);
         if passed.is_ok() {
             self.lines = self.lines.get(1..).unwrap_or(&[]);
@@ -88,10 +66,7 @@ impl<'a> Expected<'a> {
     pub fn pass_given(
         &mut self,
         item: Option<Result<(Event<'_>, Span), Fault>>,
-    ) -> Result<(), Difference>
-        ensures comes { OnOk result (Comes item.entry self.old) }
-        ensures rest { self.new ≡ (if is_ok result then drop 1 self.old else self.old) }
-    {
+    ) -> Result<(), Difference> {
         let passed = self.pass_item(&item);
         drop(item);
         passed
@@ -101,10 +76,7 @@ impl<'a> Expected<'a> {
     pub fn pass_item(
         &mut self,
         item: &Option<Result<(Event<'_>, Span), Fault>>,
-    ) -> Result<(), Difference>
-        ensures comes { OnOk result (Comes item.now self.old) }
-        ensures rest { self.new ≡ (if is_ok result then drop 1 self.old else self.old) }
-    {
+    ) -> Result<(), Difference> {
         match item {
             Some(item) => self.pass(Some(item.as_ref())),
             None => self.pass(None),
@@ -112,9 +84,7 @@ impl<'a> Expected<'a> {
     }
 
     // No line is left.
-    fn ends(&self) -> Result<(), Difference>
-        ensures { OnOk result (self.now ≡ []) }
-    {
+    fn ends(&self) -> Result<(), Difference> {
         match self.lines.first() {
             None => Ok(()),
             Some(wanted) => Err(Difference::described(format!(in self.alloc;
@@ -125,9 +95,7 @@ impl<'a> Expected<'a> {
 }
 
 // The line is the first of these.
-fn is_first(alloc: Global, line: &String, lines: &[String]) -> Result<(), Difference>
-    ensures { OnOk result (ComesFirst (string_bytes line.now) lines.now) }
-{
+fn is_first(alloc: Global, line: &String, lines: &[String]) -> Result<(), Difference> {
     match lines.first() {
         Some(wanted) if *wanted == *line => Ok(()),
         Some(wanted) => {

@@ -1,5 +1,5 @@
 //! Texts with the lists of their events, as the files of tests have them, and what compares with them. Besides these,
-//! a plain function from a forest to its events, and one from documents to theirs.
+//! a plain function from documents to their events.
 //!
 //! A case begins with a line `= NAME`, with ` keep_tags` at its end where prefixes of tags hold for later
 //! documents too. Then come the line `< TEXT`, a line `> EVENT @ START END` for each event, and a line
@@ -12,7 +12,6 @@ mod case;
 mod difference;
 mod escape;
 mod expected;
-pub mod forest;
 mod printing;
 mod receiving;
 mod unloading;
@@ -21,7 +20,6 @@ mod writing;
 pub use case::{Case, is_fault, parse_cases};
 pub use difference::Difference;
 pub use expected::Expected;
-pub use forest::forest_events;
 pub use printing::push_item;
 pub use receiving::ComparingReceiver;
 pub use unloading::events_of;

@@ -1,8 +1,4 @@
 //! The events of documents, in the order in which a text has them (YAML 1.2.2, 3.1.1).
-ghost use Rattle.std.specs.Prelude.{◌≡◌, ◌++◌, [], ◌∷◌, IfOk, OnOk, map, option_map};
-ghost use Rattle.saphyr_parser.specs.Views.Events.{happening, resolved_tag};
-ghost use Rattle.yaml_tree.specs.declared.node.Node.{Map, Scalar, Seq};
-ghost use Rattle.yaml_tree.specs.Unloading.{document_events, node_events, unload};
 
 use saphyr_parser::{Event, ScalarStyle, Tag};
 use std::alloc::{AllocError, Global};
@@ -10,9 +6,10 @@ use std::borrow::CowStr;
 use yaml_tree::{Document, Node};
 
 /// The events of all documents of a stream. It takes as much stack as the deepest tree is deep.
-pub fn events_of<'a>(alloc: Global, documents: &'a [Document]) -> Result<Vec<Event<'a>>, AllocError>
-    ensures { IfOk result (λ events. map happening events.items ≡ unload documents.now) }
-{
+pub fn events_of<'a>(
+    alloc: Global,
+    documents: &'a [Document],
+) -> Result<Vec<Event<'a>>, AllocError> {
     let mut events = Vec::new(alloc);
     push(&mut events, Event::StreamStart)?;
     for document in documents {
@@ -22,20 +19,17 @@ pub fn events_of<'a>(alloc: Global, documents: &'a [Document]) -> Result<Vec<Eve
     Ok(events)
 }
 
-fn push_document<'a>(events: &mut Vec<Event<'a>>, document: &'a Document) -> Result<(), AllocError>
-    ensures { OnOk result (map happening events.new.items
-        ≡ map happening events.old.items ++ document_events document.now) }
-{
+fn push_document<'a>(
+    events: &mut Vec<Event<'a>>,
+    document: &'a Document,
+) -> Result<(), AllocError> {
     push(events, Event::DocumentStart(document.explicit))?;
     push_node(events, &document.root)?;
     push(events, Event::DocumentEnd)
 }
 
 #[cycle(pushing)]
-fn push_node<'a>(events: &mut Vec<Event<'a>>, node: &'a Node) -> Result<(), AllocError>
-    ensures { OnOk result (map happening events.new.items
-        ≡ map happening events.old.items ++ node_events node.now) }
-{
+fn push_node<'a>(events: &mut Vec<Event<'a>>, node: &'a Node) -> Result<(), AllocError> {
     match node {
         Node::Alias(id) => push(events, Event::Alias(*id)),
         Node::Scalar(text, style, id, tag) => push_scalar(events, text, *style, *id, tag),
@@ -50,10 +44,7 @@ fn push_sequence<'a>(
     id: usize,
     tag: &Option<Tag>,
     nodes: &'a Vec<Node>,
-) -> Result<(), AllocError>
-    ensures { OnOk result (map happening events.new.items
-        ≡ map happening events.old.items ++ node_events (Seq id tag.now nodes.now)) }
-{
+) -> Result<(), AllocError> {
     push(events, Event::SequenceStart(id, copy_tag(tag)?))?;
     for node in nodes {
         push_node(events, node)?;
@@ -67,10 +58,7 @@ fn push_mapping<'a>(
     id: usize,
     tag: &Option<Tag>,
     pairs: &'a Vec<(Node, Node)>,
-) -> Result<(), AllocError>
-    ensures { OnOk result (map happening events.new.items
-        ≡ map happening events.old.items ++ node_events (Map id tag.now pairs.now)) }
-{
+) -> Result<(), AllocError> {
     push(events, Event::MappingStart(id, copy_tag(tag)?))?;
     for (key, value) in pairs {
         push_node(events, key)?;
@@ -85,26 +73,18 @@ fn push_scalar<'a>(
     style: ScalarStyle,
     id: usize,
     tag: &Option<Tag>,
-) -> Result<(), AllocError>
-    ensures { OnOk result (map happening events.new.items
-        ≡ map happening events.old.items ++ node_events (Scalar text.now style id tag.now)) }
-{
+) -> Result<(), AllocError> {
     let text = CowStr::Borrowed(text.as_str());
     push(events, Event::Scalar(text, style, id, copy_tag(tag)?))
 }
 
-// Where there is no memory the event is let go, and that is proved here once.
-fn push<'a>(events: &mut Vec<Event<'a>>, event: Event<'a>) -> Result<(), AllocError>
-    ensures { OnOk result (map happening events.new.items
-        ≡ map happening events.old.items ++ happening event.entry ∷ []) }
-{
+// Where there is no memory the event is let go, here and nowhere else.
+fn push<'a>(events: &mut Vec<Event<'a>>, event: Event<'a>) -> Result<(), AllocError> {
     events.push(event)?;
     Ok(())
 }
 
-fn copy_tag(tag: &Option<Tag>) -> Result<Option<Tag>, AllocError>
-    ensures { IfOk result (λ copy. option_map resolved_tag copy ≡ option_map resolved_tag tag.now) }
-{
+fn copy_tag(tag: &Option<Tag>) -> Result<Option<Tag>, AllocError> {
     match tag {
         Some(tag) => Ok(Some(tag.try_clone()?)),
         None => Ok(None),

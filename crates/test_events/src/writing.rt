@@ -1,18 +1,12 @@
 //! What `dump` is to write, and a writer that is to take it.
-ghost use Rattle.std.specs.Prelude.{◌≡◌, ◌++◌, ⊤, [], IfOk, MatchOption, string_bytes};
-ghost use Rattle.test_events.specs.Files as files;
-ghost use Rattle.test_events.specs.Files.{dumped_text};
 
 use std::alloc::{AllocError, Global};
 use std::io;
 use std::io::{ErrorKind, Write};
-use std::marker::Model;
 
 /// The lines that `dump` writes for the lines of a case: the events, without the places and without what
 /// begins a document.
-pub fn printed(alloc: Global, lines: &[String]) -> Result<String, AllocError>
-    ensures { IfOk result (λ text. string_bytes text ≡ dumped_text lines.now) }
-{
+pub fn printed(alloc: Global, lines: &[String]) -> Result<String, AllocError> {
     let mut text = String::new(alloc);
     for line in lines {
         if let Some(event) = line.strip_prefix("> ") {
@@ -24,9 +18,7 @@ pub fn printed(alloc: Global, lines: &[String]) -> Result<String, AllocError>
 }
 
 // An event without its place.
-fn shown(event: &str) -> &str
-    ensures { result.now ≡ files.placeless_event event.now }
-{
+fn shown(event: &str) -> &str {
     let (event, _) = event.rsplit_once(" @ ").unwrap_or((event, ""));
     if event == "+DOC ---" { "+DOC" } else { event }
 }
@@ -59,18 +51,8 @@ impl Drop for KeepingWriter {
     }
 }
 
-impl Model for KeepingWriter {
-    ghost use Rattle.std.specs.Prelude.{ℕ, List};
-
-    ghost Value = { List ℕ };
-
-    ghost view = { λ w. w.taken.items };
-}
-
 impl KeepingWriter {
-    pub fn new(alloc: Global, manner: Manner) -> Self
-        ensures { result ≡ [] }
-    {
+    pub fn new(alloc: Global, manner: Manner) -> Self {
         KeepingWriter {
             manner,
             taken: Vec::new(alloc),
@@ -79,9 +61,7 @@ impl KeepingWriter {
     }
 
     /// What is left of a text after the bytes that came, where they are its beginning.
-    pub fn rest_of<'a>(&self, text: &'a str) -> Option<&'a [u8]>
-        ensures { MatchOption result ⊤ (λ rest. text.now ≡ self.now ++ rest.now) }
-    {
+    pub fn rest_of<'a>(&self, text: &'a str) -> Option<&'a [u8]> {
         text.as_bytes().strip_prefix(self.taken.as_slice())
     }
 
@@ -92,10 +72,6 @@ impl KeepingWriter {
 }
 
 impl Write for KeepingWriter {
-    ghost use Rattle.std.specs.Prelude.{Some};
-
-    ghost contents = { λ w. Some w };
-
     fn write(&mut self, buf: &[u8]) -> io::Result<usize> {
         if self.manner.before_failure == 0 {
             self.has_failed = true;

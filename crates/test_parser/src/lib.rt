@@ -16,10 +16,6 @@ mod dumping;
 #[cfg(test)]
 mod events;
 #[cfg(test)]
-mod fault_lines;
-#[cfg(test)]
-mod forests;
-#[cfg(test)]
 mod helpers;
 #[cfg(test)]
 mod limits;
@@ -33,6 +29,8 @@ mod reader;
 mod running;
 #[cfg(test)]
 mod showing;
+#[cfg(test)]
+mod tags;
 #[cfg(test)]
 mod trees;
 #[cfg(test)]

@@ -1,8 +1,5 @@
 //! What `run_dump` prints and says: the lines against the table that they were taken from, and where reading or writing
 //! fails.
-ghost use Rattle.std.specs.Prelude.{◌≡◌, [], codes};
-ghost use Rattle.saphyr_parser.specs.Events.{Alias, Nothing};
-ghost use Rattle.saphyr_parser.specs.Printed.{printed_line};
 
 use crate::helpers::{expect, repeated};
 use crate::writer::{Keeping, Manner, Source, WHOLE};
@@ -89,14 +86,6 @@ const NODES: &[(&str, &str)] = &[
     ("{}", "+STR\n+DOC\n+MAP\n-MAP\n-DOC\n-STR\n"),
     ("!<!%C3%A9> []", "+STR\n+DOC\n+SEQ <!é>\n-SEQ\n-DOC\n-STR\n"),
 ];
-
-// A law, which does nothing when it runs. No text has `Nothing` among its events, and none has so many anchors as there
-// are numbers.
-fn computes_lines_of_no_text()
-    ensures nothing { printed_line Nothing ≡ [] }
-    ensures last_alias { printed_line (Alias 18446744073709551615)
-        ≡ codes "=ALI *18446744073709551615\n" }
-{}
 
 // Scalars, each the only node of a text, and the text's lines.
 const SCALARS: &[(&str, &str)] = &[
@@ -269,7 +258,6 @@ const TEXTS: &[(&str, &str)] = &[
 
 #[test]
 fn prints_a_line_for_each_event(rt: HostRuntime) {
-    computes_lines_of_no_text();
     expect_runs(&rt, rt.alloc(), NODES);
     expect_runs(&rt, rt.alloc(), SCALARS);
     expect_runs(&rt, rt.alloc(), TEXTS);

@@ -1,9 +1,4 @@
 //! What comes after all that a parser gives.
-ghost use Rattle.std.specs.Prelude.{◌≡◌, IfOk, OnOk, string_bytes, true};
-ghost use Rattle.saphyr_parser.specs.Answer.{empty_answer};
-ghost use Rattle.saphyr_parser.specs.Cursor.{to_come};
-ghost use Rattle.test_events.specs.Listings.{is_fault_line};
-ghost use Rattle.test_cases.specs.declared.refused_memory.outcome.Outcome.TheVariants.{Refused};
 
 use crate::refused_memory::loading::{is_over, load_next};
 use crate::refused_memory::outcome::Outcome;
@@ -14,25 +9,13 @@ use std::alloc::Global;
 use test_events::Difference;
 
 /// Whether the line is that of a fault.
-pub fn is_fault(line: &String) -> bool
-    ensures { result ≡ is_fault_line (string_bytes line.now) }
-{
+pub fn is_fault(line: &String) -> bool {
     test_events::is_fault(line.as_str())
 }
 
-// `peek` shows nothing.
-fn shows_nothing<T: Input>(parser: &mut Parser<'_, T>) -> bool
-    ensures { result ≡ true → to_come parser.old ≡ empty_answer }
-{
-    parser.peek().is_none()
-}
-
 /// Nothing is left to show or to give.
-fn gives_nothing<T: Input>(alloc: Global, parser: &mut Parser<'_, T>) -> Result<(), Difference>
-    ensures before { OnOk result (to_come parser.old ≡ empty_answer) }
-    ensures behind { OnOk result (to_come parser.new ≡ empty_answer) }
-{
-    if !shows_nothing(parser) {
+fn gives_nothing<T: Input>(alloc: Global, parser: &mut Parser<'_, T>) -> Result<(), Difference> {
+    if parser.peek().is_some() {
         return Err(Difference::new(alloc, "`peek` shows more"));
     }
     if !matches!(next_kind(parser), Kind::Nothing) {
@@ -45,11 +28,7 @@ fn gives_nothing<T: Input>(alloc: Global, parser: &mut Parser<'_, T>) -> Result<
 pub fn is_ended_by_memory<T: Input>(
     alloc: Global,
     parser: &mut Parser<'_, T>,
-) -> Result<Outcome, Difference>
-    ensures before { OnOk result (to_come parser.old ≡ empty_answer) }
-    ensures behind { OnOk result (to_come parser.new ≡ empty_answer) }
-    ensures refused { IfOk result (λ outcome. outcome ≡ Refused) }
-{
+) -> Result<Outcome, Difference> {
     gives_nothing(alloc, parser)?;
     keeps_want(alloc, parser)?;
     keeps_want(alloc, parser)?;
@@ -57,9 +36,7 @@ pub fn is_ended_by_memory<T: Input>(
 }
 
 // `load` answers lack of memory and sends nothing, and nothing is left after it.
-fn keeps_want<T: Input>(alloc: Global, parser: &mut Parser<'_, T>) -> Result<(), Difference>
-    ensures { OnOk result (to_come parser.new ≡ empty_answer) }
-{
+fn keeps_want<T: Input>(alloc: Global, parser: &mut Parser<'_, T>) -> Result<(), Difference> {
     let (outcome, _) = load_next(alloc, parser, &[], true)?;
     if outcome == Outcome::Whole {
         return Err(Difference::new(alloc, "`load` forgets lack of memory"));
@@ -73,9 +50,7 @@ pub fn is_ended<T: Input>(
     alloc: Global,
     parser: &mut Parser<'_, T>,
     last: &[String],
-) -> Result<Outcome, Difference>
-    ensures { OnOk result (to_come parser.old ≡ empty_answer) }
-{
+) -> Result<Outcome, Difference> {
     gives_nothing(alloc, parser)?;
     let (outcome, left) = load_next(alloc, parser, last, true)?;
     if outcome == Outcome::Refused {

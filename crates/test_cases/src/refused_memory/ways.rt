@@ -1,13 +1,4 @@
 //! The ways to take events one by one.
-ghost use Rattle.std.specs.Prelude.{◌≡◌, ◌<◌, ◌-◌, Err, IfOk, None, OnOk, Ok, Some, drop, length, true};
-ghost use Rattle.saphyr_parser.specs.Types.Fault.TheVariants.{OutOfMemory};
-ghost use Rattle.saphyr_parser.specs.Answer as answer;
-ghost use Rattle.saphyr_parser.specs.Answer.{fault_alone, empty_answer};
-ghost use Rattle.saphyr_parser.specs.Cursor.{Stays, count, to_come};
-ghost use Rattle.test_events.specs.Listings.{ListAll};
-ghost use Rattle.test_cases.specs.Want.{IsInWant, PassesItem};
-ghost use Rattle.test_cases.specs.declared.refused_memory.outcome.Outcome.TheVariants.{Refused, Whole};
-ghost use Rattle.test_cases.specs.declared.refused_memory.ways.Kind.TheVariants.{Nothing};
 
 use crate::refused_memory::ended::{is_ended, is_ended_by_memory, is_fault};
 use crate::refused_memory::outcome::Outcome;
@@ -16,17 +7,13 @@ use std::alloc::Global;
 use test_events::{Difference, Expected};
 
 /// The last line of a case, where there is one.
-pub fn last(lines: &[String]) -> &[String]
-    ensures { result.now ≡ drop (length lines.now - 1) lines.now }
-{
+pub fn last(lines: &[String]) -> &[String] {
     let (_, last) = lines.split_at(lines.len().saturating_sub(1));
     last
 }
 
 /// Whether lack of memory was handed out.
-pub fn is_want(item: &Option<Result<(Event<'_>, Span), Fault>>) -> bool
-    ensures { result ≡ true → item.now ≡ Some (Err OutOfMemory) }
-{
+pub fn is_want(item: &Option<Result<(Event<'_>, Span), Fault>>) -> bool {
     matches!(item, Some(Err(Fault::OutOfMemory)))
 }
 
@@ -34,9 +21,7 @@ pub fn is_want(item: &Option<Result<(Event<'_>, Span), Fault>>) -> bool
 pub fn pass_item(
     item: Option<Result<(Event<'_>, Span), Fault>>,
     expected: &mut Expected<'_>,
-) -> Result<bool, Difference>
-    ensures { IfOk result (λ comes. PassesItem comes item.entry expected.old expected.new) }
-{
+) -> Result<bool, Difference> {
     if is_want(&item) {
         drop(item);
         return Ok(false);
@@ -46,26 +31,20 @@ pub fn pass_item(
 }
 
 /// What is left to give is the lines, or a beginning of them and then lack of memory.
-pub fn take_left<T: Input>(
+pub fn take_left<T: Input + Drop>(
     alloc: Global,
     parser: &mut Parser<'_, T>,
     lines: &[String],
-) -> Result<Outcome, Difference>
-    ensures whole { result ≡ Ok Whole → ListAll lines.now (to_come parser.old) }
-    ensures ended { OnOk result (to_come parser.new ≡ empty_answer) }
-{
+) -> Result<Outcome, Difference> {
     let mut expected = Expected::new(alloc, lines);
     take_lines(parser, &mut expected)
 }
 
-fn take_lines<T: Input>(
+fn take_lines<T: Input + Drop>(
     parser: &mut Parser<'_, T>,
     expected: &mut Expected<'_>,
-) -> Result<Outcome, Difference>
-    ensures whole { result ≡ Ok Whole → ListAll expected.old (to_come parser.old) }
-    ensures ended { OnOk result (to_come parser.new ≡ empty_answer) }
-{
-    while let Some(item) = parser.next_event() {
+) -> Result<Outcome, Difference> {
+    for item in parser.by_ref() {
         if !pass_item(Some(item), expected)? {
             return Ok(Outcome::Refused);
         }
@@ -75,13 +54,11 @@ fn take_lines<T: Input>(
 }
 
 /// The events are taken by `next_event`.
-pub fn by_next_event<T: Input>(
+pub fn by_next_event<T: Input + Drop>(
     alloc: Global,
     parser: &mut Parser<'_, T>,
     lines: &[String],
-) -> Result<Outcome, Difference>
-    ensures { result ≡ Ok Whole → ListAll lines.now (to_come parser.old) }
-{
+) -> Result<Outcome, Difference> {
     match take_left(alloc, parser, lines)? {
         Outcome::Whole => is_ended(alloc, parser, last(lines)),
         Outcome::Refused => is_ended_by_memory(alloc, parser),
@@ -94,9 +71,7 @@ pub fn by_peek<T: Input>(
     alloc: Global,
     parser: &mut Parser<'_, T>,
     lines: &[String],
-) -> Result<Outcome, Difference>
-    ensures { result ≡ Ok Whole → ListAll lines.now (to_come parser.old) }
-{
+) -> Result<Outcome, Difference> {
     let mut expected = Expected::new(alloc, lines);
     peek_lines(alloc, parser, lines, &mut expected)
 }
@@ -106,9 +81,7 @@ fn peek_lines<T: Input>(
     parser: &mut Parser<'_, T>,
     lines: &[String],
     expected: &mut Expected<'_>,
-) -> Result<Outcome, Difference>
-    ensures { result ≡ Ok Whole → ListAll expected.old (to_come parser.old) }
-{
+) -> Result<Outcome, Difference> {
     for line in lines {
         if shows_want(parser) {
             return give_want(alloc, parser);
@@ -125,10 +98,7 @@ fn peek_lines<T: Input>(
 fn pass_shown<T: Input>(
     parser: &mut Parser<'_, T>,
     expected: &mut Expected<'_>,
-) -> Result<bool, Difference>
-    ensures { IfOk result (λ comes. comes ≡ true
-        → ListAll expected.new (to_come parser.new) → ListAll expected.old (to_come parser.old)) }
-{
+) -> Result<bool, Difference> {
     expected.is_next(parser.peek())?;
     pass_item(parser.next_event(), expected)
 }
@@ -138,9 +108,7 @@ fn refuse_copy<T: Input>(
     alloc: Global,
     parser: &mut Parser<'_, T>,
     line: &String,
-) -> Result<Outcome, Difference>
-    ensures { IfOk result (λ outcome. outcome ≡ Refused) }
-{
+) -> Result<Outcome, Difference> {
     if is_fault(line) {
         return is_ended_by_memory(alloc, parser);
     }
@@ -150,11 +118,7 @@ fn refuse_copy<T: Input>(
     ))
 }
 
-fn shows_want<T: Input>(parser: &mut Parser<'_, T>) -> bool
-    ensures stays { Stays (to_come parser.old) (to_come parser.new) }
-    ensures want { result ≡ true → to_come parser.new ≡ fault_alone answer.OutOfMemory }
-    ensures shown { result ≡ true → IsInWant parser.old }
-{
+fn shows_want<T: Input>(parser: &mut Parser<'_, T>) -> bool {
     matches!(parser.peek(), Some(Err(Fault::OutOfMemory)))
 }
 
@@ -167,18 +131,14 @@ pub enum Kind {
 }
 
 /// Takes what `next_event` gives, and passes over it.
-pub fn next_kind<T: Input>(parser: &mut Parser<'_, T>) -> Kind
-    ensures { result ≡ Nothing → to_come parser.new ≡ empty_answer }
-{
+pub fn next_kind<T: Input>(parser: &mut Parser<'_, T>) -> Kind {
     let item = parser.next_event();
     let kind = kind_of(&item);
     drop(item);
     kind
 }
 
-fn kind_of(item: &Option<Result<(Event<'_>, Span), Fault>>) -> Kind
-    ensures { result ≡ Nothing → item.now ≡ None }
-{
+fn kind_of(item: &Option<Result<(Event<'_>, Span), Fault>>) -> Kind {
     match item {
         None => Kind::Nothing,
         Some(Err(Fault::OutOfMemory)) => Kind::Want,
@@ -187,12 +147,10 @@ fn kind_of(item: &Option<Result<(Event<'_>, Span), Fault>>) -> Kind
 }
 
 /// Lack of memory is shown until it is given, and then nothing is left.
-pub fn give_want<T: Input>(alloc: Global, parser: &mut Parser<'_, T>) -> Result<Outcome, Difference>
-    ensures shown { OnOk result (IsInWant parser.old) }
-    ensures lost { OnOk result (0 < count (to_come parser.old)) }
-    ensures ended { OnOk result (to_come parser.new ≡ empty_answer) }
-    ensures refused { IfOk result (λ outcome. outcome ≡ Refused) }
-{
+pub fn give_want<T: Input>(
+    alloc: Global,
+    parser: &mut Parser<'_, T>,
+) -> Result<Outcome, Difference> {
     if !(shows_want(parser) && shows_want(parser)) {
         return Err(Difference::new(alloc, "`peek` doesn't show lack of memory"));
     }

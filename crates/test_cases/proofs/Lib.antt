@@ -1,4 +1,0 @@
-mod Dumped
-mod Ends
-mod Loading
-mod TreesRead

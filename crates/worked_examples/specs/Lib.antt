@@ -1,2 +1,0 @@
-pub mod Forests
-pub mod Wrong
