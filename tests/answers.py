@@ -767,15 +767,15 @@ class Search:
 
     def is_followed(self, place):
         """Whether a token is behind a document that ends at a place (IsDocumentFollowed)."""
-        here, begun = self.apart(place), False
-        c = self.at(here.index)
+        here = self.apart(place)
+        c, front = self.at(here.index), self.text[self.line_starts[here.index]:here.index]
         if self.is_without_content(here) or c in "[{,":
             return True
-        begun = c != END and self.has_break(place, here)
+        begins_line = c != END and not front.strip(BLANK)
         tokens = (self.name_tokens(here, c) if c in "&*" else (), self.tag_tokens(here, IN_BLOCK),
                   self.quoted_tokens(here, ROOT) if c in "'\"" else (), self.plain_tokens(here, IN_BLOCK, ROOT),
                   self.block_scalar_tokens(here, IN_BLOCK, ROOT) if c in "|>" else ())
-        return (here.col > 0 or c != "%") and (begun or any(True for _ in itertools.chain(*tokens)))
+        return (here.col > 0 or c != "%") and (begins_line or any(True for _ in itertools.chain(*tokens)))
 
     def is_unused(self, place, directives):
         """The same of a document without content. A forest with events has no other token there (BeginsEachForest)."""

@@ -188,6 +188,15 @@ WRONG = [
     ("&a x\n--- *a\n", "=VAL &1 :x / -DOC / +DOC --- / =ALI *1"),
 ]
 
+# A document that may come first, before a fault: another token is behind it.
+FIRST = [("a\n: [", "=VAL :a"), ('"a" b', '=VAL "a'), ("|\n a\n: [", "=VAL |a\\n"), ("--- ,", "+DOC --- / =VAL : / -DOC")]
+
+# One that may not.
+TOO_EARLY = [
+    ("k: [a", "=VAL :k"), ('"k": [a', '=VAL "k'), ("[k] : [a", "+SEQ / =VAL :k / -SEQ"), ("*k : [a", "=ALI *1"),
+    ("&k : [a", "=VAL &1 :"), ("a\n%b", "=VAL :a"), ("--- [a", "+DOC --- / =VAL : / -DOC"),
+]
+
 
 def lines_of(answer):
     """All lines of an answer."""
@@ -205,6 +214,12 @@ def is_taken(text, answer):
     return any(answers.events(parts) == lines_of(answer) for parts in answers.Search(text, 2, answers.OPEN).answers())
 
 
+def may_come_first(text, answer):
+    """Whether a document may come first, whatever follows it."""
+    documents = (answers.events(parts) for parts in answers.Search(text, 2, answers.OPEN).first_documents())
+    return lines_of(answer)[1:-1] in documents
+
+
 def wrong_rows():
     for text, answer in RIGHT:
         shown = "".join(line.removesuffix(" ---") + "\n" for line in lines_of(answer))
@@ -216,12 +231,14 @@ def wrong_rows():
     yield from (f"{text!r} is left out by no exception" for text in EXCEPTIONS if not derived(text, frozenset()))
     yield from (f"{text!r} is left out by an exception" for text in REFUSED if derived(text, frozenset()))
     yield from (f"{answer!r} is taken from {text!r}" for text, answer in WRONG if is_taken(text, answer))
+    yield from (f"{answer!r} may not come first in {text!r}" for text, answer in FIRST if not may_come_first(text, answer))
+    yield from (f"{answer!r} may come first in {text!r}" for text, answer in TOO_EARLY if may_come_first(text, answer))
 
 
 def main():
     wrong, left_out = list(wrong_rows()), EXCEPTIONS + REFUSED
-    print(*wrong, f"{len(RIGHT)} right answers, {len(left_out)} texts left out and {len(WRONG)} wrong answers: "
-          f"{len(wrong)} are otherwise", sep="\n")
+    print(*wrong, f"{len(RIGHT)} right answers, {len(left_out)} texts left out, {len(WRONG)} wrong answers and "
+          f"{len(FIRST) + len(TOO_EARLY)} first documents: {len(wrong)} are otherwise", sep="\n")
     return bool(wrong)
 
 
