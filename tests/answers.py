@@ -757,7 +757,8 @@ class Search:
         if is_free:
             for emitted, t in self.emit(place, Document("+DOC", False, ())):
                 for others, u, broken in self.node(t, IN_BLOCK, ROOT):
-                    yield from self.closed(emitted + others, u, broken, "-DOC")
+                    if self.is_followed(u):
+                        yield from self.closed(emitted + others, u, broken, "-DOC")
         for directives, t, broken in self.directives(place) if is_free else [((), place, 0)]:
             if len({handle for handle, _ in directives}) == len(directives):
                 for u in self.marker(self.apart(t), "---"):
@@ -766,7 +767,32 @@ class Search:
     def explicit_document(self, place, directives, broken):
         for emitted, t in self.emit(place, Document("+DOC", True, directives)):
             for others, u, more in self.optional(t, IN_BLOCK, ROOT):
-                yield from self.closed(emitted + others, u, broken | more, "-DOC")
+                if self.is_unused(u, directives) if u.index == t.index else self.is_followed(u):
+                    yield from self.closed(emitted + others, u, broken | more, "-DOC")
+
+    def is_without_content(self, here):
+        """Whether the text ends here, or a marker or a byte order mark is here."""
+        is_marker = self.is_document_indicator(here.index) or self.at(here.index) == MARK
+        return here.index == len(self.text) or here.col == 0 and is_marker
+
+    def is_followed(self, place):
+        """Whether a token is behind a document that ends at a place (IsDocumentFollowed)."""
+        here = self.apart(place)
+        c, front = self.at(here.index), self.text[self.line_starts[here.index]:here.index]
+        if self.is_without_content(here) or c in "[{,":
+            return True
+        begins_line = c != END and not front.strip(BLANK)
+        tokens = (self.name_tokens(here, c) if c in "&*" else (), self.tag_tokens(here, IN_BLOCK),
+                  self.quoted_tokens(here, ROOT) if c in "'\"" else (), self.plain_tokens(here, IN_BLOCK, ROOT),
+                  self.block_scalar_tokens(here, IN_BLOCK, ROOT) if c in "|>" else ())
+        return (here.col > 0 or c != "%") and (begins_line or any(True for _ in itertools.chain(*tokens)))
+
+    def is_unused(self, place, directives):
+        """The same of a document without content. A forest with events has no other token there (BeginsEachForest)."""
+        here = self.apart(place)
+        handles = {handle for (handle, _), _ in self.tag_tokens(here, IN_BLOCK)}
+        others = self.at(here.index) == "," or any(True for _ in self.name_tokens(here, "*"))
+        return self.is_without_content(here) or others or bool(handles - {"", "!", "!!", *dict(directives)})
 
     @way
     def directives(self, place):

@@ -109,7 +109,7 @@ outside state.DocumentStart i =
     (λ ahead b. tt) (tt, tt) (λ e. refl) (λ e. refl) stream_ends
 outside state.DocumentEnd i = complete _ _ (StreamEnd ∷ []) CloseDocument (CloseStream ∷ []) events.DocumentEnd
     (events.StreamEnd ∷ []) ([], ([], [], StreamEnd ∷ [], tt, inl (refl, refl), refl), refl) (λ ahead. tt)
-    (tt, (tt, tt)) (λ e. refl) (λ e. refl) (alone events.DocumentEnd refl stream_ends)
+    (tt, (tt, tt)) (λ e. refl) (λ e. refl) (alone events.DocumentEnd (refl, tt) stream_ends)
 outside _ i = elim i [ ]
 
 mapping_closes : (ps : List Part) (es : List Happening) → EmitsAlways ps es

@@ -1,5 +1,5 @@
--- The tokens that a step uses: some are passed, and the others are its event's own.
-use Rattle.event_laws.proofs.Common.{◌≡◌, List, [], ◌∷◌, ◌++◌, None, refl, ◌⊎◌, arith, Marker, Span, Plain, Kind, BlockEntry, Piece, Happening, Scalar, NodeProperties, BelongsToNone, IsAnchorKind, IsTagKind, ArePropertyTokens, SpansAll, AreContentTokens, BeginsEntries, IsOf, HaveTokens}
+-- The tokens that a step uses: its event's own, and others, which are passed.
+use Rattle.event_laws.proofs.Common.{◌≡◌, List, [], ◌∷◌, ◌++◌, None, refl, sym, append_assoc, append-nil, ◌⊎◌, arith, Marker, Span, Plain, Kind, BlockEntry, Piece, Happening, Scalar, NodeProperties, BelongsToNone, IsAnchorKind, IsTagKind, ArePropertyTokens, SpansAll, AreContentTokens, BeginsEntries, IsOf, HaveTokens}
 use Rattle.event_laws.specs.EventsTaken as taking
 
 abbrev pub ArePassed : List Piece → Type 0
@@ -10,36 +10,72 @@ ArePassed (t ∷ ts) = BelongsToNone t.kind × ArePassed ts
 pub record HasOwn (used : List Piece) (what : Happening) (span : Span) (next : List Piece) : Type 0 where
   pub front : List Piece
   pub own : List Piece
-  pub are : used ≡ front ++ own
+  pub back : List Piece
+  pub are : used ≡ front ++ (own ++ back)
   pub passed : ArePassed front
-  pub is_of : IsOf what span own next
+  pub passed_behind : ArePassed back
+  pub is_of : IsOf what span own (back ++ next)
 
 pub whole : {next : List Piece} (used : List Piece) (what : Happening) (span : Span) → IsOf what span used next
     → HasOwn used what span next
-whole used what span h = record { front = []; own = used; are = refl; passed = tt; is_of = h }
+whole used what span h = record {
+  front = [];
+  own = used;
+  back = [];
+  are = sym (append-nil used);
+  passed = tt;
+  passed_behind = tt;
+  is_of = h;
+}
+
+-- before the tokens that are passed
+pub ahead_of : {next : List Piece} (used : List Piece) (what : Happening) (span : Span) → ArePassed used
+    → IsOf what span [] (used ++ next) → HasOwn used what span next
+ahead_of used what span p h =
+    record { front = []; own = []; back = used; are = refl; passed = tt; passed_behind = p; is_of = h }
 
 -- one token that is passed
 pub passed_one : {next : List Piece} (t : Piece) (what : Happening) (span : Span) → BelongsToNone t.kind
     → IsOf what span [] next → HasOwn (t ∷ []) what span next
-passed_one t what span b h = record { front = t ∷ []; own = []; are = refl; passed = (b, tt); is_of = h }
+passed_one t what span b h = record {
+  front = t ∷ [];
+  own = [];
+  back = [];
+  are = refl;
+  passed = (b, tt);
+  passed_behind = tt;
+  is_of = h;
+}
 
 pub behind_own : {next : List Piece} (t : Piece) (used : List Piece) (what : Happening) (span : Span)
     → BelongsToNone t.kind → HasOwn used what span next → HasOwn (t ∷ used) what span next
-behind_own t used what span b h =
-    record { front = t ∷ h.front; own = h.own; are = cc; passed = (b, h.passed); is_of = h.is_of }
+behind_own t used what span b h = record {
+  front = t ∷ h.front;
+  own = h.own;
+  back = h.back;
+  are = cc;
+  passed = (b, h.passed);
+  passed_behind = h.passed_behind;
+  is_of = h.is_of;
+}
 
--- the events of a list and of the ones after it
-from_front : (front own ts unread : List Piece) (what : Happening) (span : Span) (es : List (Happening × Span))
-    → ArePassed front → IsOf what span own (ts ++ unread) → HaveTokens unread es ts
-    → HaveTokens unread ((what, span) ∷ es) ((front ++ own) ++ ts)
-from_front [] own ts unread what span es p i h = taking.event what span es own ts i h
-from_front (t ∷ front) own ts unread what span es p i h =
-    taking.passed ((what, span) ∷ es) t ((front ++ own) ++ ts) p.0 (from_front front own ts unread what span es p.1 i h)
+-- tokens that are passed before events
+passed_before : (front ts unread : List Piece) (es : List (Happening × Span)) → ArePassed front
+    → HaveTokens unread es ts → HaveTokens unread es (front ++ ts)
+passed_before [] ts unread es p h = h
+passed_before (t ∷ front) ts unread es p h =
+    taking.passed es t (front ++ ts) p.0 (passed_before front ts unread es p.1 h)
 
 pub own_more : (used ts unread : List Piece) (what : Happening) (span : Span) (es : List (Happening × Span))
     → HasOwn used what span (ts ++ unread) → HaveTokens unread es ts
     → HaveTokens unread ((what, span) ∷ es) (used ++ ts)
-own_more used ts unread what span es o h = rw o.are (from_front o.front o.own ts unread what span es o.passed o.is_of h)
+own_more used ts unread what span es o h =
+    let all : used ++ ts ≡ o.front ++ (o.own ++ (o.back ++ ts)) =
+    cc (o.are, append_assoc o.front (o.own ++ o.back) ts, append_assoc o.own o.back ts) in
+    let i : IsOf what span o.own ((o.back ++ ts) ++ unread) = rw (append_assoc o.back ts unread) o.is_of in
+    rw all (passed_before o.front (o.own ++ (o.back ++ ts)) unread ((what, span) ∷ es) o.passed
+    (taking.event what span es o.own (o.back ++ ts) i
+    (passed_before o.back ts unread es o.passed_behind h)))
 
 -- ## Properties
 

@@ -12,7 +12,7 @@ use Rattle.saphyr_scanner.specs.Grammar.Tokens.{Kind}
 use Rattle.saphyr_scanner.specs.Views.Tokens.{Piece, Remaining}
 use Rattle.saphyr_scanner.specs.Grammar.TokenGrammar.{Yields}
 use Rattle.saphyr_scanner.specs.TokensTaken.{IsPlaceOf, AreTakenFrom}
-use Rattle.saphyr_machine.specs.Events.{Happening, DocumentStart, Alias, Scalar, SequenceStart, SequenceEnd, MappingStart, MappingEnd}
+use Rattle.saphyr_machine.specs.Events.{Happening, DocumentStart, DocumentEnd, Alias, Scalar, SequenceStart, SequenceEnd, MappingStart, MappingEnd}
 use Rattle.event_laws.specs.Anchors.{anchors}
 use Rattle.event_laws.specs.Preorder.{parts}
 use Rattle.event_laws.specs.ForestEvents.{events}
@@ -86,8 +86,20 @@ abbrev pub AreEndTokens : Kind → List Piece → Type 0
 AreEndTokens bracket ts =
     (ts ≡ []) ⊎ ((own : Piece) × ((own.kind ≡ bracket) ⊎ (own.kind ≡ tokens.BlockEnd)) × (ts ≡ own ∷ []))
 
+-- what may come behind a document: no directive, before which it needs its `...` (9.2)
+abbrev pub MayFollowDocument : Kind → Type 0
+MayFollowDocument (tokens.VersionDirective major minor) = ⊥
+MayFollowDocument (tokens.TagDirective handle prefix) = ⊥
+MayFollowDocument (tokens.ReservedDirective name) = ⊥
+MayFollowDocument _ = Unit {0}
+
+-- a token is behind a document
+abbrev pub IsDocumentFollowed : List Piece → Type 0
+IsDocumentFollowed [] = ⊥
+IsDocumentFollowed (next ∷ others) = MayFollowDocument next.kind
+
 -- The tokens ts are the event's own, after which others come, and it has their span, unless it is an end's. An explicit
--- document's is its `---`.
+-- document's is its `---`. A document's end has none, but only another token tells that it is there.
 abbrev pub IsOf : Happening → Span → List Piece → List Piece → Type 0
 IsOf (DocumentStart true) span ts others =
     (own : Piece) × (own.kind ≡ tokens.DocumentStart) × (own.span ≡ span) × (ts ≡ own ∷ [])
@@ -105,6 +117,7 @@ IsOf (MappingStart id tag) span ts others =
     × SpansAll ts span
 IsOf SequenceEnd span ts others = AreEndTokens tokens.FlowSequenceEnd ts
 IsOf MappingEnd span ts others = AreEndTokens tokens.FlowMappingEnd ts
+IsOf DocumentEnd span ts others = (ts ≡ []) × IsDocumentFollowed others
 IsOf _ span ts others = ts ≡ []
 
 -- The events have their tokens, in order, and no token of a node is passed over, nor one that ends a collection. After

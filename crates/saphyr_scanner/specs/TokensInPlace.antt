@@ -29,12 +29,13 @@ pub record Enclosed : Type 0 where
   pub key : Option Marker
 
 -- what began right before a token: a block collection, a node, whose anchor or tag ends on a line, or an implicit
--- key
+-- key; or the content of a node in flow style, which ends on a line
 pub data Begun : Type 0 where
   Nothing : Begun
   BlockSequence : Begun
   BlockMapping : Begun
   Property : ℕ → Begun
+  Content : ℕ → Begun
   KeyStart : Begun
 
 -- what encloses a token innermost, what is around that, what has begun, and the columns of the open block collections,
@@ -116,17 +117,28 @@ behind_pair_colon e = e
 abbrev pub has_text : Span → Bool
 has_text span = nat_lt span.start.index span.end.index
 
+-- 8.1: no block scalar
+abbrev pub is_flow_style : ScalarStyle → Bool
+is_flow_style style.Literal = false
+is_flow_style style.Folded = false
+is_flow_style _ = true
+
+abbrev pub behind_scalar : ScalarStyle → ℕ → Begun
+behind_scalar style line = if is_flow_style style then Content line else Nothing
+
 -- what encloses the token after
 abbrev pub enclosures_behind : Kind → Span → Enclosures → Enclosures
 enclosures_behind tokens.BlockSequenceStart span all = begun_at BlockSequence span.start.col all
 enclosures_behind tokens.BlockMappingStart span all = begun_at BlockMapping span.start.col all
 enclosures_behind tokens.BlockEnd span all = block_ended all
 enclosures_behind tokens.FlowSequenceStart span all = entered Sequence all
-enclosures_behind tokens.FlowSequenceEnd span all = left_for all.outer all.columns
+enclosures_behind tokens.FlowSequenceEnd span all =
+    with_begun (Content span.end.line) (left_for all.outer all.columns)
 enclosures_behind tokens.FlowMappingStart span all =
     if has_text span then entered Mapping all else turned_to PairKey all
 enclosures_behind tokens.FlowMappingEnd span all =
-    if has_text span then left_for all.outer all.columns else turned_to Sequence all
+    if has_text span then with_begun (Content span.end.line) (left_for all.outer all.columns)
+    else turned_to Sequence all
 enclosures_behind tokens.FlowEntry span all = turned_to (behind_comma all.inner.enclosure) all
 enclosures_behind tokens.Key span all =
     if has_text span then turned_to (enclosure_behind_question all.inner.enclosure) all
@@ -134,6 +146,8 @@ enclosures_behind tokens.Key span all =
 enclosures_behind tokens.Value span all = turned_to (behind_pair_colon all.inner.enclosure) all
 enclosures_behind (tokens.Anchor name) span all = with_begun (Property span.end.line) all
 enclosures_behind (tokens.Tag handle suffix) span all = with_begun (Property span.end.line) all
+enclosures_behind (tokens.Alias name) span all = with_begun (Content span.end.line) all
+enclosures_behind (tokens.Scalar style value) span all = with_begun (behind_scalar style span.end.line) all
 enclosures_behind _ span all = with_begun Nothing all
 
 -- ## What may come there
@@ -180,12 +194,6 @@ fits e columns tokens.Key span = has_text span || may_begin_key e
 fits e columns tokens.Value span = is_in_brackets e || is_at_column span.start.col columns
 fits e columns _ span = true
 
--- 8.1: no block scalar
-abbrev pub is_flow_style : ScalarStyle → Bool
-is_flow_style style.Literal = false
-is_flow_style style.Folded = false
-is_flow_style _ = true
-
 -- 7: a token of a flow node, which may be an implicit key: properties, an alias, a plain or a quoted scalar, or the
 -- start of a flow collection, which encloses what is in it
 abbrev pub is_of_flow_node : Kind → Span → Bool
@@ -215,7 +223,8 @@ fits_at e (Some key) columns kind span = fits_in_key e key kind span
 
 -- 8.2: A block sequence begins with `-`, and a block mapping with a key or a colon. The properties of a block
 -- collection are on a line before it, also where the `-` of a sequence is at its mapping's column. 7.4, 8.2.2:
--- after the start of an implicit key is a token of its node.
+-- after the start of an implicit key is a token of its node. On the line of a node's content no block collection begins
+-- behind it.
 abbrev pub may_follow : Begun → Kind → Span → Bool
 may_follow Nothing kind span = true
 may_follow BlockSequence tokens.BlockEntry span = true
@@ -227,6 +236,9 @@ may_follow (Property line) tokens.BlockSequenceStart span = nat_lt line span.sta
 may_follow (Property line) tokens.BlockMappingStart span = nat_lt line span.start.line
 may_follow (Property line) tokens.BlockEntry span = nat_lt line span.start.line
 may_follow (Property line) _ span = true
+may_follow (Content line) tokens.BlockSequenceStart span = nat_lt line span.start.line
+may_follow (Content line) tokens.BlockMappingStart span = nat_lt line span.start.line
+may_follow (Content line) _ span = true
 may_follow KeyStart tokens.Value span = false
 may_follow KeyStart _ span = true
 

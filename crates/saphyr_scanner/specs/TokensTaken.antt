@@ -260,7 +260,7 @@ IsScalarToken style.Folded at value span s t =
 
 -- a token from s to t
 abbrev pub IsToken : Surroundings → Kind → Span → Cursor → Cursor → Type 0
-IsToken at tokens.StreamStart span s t = HasNoText span s t
+IsToken at tokens.StreamStart span s t = (s.mark.index ≡ 0) × HasNoText span s t
 IsToken at tokens.StreamEnd span s t = (s.rest ≡ []) × HasNoText span s t
 IsToken at (tokens.VersionDirective major minor) span s t = IsDirectiveToken (version major minor) span s t
 IsToken at (tokens.TagDirective handle prefix) span s t = IsDirectiveToken (tag_prefix handle prefix) span s t

@@ -1,6 +1,7 @@
 -- The steps at the content and the end of documents are turned.
-use Rattle.event_laws.proofs.OwnTokens.{ArePassed}
-use Rattle.event_laws.proofs.Common.{BelongsToNone, ◌≡◌, Bool, true, false, List, [], ◌∷◌, ◌++◌, map, Option, Result, Ok, Err, refl, sym, ap, ◌∙◌, ◌⊎◌, inl, inr, append_assoc, append-nil, arith, if◌then◌else◌, Marker, Span, Refusal, Directive, Version, TagPrefix, Reserved, Forest, Kind, directive_token, Piece, InBlock, AreMarks, AreEndsAndMarks, YieldDocuments, State, Part, CloseDocument, kinds, ◌>>=◌, Machine, with_pieces, node}
+use Rattle.event_laws.proofs.OwnTokens.{ArePassed, ahead_of}
+use Rattle.event_laws.specs.EventsTaken.{MayFollowDocument, IsDocumentFollowed}
+use Rattle.event_laws.proofs.Common.{BelongsToNone, ◌≡◌, Bool, true, false, List, [], ◌∷◌, ◌++◌, map, Option, Result, Ok, Err, refl, ap, ◌∙◌, ◌⊎◌, inl, inr, append_assoc, arith, if◌then◌else◌, Marker, Span, Refusal, Directive, Version, TagPrefix, Reserved, Forest, Kind, directive_token, Piece, InBlock, AreMarks, AreEndsAndMarks, YieldDocuments, State, Part, CloseDocument, kinds, ◌>>=◌, Machine, with_pieces, node}
 use Rattle.saphyr_scanner.specs.Grammar.Tokens as tokens
 use Rattle.saphyr_machine.specs.declared.state.State.TheVariants as state
 use Rattle.saphyr_machine.specs.Steps.Block.{block_node}
@@ -95,6 +96,12 @@ passed_with : (marks : List Piece) (u : Piece) → AreMarks (kinds marks) → Be
 passed_with [] u a b = (b, tt)
 passed_with (t ∷ marks) u a b = (rw a.0 tt, passed_with marks u a.1 b)
 
+-- a token comes after a document where one comes after its marks
+followed : (marks : List Piece) (u : Piece) (others : List Piece) → AreMarks (kinds marks) → MayFollowDocument u.kind
+    → IsDocumentFollowed (marks ++ u ∷ others)
+followed [] u others a m = m
+followed (t ∷ marks) u others a m = rw a.0 tt
+
 -- ## The end of a document
 
 with_end : (marks : List Piece) (u : Piece) (ks : List Kind) (ps : List Part) → u.kind ≡ tokens.DocumentEnd
@@ -146,13 +153,10 @@ end_at_turned tokens.DocumentEnd sp n ts r x e h = rw h.leaves (record {
   emits = refl;
   remembers = refl;
   few = omega arith;
-  places = record {
-    front = h.marks ++ record { span = sp; kind = tokens.DocumentEnd } ∷ [];
-    own = [];
-    are = sym (append-nil (h.marks ++ record { span = sp; kind = tokens.DocumentEnd } ∷ []));
-    passed = passed_with h.marks (record { span = sp; kind = tokens.DocumentEnd }) h.are_marks tt;
-    is_of = refl;
-  };
+  places =
+      let end : Piece = record { span = sp; kind = tokens.DocumentEnd } in
+      ahead_of (h.marks ++ end ∷ []) _ _ (passed_with h.marks end h.are_marks tt)
+      (refl, rw (append_assoc h.marks (end ∷ []) h.rest) (followed h.marks end h.rest h.are_marks tt));
   alive = tt;
   makes = λ ks ps f b. with_end h.marks (record { span = sp; kind = tokens.DocumentEnd }) ks ps refl h.are_marks f;
 })
@@ -167,13 +171,8 @@ end_at_turned k sp n ts r x e h = rw h.leaves (record {
   emits = refl;
   remembers = refl;
   few = omega arith;
-  places = record {
-    front = h.marks;
-    own = [];
-    are = sym (append-nil h.marks);
-    passed = are_passed h.marks h.are_marks;
-    is_of = refl;
-  };
+  places = ahead_of h.marks _ _ (are_passed h.marks h.are_marks)
+      (refl, followed h.marks (record { span = sp; kind = k }) h.rest h.are_marks tt);
   alive = tt;
   makes = λ ks ps f b. without_end h.marks ks ps h.are_marks f (b tt);
 })

@@ -135,8 +135,10 @@ explicit_at_turned tokens.DocumentStart sp n ts r x e h = rw h.leaves (record {
   places = record {
     front = h.used;
     own = record { span = sp; kind = tokens.DocumentStart } ∷ [];
+    back = [];
     are = refl;
     passed = are_passed h.used h.directives h.kinds_are;
+    passed_behind = tt;
     is_of = (record { span = sp; kind = tokens.DocumentStart }, refl, refl, refl);
   };
   alive = (tt, tt);
@@ -229,7 +231,15 @@ stream_over F t us x e n k w o f = record {
   is_over = o;
   emits = simp w;
   few = omega arith;
-  places = record { front = t ∷ []; own = []; are = cc; passed = (rw k tt, tt); is_of = rw w refl };
+  places = record {
+    front = t ∷ [];
+    own = [];
+    back = [];
+    are = cc;
+    passed = (rw k tt, tt);
+    passed_behind = tt;
+    is_of = rw w refl;
+  };
   makes = rw (ap (λ (l : List Piece). t.kind ∷ kinds l) n ∙ ap (λ (l : Kind). l ∷ []) k) f;
 }
 

@@ -27,12 +27,14 @@ StopsGap m g = StopsUnbroken g.behind × StopsFrom m.col m.line g.behind
 abbrev pub IsNoted : Option Marker → Cursor → Type 0
 IsNoted comment s = (comment ≡ None) ⊎ (comment ≡ Some s.mark)
 
--- and outside flow right of the indentation, if it was before
+-- and outside flow right of the indentation, if it was before; and where blanks alone come before, on a later line than
+-- the last word
 abbrev pub EndsPlain : Bool → ℕ → ℕ → ℕ → List ℕ × Marker × Option Marker × Cursor → Type 0
 EndsPlain in_flow indent n line x = IsNoted x.2 x.3 × StopsUnbroken x.3
     × (in_flow ≡ false → indent ≤ n → x.3.blank_so_far ≡ false → indent ≤ x.3.mark.col)
     × (x.3.mark.line < top → line ≤ x.3.mark.line)
     × (x.3.blank_so_far ≡ true → x.3.mark.line < top → line < x.3.mark.line)
+    × (x.3.blank_so_far ≡ true → x.3.mark.line < top → x.1.line < x.3.mark.line)
 
 given_then : {X Y : Type 0} → (P : X → Type 0) (Q : Y → Type 0) (r : Result X Refusal) (f : X → Result Y Refusal)
     → Given P r → ((x : X) → P x → Given Q (f x)) → Given Q (r >>= f)
@@ -73,10 +75,10 @@ gap_stops : (indent : ℕ) (start : Marker) (blanks : List ℕ) (m : Marker) (s 
 unfolding gap_from
 gap_stops indent start blanks m s non_space col line = grind (arith, lines_stop)
 
-ended_ends : (in_flow : Bool) (indent : ℕ) (m end : Marker) (g : PlainGap) → StopsGap m g
-    → Given (EndsPlain in_flow indent m.col m.line) (scalar_end in_flow end g)
+ended_ends : (in_flow : Bool) (indent : ℕ) (m : Marker) (g : PlainGap) → StopsGap m g
+    → Given (EndsPlain in_flow indent m.col m.line) (scalar_end in_flow m g)
 unfolding comment_of
-ended_ends in_flow indent m end g h = grind arith
+ended_ends in_flow indent m g h = grind arith
 
 text_ends : (in_flow : Bool) (indent n line k more : ℕ) (text : List ℕ) (r : PlainScalarRead)
     → (in_flow ≡ false → indent ≤ n → indent ≤ k) → (more < top → line ≤ more)
@@ -86,7 +88,8 @@ text_ends in_flow indent n line k more text (Ok x) col later h = (
   h.1,
   (λ f i b. h.2 f (col f i) b),
   (λ small. let l = h.3 small in let d = later (omega (arith, l, small)) in omega (arith, l, d)),
-  λ b small. let l = h.4 b small in let d = later (omega (arith, l, small)) in omega (arith, l, d),
+  (λ b small. let l = h.4 b small in let d = later (omega (arith, l, small)) in omega (arith, l, d)),
+  h.5,
 )
 text_ends in_flow indent n line k more text (Err e) col later h = tt
 
@@ -105,11 +108,11 @@ either false indent n k i on front = let l = on refl in omega (arith, i, l)
 mutual
   unfolding word_behind_gap word gap
 
-  between_ends : (in_flow : Bool) (indent : ℕ) (start m end : Marker) (g : PlainGap) (left : ℕ) (xs : List ℕ)
+  between_ends : (in_flow : Bool) (indent : ℕ) (start m : Marker) (g : PlainGap) (left : ℕ) (xs : List ℕ)
       → StopsGap m g
-      → Given (EndsPlain in_flow indent m.col m.line) (word_behind_gap in_flow indent start end g left xs)
-  between_ends in_flow indent start m end g left [] h = ended_ends in_flow indent m end g h
-  between_ends in_flow indent start m end g zero (c ∷ cs) h =
+      → Given (EndsPlain in_flow indent m.col m.line) (word_behind_gap in_flow indent start m g left xs)
+  between_ends in_flow indent start m g left [] h = ended_ends in_flow indent m g h
+  between_ends in_flow indent start m g zero (c ∷ cs) h =
       given_then (λ (b : Bool × Cursor). b.0 ≡ true → in_flow ≡ false → g.behind.blank_so_far ≡ true
       → indent ≤ g.behind.mark.col) (EndsPlain in_flow indent m.col m.line)
       (next_word_starts in_flow indent g.behind) _ (next_word_right in_flow indent g.behind)
@@ -117,13 +120,13 @@ mutual
       (λ e. text_ends in_flow indent m.col m.line (g.behind.mark.col + 1) g.behind.mark.line _
       (word in_flow indent start (along g.behind.mark 1) cs)
       (λ f i. either g.behind.blank_so_far indent m.col g.behind.mark.col i h.1.0 (right e f)) h.1.1
-      (word_ends in_flow indent start (along g.behind.mark 1) cs)) (λ _. ended_ends in_flow indent m end g h))
-  between_ends in_flow indent start m end g (suc left) (c ∷ cs) h =
-      between_ends in_flow indent start m end g left cs h
+      (word_ends in_flow indent start (along g.behind.mark 1) cs)) (λ _. ended_ends in_flow indent m g h))
+  between_ends in_flow indent start m g (suc left) (c ∷ cs) h =
+      between_ends in_flow indent start m g left cs h
 
   word_ends : (in_flow : Bool) (indent : ℕ) (start m : Marker) (xs : List ℕ)
       → Given (EndsPlain in_flow indent m.col m.line) (word in_flow indent start m xs)
-  word_ends in_flow indent start m [] = ended_ends in_flow indent m m
+  word_ends in_flow indent start m [] = ended_ends in_flow indent m
       (record { text = []; tabbed = false; behind = mid_line m [] })
       (refl, ((λ _. omega arith), (λ _. omega arith), λ b. absurd (cc)))
   word_ends in_flow indent start m (c ∷ cs) = by_test (is_in_word in_flow (c ∷ cs)) _ _
@@ -133,8 +136,8 @@ mutual
       (λ _. given_then (StopsGap m) (EndsPlain in_flow indent m.col m.line) (gap indent start (mid_line m (c ∷ cs))) _
       (gap_stops indent start _ m _ refl (omega arith) refl)
       (λ g h. by_test (gap_len (c ∷ cs) g == 0) _ _ (Given (EndsPlain in_flow indent m.col m.line))
-      (λ _. ended_ends in_flow indent m m g h)
-      (λ _. between_ends in_flow indent start m m g (pred (gap_len (c ∷ cs) g)) cs h)))
+      (λ _. ended_ends in_flow indent m g h)
+      (λ _. between_ends in_flow indent start m g (pred (gap_len (c ∷ cs) g)) cs h)))
 
 -- a word begins here
 word_begins : (in_flow : Bool) (s : Cursor)

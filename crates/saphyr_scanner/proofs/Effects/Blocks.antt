@@ -1,5 +1,5 @@
 -- What each step of block collections does.
-use Rattle.saphyr_scanner.proofs.Common.{◌≡◌, ℕ, ◌+◌, ◌≤◌, Bool, true, false, [], ◌∷◌, None, refl, sym, ap, ◌∙◌, arith, inl, inr, IsTrue, ◌&&◌, ◌||◌, ◌==◌, slice_index, not, if◌then◌else◌, nat_le, is_break, is_flow, is_blank_or_breakz, found_tabs, Marker, Span, Cursor, ◌>>=◌, pass, Context, Piece, by_test, second_is, not-false, hyphen, question_mark}
+use Rattle.saphyr_scanner.proofs.Common.{◌≡◌, ℕ, ◌+◌, ◌≤◌, ◌<◌, Bool, true, false, [], ◌∷◌, None, refl, sym, ap, ◌∙◌, arith, inl, inr, IsTrue, ◌&&◌, ◌||◌, ◌==◌, slice_index, not, if◌then◌else◌, nat_le, is_break, is_flow, is_blank_or_breakz, found_tabs, Marker, Span, Cursor, ◌>>=◌, pass, Context, Piece, by_test, second_is, not-false, hyphen, question_mark}
 use Rattle.saphyr_scanner.specs.Grammar.Tokens as tokens
 use Rattle.saphyr_scanner.specs.Steps.Gap.{spaces_at}
 use Rattle.saphyr_scanner.specs.Steps.Queue.{empty_piece}
@@ -22,7 +22,7 @@ use Rattle.saphyr_scanner.proofs.Taken.SavedKeys.{further_block, further_right}
 use Rattle.saphyr_scanner.proofs.Taken.Held.{enclosure_of, outside_of, enclosures_of}
 use Rattle.saphyr_scanner.proofs.Taken.KeysInPlace.{Outside, free}
 use Rattle.saphyr_scanner.proofs.Effects.Flow.{has_some}
-use Rattle.saphyr_scanner.proofs.Taken.Later.{apart_later}
+use Rattle.saphyr_scanner.proofs.Taken.Later.{top, apart_later}
 use Rattle.saphyr_scanner.proofs.Taken.Places.{Reaches, reaches_reaches, at_here}
 use Rattle.saphyr_scanner.proofs.Taken.Separated.{spaces_apart}
 
@@ -62,20 +62,20 @@ dash_walked b s c a =
     )))
 
 -- from c, which comes before the `-`, at the column of its collection, which may have begun
-dash : {A : Type 0} (g : Begun) (c d : Core) → slice_index c.cursor.rest 0 ≡ hyphen
+dash : {A : Type 0} (g : Begun) (c d : Core) → (A → c.cursor.mark.line < top) → slice_index c.cursor.rest 0 ≡ hyphen
     → is_blank_or_breakz (slice_index c.cursor.rest 1) ≡ true → in_block c ≡ true → c.key_allowed ≡ true
     → IsAtColumn c.indent c.cursor.mark
     → Same (forget_key c) d → d.key_allowed ≡ true → OnLine (pass 1 c.cursor) d.cursor
     → ((p : Span) → IsTrue (may_follow g tokens.BlockEntry p))
     → DoesWithin A (with_begun g (enclosures_of c)) (enclosures_of d) None 1 1 (forget_key c) d
     (at_mark d.cursor.mark tokens.BlockEntry ∷ [])
-dash g c d first second b allowed column s free o follows =
+dash g c d small first second b allowed column s free o follows =
     let r : Core = forget_key c in
     let u = d.cursor in
     let later = apart_later (pass 1 c.cursor).mark (pass 1 c.cursor).rest u.mark u.rest o.apart in
     and_then (λ n. n) (loud (with_begun g (enclosures_of c)) 1 r (empty_piece u.mark tokens.BlockEntry) u (λ x. refl)
     (rw (follows (empty_piece u.mark tokens.BlockEntry).span) refl) (λ i. absurd (cc)) refl refl
-    ((λ _. (allowed, ap (λ (m : Marker). m.line) o.on_line.4)), λ no. absurd (cc)) b refl
+    (λ a. ((λ _. (allowed, ap (λ (m : Marker). m.line) o.on_line.4, small a)), λ _ _. tt)) b refl
     (indicated 45 r u (empty_piece u.mark tokens.BlockEntry) (record { some = refl; unbroken = refl; is = first })
     o.apart (omega (arith, later.index)) (omega arith) (omega arith)
     (λ t _ _. (t, ap is_blank_or_breakz (second_is c.cursor.rest) ∙ second, o.on_line, refl, column))))
@@ -102,17 +102,18 @@ next_entry_does c e allowed deep first second =
     walked_then (Premises c) (Behind r) (Doing None c) s (block.pass_dash r >>= remove_key) _ (dash_walked c s r a)
     (λ d g. at_most (omega arith) (and_then (λ n. n)
     (block_begins (enclosure_of c.level.context) c _ tokens.BlockSequenceStart place.BlockSequence
-    (λ i. absurd (cc)) refl refl allowed (λ f. absurd (let no = g.2 in cc)) (λ f. absurd (cc)) (λ p. refl)
+    (λ i. absurd (cc)) (λ p. refl) refl allowed (λ a. a.2) (λ f. absurd (let no = g.2 in cc)) (λ f. absurd (cc))
+    (λ p. refl)
     (λ i p u t h. h) (λ x y. refl) (λ p all. refl) (λ p columns. refl) e
     (further_right s.mark.col c f) (ap taken.begins_text first))
-    (dash place.BlockSequence (enter_block s.mark.col c) (record d { key_allowed = true }) first second e allowed refl
-    g.0 refl g.1 (λ p. refl)))))
+    (dash place.BlockSequence (enter_block s.mark.col c) (record d { key_allowed = true }) (λ a. a.2) first second e
+    allowed refl g.0 refl g.1 (λ p. refl)))))
     (λ f. walked_then (Premises c) (Behind (pass_on 1 c)) (Doing None c) s
     (block.pass_dash (pass_on 1 c) >>= remove_key) _ (dash_walked c s (pass_on 1 c) a)
     (λ d g. at_most (omega arith) (and_then (λ n. n)
     (lesser (enclosures_of c) c (forget_key c) (record { block = refl; key = inr refl }) refl (λ n. n)
     (taken.nothing s.mark s.rest) (λ _. ((λ a. inl a), λ r. r)) (forget_requires c g.2))
-    (dash place.Nothing c (record d { key_allowed = true }) first second e allowed
+    (dash place.Nothing c (record d { key_allowed = true }) (λ a. a.2) first second e allowed
     (at_column c.indent s.mark.col (in_block c) e f (deep e)) g.0 refl g.1 (λ p. refl)))))
 
 -- a key may begin outside flow
@@ -209,8 +210,8 @@ key_does c deep first second =
     walked_then (Premises c) (Asked r) (Doing None c) s _ _ (question_walked (Premises c) r a)
     (λ d g. at_most (omega arith) (and_then (λ n. n)
     (block_begins (enclosure_of c.level.context) c _ tokens.BlockMappingStart place.BlockMapping
-    (λ i. absurd (cc)) refl refl (allowed_in (in_block c) c.key_allowed w (further_block s.mark.col c f))
-    (λ yes. absurd (let no = same_free (in_block c) (in_block r) c.required (question_block c.level.context) g.3 in
+    (λ i. absurd (cc)) (λ p. refl) refl (allowed_in (in_block c) c.key_allowed w (further_block s.mark.col c f))
+    (λ a. a.2) (λ yes. absurd (let no = same_free (in_block c) (in_block r) c.required (question_block c.level.context) g.3 in
     let b = further_block s.mark.col c f in cc)) (λ yes. absurd (let b = further_block s.mark.col c f in cc))
     (λ p. refl) (λ i p u t h. h) (λ j y. refl) (λ p all. refl) (λ p columns. refl)
     (further_block s.mark.col c f) (further_right s.mark.col c f) (ap taken.begins_text first)) (and_then (λ n. n)

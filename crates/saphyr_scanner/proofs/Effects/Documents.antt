@@ -84,7 +84,8 @@ spelled : {A : Type 0} (c d : Core) → c.level.key ≡ None → (kind : Kind) (
     → c.cursor.rest ≡ text ++ d.cursor.rest
     → d.cursor.mark.index ≡ c.cursor.mark.index + length text → 0 < length text → is_quiet kind ≡ true
     → ((span : Span) → Neutral (record { span = span; kind = kind }))
-    → ((span : Span) → is_of_flow_node kind span ≡ false) → IsNoEnd kind → is_unbound kind ≡ true
+    → ((span : Span) → is_of_flow_node kind span ≡ false) → IsNoEnd kind
+    → ((span : Span) → is_unbound kind span ≡ true)
     → Same c d → IsRight d → ((b : Bool)
     → IsToken (surroundings b c) kind (record { start = c.cursor.mark; end = d.cursor.mark }) c.cursor d.cursor)
     → Does A None 1 5 c d (up_to_here c.cursor.mark kind d ∷ [])
@@ -94,7 +95,7 @@ spelled c d none kind text is i some q b node e unbound s right token =
     at_most (omega arith) (and_then (λ n. n)
     (quiet 1 c (record { span = record { start = c.cursor.mark; end = u.mark }; kind = kind }) u q
     (b (record { start = c.cursor.mark; end = u.mark })) (node (record { start = c.cursor.mark; end = u.mark })) none e
-    unbound
+    (unbound (record { start = c.cursor.mark; end = u.mark }))
     (record {
       less = λ _. omega (arith, a.counted, i, some);
       span = λ _. record { ahead = a; begins = omega arith; inside = a.later; ends = omega arith };
@@ -216,7 +217,8 @@ mark_walked s e =
     documented s t (record { core = d; actions = up_to_here here.mark tokens.ByteOrderMark d ∷ [] }) c (λ n. n)
     (subst P c.cursor (spelled t.core d c.no_key tokens.ByteOrderMark (byte_order_mark ∷ []) is (omega arith)
     (omega arith) refl
-    (λ p. neutral _ p refl) (λ p. refl) (λ i. absurd (cc)) refl (refl, refl, (λ n. n), refl) (λ _ f. absurd (cc))
+    (λ p. neutral _ p refl) (λ p. refl) (λ i. absurd (cc)) (λ p. refl) (refl, refl, (λ n. n), refl)
+    (λ _ f. absurd (cc))
     (λ _. record { is = is; at_start = col; start = refl; end = refl; goes_on = refl })))))
   where
     no_column : (n : ℕ) (b : Bool) → (nat_lt 0 n || b) ≡ false → n ≡ 0
@@ -294,7 +296,8 @@ directive_walked s col f =
         (quiet 1 t.core (record { span = record { start = t.core.cursor.mark; end = x.1 }; kind = kind }) x.2
         (quiet_directive x.0) (directive_keeps x.0 (record { start = t.core.cursor.mark; end = x.1 }))
         (no_node_directive x.0 (record { start = t.core.cursor.mark; end = x.1 })) c.no_key
-        (directive_is_no_end x.0) (unbound_directive x.0) (directive_reading t.core x col first e))
+        (directive_is_no_end x.0) (unbound_directive x.0 (record { start = t.core.cursor.mark; end = x.1 }))
+        (directive_reading t.core x col first e))
         (still (freed (with_cursor x.2 t.core)) d (refl, refl, (λ n. n), refl) refl
         (λ _. ((λ _. inl refl), λ _ i _ _. inl (let left = c.indent i in omega (arith, left)))))))
     by t c (Err e) col first h = h

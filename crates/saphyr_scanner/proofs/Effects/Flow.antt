@@ -23,9 +23,9 @@ use Rattle.saphyr_scanner.proofs.Taken.Cores.{by_bool, surroundings, forget_requ
 use Rattle.saphyr_scanner.proofs.Taken.SavedKeys.{apart_same}
 use Rattle.saphyr_scanner.proofs.Taken.Indented.{other_than_colon}
 use Rattle.saphyr_scanner.proofs.Taken.Keys.{IsArrival}
-use Rattle.saphyr_scanner.proofs.Taken.Held.{is_unbound, enclosure_of, outside_of, enclosures_of, Adjoins, FitsWithin}
+use Rattle.saphyr_scanner.proofs.Taken.Held.{begins_block, is_unbound, enclosure_of, outside_of, enclosures_of, Adjoins, FitsWithin}
 use Rattle.saphyr_scanner.proofs.Taken.InPlace.{deeper}
-use Rattle.saphyr_scanner.proofs.Taken.KeysInPlace.{no_text, Outside, free}
+use Rattle.saphyr_scanner.proofs.Taken.KeysInPlace.{no_text, Outside, free, calm}
 use Rattle.saphyr_scanner.proofs.Taken.Later.{apart_later}
 use Rattle.saphyr_scanner.proofs.Taken.Parts.{is_quiet, Begins, pair_ends}
 use Rattle.saphyr_scanner.proofs.Taken.Places.{Reaches, at_here}
@@ -37,7 +37,7 @@ pub record Bracket (x : ℕ) (kind : Kind) : Type 0 where
   pub unbroken : is_break x ≡ false
   pub quiet : is_quiet kind ≡ true
   pub no_end : IsNoEnd kind
-  pub unbound : is_unbound kind ≡ true
+  pub other_kind : begins_block kind ≡ false
   pub is : (i : Surroundings) (span : Span) (s t : Cursor) → IsFlowIndicator x span s t → IsToken i kind span s t
 
 -- how many brackets are open after one of more than no characters
@@ -65,20 +65,28 @@ pub record Enters (kind : Kind) (x : Context) (span : Span) : Type 0 where
   pub encloses : (all : Enclosures) → enclosures_behind kind span all ≡ place.entered (enclosure_of x) all
   pub depth : (d : ℕ) → deeper kind span d ≡ suc d
   pub of_node : IsTrue (is_of_flow_node kind span)
+  pub unbound : is_unbound kind span ≡ true
   pub fits : (e : Enclosure) (columns : List ℕ) → IsTrue (fits e columns kind span)
 
 abbrev pub EntersAll : Kind → Context → Type 0
 EntersAll kind x = (span : Span) → span.start.index < span.end.index → Enters kind x span
 
 pub sequence_enters : EntersAll tokens.FlowSequenceStart context.FlowSequence
-sequence_enters span l = record { encloses = λ all. refl; depth = λ d. refl; of_node = refl; fits = λ e columns. refl }
+sequence_enters span l = record {
+  encloses = λ all. refl;
+  depth = λ d. refl;
+  of_node = refl;
+  unbound = refl;
+  fits = λ e columns. refl;
+}
 
 pub mapping_enters : EntersAll tokens.FlowMappingStart context.FlowMapping
 mapping_enters span l = grind arith
 
 -- what encloses the tokens after one that closes
 pub record Leaves (kind : Kind) (span : Span) : Type 0 where
-  pub encloses : (all : Enclosures) → enclosures_behind kind span all ≡ place.left_for all.outer all.columns
+  pub encloses : (all : Enclosures)
+      → calm (enclosures_behind kind span all) ≡ place.left_for all.outer all.columns
   pub depth : (d : ℕ) → deeper kind span (suc d) ≡ d
   pub ends_json : (b : Bool) → ends_json_behind kind span b ≡ true
   pub no_node : is_of_flow_node kind span ≡ false
@@ -86,12 +94,26 @@ pub record Leaves (kind : Kind) (span : Span) : Type 0 where
 abbrev pub LeavesAll : Kind → Type 0
 LeavesAll kind = (span : Span) → span.start.index < span.end.index → Leaves kind span
 
+left_calm : (line : ℕ) (es : List place.Enclosed) (columns : List ℕ)
+    → calm (place.with_begun (place.Content line) (place.left_for es columns)) ≡ place.left_for es columns
+left_calm line es columns = grind arith
+
 pub sequence_leaves : LeavesAll tokens.FlowSequenceEnd
-sequence_leaves span l =
-    record { encloses = λ all. refl; depth = λ d. omega arith; ends_json = λ b. refl; no_node = refl }
+sequence_leaves span l = record {
+  encloses = λ all. left_calm span.end.line all.outer all.columns;
+  depth = λ d. omega arith;
+  ends_json = λ b. refl;
+  no_node = refl;
+}
 
 pub mapping_leaves : LeavesAll tokens.FlowMappingEnd
-mapping_leaves span l = grind arith
+mapping_leaves span l =
+    let some = has_some span l in record {
+      encloses = λ all. rw some (left_calm span.end.line all.outer all.columns);
+      depth = λ d. rw some (omega arith);
+      ends_json = λ b. rw some refl;
+      no_node = refl;
+    }
 
 -- a single pair may have ended before
 abbrev pub ended : Bool → Enclosures → Enclosures
@@ -125,11 +147,11 @@ abbrev pub BeginsPiece : Kind → Type 0
 BeginsPiece kind = (span : Span) → span.start.index < span.end.index → Begins (record { span = span; kind = kind })
 
 bracket : {x : ℕ} {kind : Kind} → (x == 0) ≡ false → (x == colon) ≡ false → is_break x ≡ false → is_quiet kind ≡ true
-    → IsNoEnd kind → is_unbound kind ≡ true
+    → IsNoEnd kind → begins_block kind ≡ false
     → ((i : Surroundings) (span : Span) (s t : Cursor) → IsFlowIndicator x span s t → IsToken i kind span s t)
     → Bracket x kind
 bracket a b c d e f g =
-    record { some = a; other = b; unbroken = c; quiet = d; no_end = e; unbound = f; is = g }
+    record { some = a; other = b; unbroken = c; quiet = d; no_end = e; other_kind = f; is = g }
 
 pub open_sequence : Bracket 91 tokens.FlowSequenceStart
 open_sequence = bracket refl refl refl refl (λ i. absurd (cc)) refl (λ i span s t h. h)
@@ -188,7 +210,7 @@ start_does i kind x b starts counts enters flows n c f =
     let some : c.cursor.mark.index < u.mark.index = omega (arith, later.index) in
     let into = enters span some in
     and_then (λ n. n) (entered n x c behind (bracket_piece kind c u) flows s refl (λ n. n) b.quiet (counts span some)
-    into.encloses into.depth into.of_node into.fits b.no_end b.unbound (starts span some) refl
+    into.encloses into.depth into.of_node into.fits b.no_end into.unbound (starts span some) refl
     (other_than_colon i c.cursor.rest b.other f) (bracket_read i kind c u b f g.1))
     (further (flow.enter x behind) e.1 g.0 (taken.nothing u.mark u.rest)
     (λ _. allows_right (flow.enter x behind) e.1 (λ _. inl refl)
@@ -264,7 +286,7 @@ bracket_walked x kind bracket c d ends first free there silent may f alike put =
         let no = no_text c.cursor.mark.index in
         and_then (λ n. n) (encloses (rw no refl) (quiet_within (enclosures_of c) 0 b t c.cursor refl
         (λ y. ap (λ (z : Collections). z.brackets) (pair_ends c.cursor.mark y)) (λ d. rw no refl) refl refl
-        (λ _. rw no may) (λ i. absurd (cc)) refl
+        (λ _. rw no may) (λ i. absurd (cc)) (rw no refl)
         (empty_reading b tokens.FlowMappingEnd (λ _. inr (refl, inl refl, refl)))))
         (still_within (place.turned_to place.Sequence (enclosures_of c)) (freed b) b (same b) refl
         (λ _. allows_right (freed b) b (λ _. inl refl)
@@ -297,7 +319,7 @@ end_does i kind b counts leaves ends c may close first =
     encloses (m.encloses (outside_of c).columns ∙ sym (left_ended ends (enclosures_of c)) ∙ sym (out.encloses within))
     (left within (with_key None c) l ls t u n j
     (record { above = m.above; keys = m.keys; root = m.root; fewer = m.fewer; encloses = m.encloses }) b.quiet
-    (counts span some) out.depth (close span some (outside_of c) inside) b.no_end b.unbound out.no_node inside
+    (counts span some) out.depth (close span some (outside_of c) inside) b.no_end b.other_kind out.no_node inside
     (λ a. let i = least_reached c.deeper c.indent c.cursor.mark.col a.3 in omega (arith, i, right)) r) in
     by_test (is_block l.context) _ _ Closes (λ _. closes c.adjacent (inl refl))
     (λ _. closes u.mark.index (inr (refl, out.ends_json))))))

@@ -79,7 +79,7 @@ name_does token_of x named n c some f =
     let span : Span = record { start = here.mark; end = y.1.mark } in
     let kind : Kind = token_of y.0 in
     saved n c (with_cursor y.1 d) (record { span = span; kind = kind }) s refl (inl refl) (λ m. inl m) (named.quiet y.0)
-    (named.keeps y.0 span) (named.of_node y.0 span) (named.no_end y.0) (λ _. refl)
+    (named.keeps y.0 span) (named.of_node y.0 span) (named.no_end y.0) (λ _ _ no. absurd (cc))
     (λ i. named.of i y.0 span) refl (other_than_colon x here.rest named.other f) (λ a laws e _ _.
     let place = ap (λ (u : Cursor). u.mark.col) (laws.name here y.1 y.0 some e0).5 in
     let deep = a.0 (sym (same_block n c l r s) ∙ e) in inl (omega (arith, place, deep))) (λ _ _ _ allowed. absurd (cc))
@@ -105,7 +105,7 @@ tag_does n c first =
     (read_walked (Premises c) here (tags.tag f here) (λ e q laws. here_at here e.mark (laws.0.tag f here e q))) (λ y e.
     let span : Span = record { start = here.mark; end = y.2.mark } in
     saved n c (with_cursor y.2 d) (record { span = span; kind = tokens.Tag y.0 y.1 }) s refl (inl refl) (λ m. inl m)
-    refl (neutral _ span refl) refl (λ i. absurd (cc)) (λ _. refl)
+    refl (neutral _ span refl) refl (λ i. absurd (cc)) (λ _ _ no. absurd (cc))
     (λ i a b k. (
       k.6.start,
       ap (λ t. begins_text (slice_index t 0)) k.6.is ∙ ap begins_text (tag_begins k.0 b.rest k.1 k.2 k.3),

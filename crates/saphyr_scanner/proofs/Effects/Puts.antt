@@ -22,14 +22,14 @@ use Rattle.saphyr_scanner.proofs.Taken.Indented.{BeginsNoNode, HasNoColon, IsRig
 use Rattle.saphyr_scanner.proofs.Taken.Neutral.{KeepsBrackets, Neutral}
 use Rattle.saphyr_scanner.proofs.Taken.Cores.{indicator_is_passed}
 use Rattle.saphyr_scanner.proofs.Taken.SavedKeys.{saved_keys, open_quiet, open_loud}
-use Rattle.saphyr_scanner.proofs.Taken.Held.{enclosure_of, outside_of, enclosures_of, began_at, Setting, FitsWithin, Adjoins, is_property, IsParted, is_unbound, unbound_parted, same_calm, unbound_calm, node_parted}
+use Rattle.saphyr_scanner.proofs.Taken.Held.{enclosure_of, outside_of, enclosures_of, began_at, Setting, FitsWithin, Adjoins, begins_block, closes_keys, ClosesKeys, IsParted, is_unbound, open_keys, unbound_parted, same_calm, unbound_calm, node_parted}
 use Rattle.saphyr_scanner.proofs.Taken.Keys.{KeepsDepth, IsArrival, keeps_depth, leads_in, leads_out, lower, keys_put, keys_weaken}
 use Rattle.saphyr_scanner.proofs.Taken.OpenedKeys.{below_key}
 use Rattle.saphyr_scanner.proofs.Taken.InPlace.{deeper}
 use Rattle.saphyr_scanner.proofs.Taken.KeysInPlace.{in_key, awaited, MayOpen, Outside, free, calmed, calm}
 use Rattle.saphyr_scanner.specs.TokensInPlace as place
 use Rattle.saphyr_scanner.specs.TokensInPlace.{Enclosure, Begun, Enclosures, with_begun, begun_at, enclosures_behind, may_begin_key, is_of_flow_node, fits}
-use Rattle.saphyr_scanner.proofs.Taken.Later.{apart_later}
+use Rattle.saphyr_scanner.proofs.Taken.Later.{top, apart_later}
 use Rattle.saphyr_scanner.proofs.Taken.Parts.{is_quiet, Begins, opens_block, with_column, EndsOnLine}
 use Rattle.saphyr_scanner.proofs.Taken.Places.{Reaches, character_reached}
 
@@ -102,7 +102,8 @@ freed c = record c { key_allowed = true }
 -- one that doesn't change which block collections and brackets are open
 pub quiet_within : {A : Type 0} (within : Enclosures) (k : ℕ) (c : Core) (t : Piece) (u : Cursor)
     → is_quiet t.kind ≡ true → KeepsBrackets t → KeepsDepth t → is_of_flow_node t.kind t.span ≡ false
-    → c.level.key ≡ None → (A → FitsWithin within t) → IsNoEnd t.kind → is_unbound t.kind ≡ true → Reading k c t u
+    → c.level.key ≡ None → (A → FitsWithin within t) → IsNoEnd t.kind → is_unbound t.kind t.span ≡ true
+    → Reading k c t u
     → DoesWithin A within (enclosures_behind t.kind t.span within) None k 1 c (freed (with_cursor u c)) (Put t ∷ [])
 quiet_within within k c t u q b depth other none fit e unbound r =
     let d : Core = freed (with_cursor u c) in
@@ -116,7 +117,7 @@ quiet_within within k c t u q b depth other none fit e unbound r =
 
 -- one that changes nothing
 pub quiet : {A : Type 0} (k : ℕ) (c : Core) (t : Piece) (u : Cursor) → is_quiet t.kind ≡ true → Neutral t
-    → is_of_flow_node t.kind t.span ≡ false → c.level.key ≡ None → IsNoEnd t.kind → is_unbound t.kind ≡ true
+    → is_of_flow_node t.kind t.span ≡ false → c.level.key ≡ None → IsNoEnd t.kind → is_unbound t.kind t.span ≡ true
     → Reading k c t u → Does A None k 1 c (freed (with_cursor u c)) (Put t ∷ [])
 quiet k c t u q b other none e unbound r = encloses (sym (b.encloses (enclosure_of c.level.context) (outside_of c))
     ∙ unbound_calm t.kind t.span (enclosures_of c) unbound)
@@ -125,7 +126,8 @@ quiet k c t u q b other none e unbound r = encloses (sym (b.encloses (enclosure_
 
 -- a block collection begins, where no token may be a key any more, nor has to be
 pub block_begins : {A : Type 0} (e : Enclosure) (c : Core) (r : Bool) (kind : Kind) (g : Begun) → IsNoEnd kind
-    → is_property kind ≡ false → calmed g ≡ g → c.key_allowed ≡ true → (c.required ≡ true → c.level.key ≡ None)
+    → ((span : Span) → closes_keys kind span ≡ false) → calmed g ≡ g → c.key_allowed ≡ true
+    → (A → c.cursor.mark.line < top) → (c.required ≡ true → c.level.key ≡ None)
     → (r ≡ true → c.required ≡ true) → ((span : Span) → is_of_flow_node kind span ≡ false)
     → ((i : Surroundings) (span : Span) (s t : Cursor) → IsBlockStart i.indent span s t → IsToken i kind span s t)
     → ((span : Span) (opened : Collections) → collections_behind kind span opened ≡ with_column span.start.col opened)
@@ -135,7 +137,7 @@ pub block_begins : {A : Type 0} (e : Enclosure) (c : Core) (r : Bool) (kind : Ki
     → DoesWithin A (free e (outside_of c))
     (with_begun g (free e (outside_of (enter_block c.cursor.mark.col c)))) None 0 3 c
     (record (with_key None (enter_block c.cursor.mark.col c)) { required = r }) (at_mark c.cursor.mark kind ∷ [])
-block_begins e c r kind g n other same allowed unasked required node is opens begins fit b right first =
+block_begins e c r kind g n other same allowed small unasked required node is opens begins fit b right first =
     let d : Core = record (with_key None (enter_block c.cursor.mark.col c)) { required = r } in
     let within = free e (outside_of c) in
     let none : AreApart c.cursor c.cursor = taken.nothing c.cursor.mark c.cursor.rest in
@@ -148,26 +150,28 @@ block_begins e c r kind g n other same allowed unasked required node is opens be
     (putting within (calm (enclosures_behind kind t.span within)) None 0 2 c d t (empty_reading c kind token) n refl
     refl
     (λ m. inl m)
-    (let y = one_at_most (c.cursor.mark.col + 1) in omega (arith, y)) (λ h _ a. (tt, a.1)) (λ _ _ opened from q _ h.
+    (let y = one_at_most (c.cursor.mark.col + 1) in omega (arith, y)) (λ h _ a. (tt, a.1))
+    (λ premise _ opened from q _ h.
     loud_put within opened from c d q t c.cursor c.cursor none (λ i _. token i) none
     (λ x k. rw (opens (record { start = c.cursor.mark; end = c.cursor.mark }) x) ((refl, k.0), k.1)) refl
-    (fit t.span within.columns) ((λ _. (allowed, refl)), λ no. absurd (cc)) (λ _ f. absurd (let a = allowed in cc))
+    (fit t.span within.columns) ((λ _. (allowed, refl, small premise)), open_keys t d (other t.span))
+    (λ _ f. absurd (let a = allowed in cc))
     (node t.span) b unasked required refl (outermost within opened from c q h b) b h))
 
 -- outside flow a token that changes nothing that is open, where no token may be a key
 pub loud : {A : Type 0} (within : Enclosures) (k : ℕ) (c : Core) (t : Piece) (u : Cursor)
     → ((opened : Collections) → collections_behind t.kind t.span opened ≡ opened) → FitsWithin within t → IsNoEnd t.kind
-    → is_property t.kind ≡ false → is_of_flow_node t.kind t.span ≡ false → IsParted t c (freed (with_cursor u c))
-    → in_block c ≡ true → c.level.key ≡ None → Reading k c t u
+    → closes_keys t.kind t.span ≡ false → is_of_flow_node t.kind t.span ≡ false
+    → (A → IsParted t c (freed (with_cursor u c))) → in_block c ≡ true → c.level.key ≡ None → Reading k c t u
     → DoesWithin A within (enclosures_behind t.kind t.span within) None k 1 c (freed (with_cursor u c)) (Put t ∷ [])
 loud within k c t u same fit e other node parted b none r =
     let d : Core = freed (with_cursor u c) in
     encloses (sym (same_calm t.kind t.span within other))
     (putting within (calm (enclosures_behind t.kind t.span within)) None k 0 c d t r e refl refl (λ m. inl m)
-    (omega arith) (λ h _ a. a) (λ _ laws opened from q _ h.
+    (omega arith) (λ h _ a. a) (λ premise laws opened from q _ h.
     let w = r.token laws in
     loud_put within opened from c d q t c.cursor w.0 (taken.nothing c.cursor.mark c.cursor.rest) w.1 w.2
-    (λ x k. rw (same x) k) refl fit parted (λ _ f. absurd (cc)) node b (λ _. none) (λ e. e) none
+    (λ x k. rw (same x) k) refl fit (parted premise) (λ _ f. absurd (cc)) node b (λ _. none) (λ e. e) none
     (outermost within opened from c q h b) b h))
 
 -- ## A key is saved
@@ -201,7 +205,7 @@ saved_around n c d s a = grind arith
 -- the token that may be a key
 pub saved : (n : ℕ) (c d : Core) (t : Piece) → IsSaved n c d.level d.required → Stays c d → Adjoins t c d
     → (c.comment ≡ None → IsNoted d.comment d.cursor) → is_quiet t.kind ≡ true → Neutral t
-    → IsTrue (is_of_flow_node t.kind t.span) → IsNoEnd t.kind → (is_property t.kind ≡ true → d.key_allowed ≡ false)
+    → IsTrue (is_of_flow_node t.kind t.span) → IsNoEnd t.kind → (IsArrival c → TextLaws → ClosesKeys t d)
     → Begins t → t.span.start ≡ c.cursor.mark → HasNoColon c.cursor.rest → (IsArrival c → TextLaws → IsRight d)
     → (IsArrival c → TextLaws → IsPastLine c.cursor.mark.line d) → Reading 1 c t d.cursor
     → Does (IsArrival c) (Some n) 1 5 c d (Put t ∷ [])
@@ -223,11 +227,13 @@ saved n c d t s a j m q b node e closes begins start some right past h =
     record {
       taken = holds_put within opened from c d p t c.cursor w.0 (taken.nothing c.cursor.mark c.cursor.rest) w.1 w.2
           (quiet_opens t c d q indent indents (λ x z. b.brackets x ∙ z ∙ sym (ap length outer))) j
-          (b.fits (enclosure_of c.level.context) within.columns) (node_parted t c d node closes) (right arrival laws)
+          (b.fits (enclosure_of c.level.context) within.columns) (node_parted t c d node (closes arrival laws))
+          (right arrival laws)
           (saved_indented opened from c (with_cursor c.cursor d) d p t key refl refl arrival (λ _. (start, some))
           (past arrival laws) k) k;
       keys = saved_keys opened.enclosures 0 c p t (with_cursor c.cursor d) q node (b.depth 0)
-          (keeps_depth t c.level c.outer (inr node) b.depth) begins start i.1 key k.taken.past k.keys;
+          (keeps_depth t c.level c.outer (inr node) b.depth) begins start i.1 key
+          (λ allowed. k.taken.past allowed arrival.2) k.keys;
     }))
 
 -- ## A bracket
@@ -239,7 +245,7 @@ pub entered : (n : ℕ) (x : Context) (c d : Core) (t : Piece) → is_block x �
     → ((all : Enclosures) → enclosures_behind t.kind t.span all ≡ place.entered (enclosure_of x) all)
     → ((e : ℕ) → deeper t.kind t.span e ≡ suc e) → IsTrue (is_of_flow_node t.kind t.span)
     → ((e : Enclosure) (columns : List ℕ) → IsTrue (fits e columns t.kind t.span))
-    → IsNoEnd t.kind → is_unbound t.kind ≡ true → Begins t → t.span.start ≡ c.cursor.mark
+    → IsNoEnd t.kind → is_unbound t.kind t.span ≡ true → Begins t → t.span.start ≡ c.cursor.mark
     → HasNoColon c.cursor.rest → Reading 1 c t d.cursor
     → Does (IsArrival c) (Some n) 1 5 c (flow.enter x d) (Put t ∷ [])
 entered n x c d t flows s a m q b enters depth node fit e unbound begins start some h =
@@ -274,7 +280,8 @@ entered n x c d t flows s a m q b enters depth node fit e unbound begins start s
         flows,
         tt,
         saved_keys opened.enclosures 1 c p t (with_cursor c.cursor d) q node (depth 0)
-            (leads_in t (c.level ∷ c.outer) 0 node depth) begins start i.1 key k.taken.past k.keys,
+            (leads_in t (c.level ∷ c.outer) 0 node depth) begins start i.1 key
+            (λ allowed. k.taken.past allowed arrival.2) k.keys,
       );
     }))
 
@@ -284,14 +291,13 @@ pub left : {A : Type 0} (within : Enclosures) (c : Core) (l : Level) (ls : List 
     → Left c l ls → is_quiet t.kind ≡ true
     → ((opened : Collections) → (open_behind t.kind t.span opened).brackets ≡ opened.brackets - 1)
     → ((e : ℕ) → deeper t.kind t.span (suc e) ≡ e) → FitsWithin within t
-    → IsNoEnd t.kind → is_unbound t.kind ≡ true → is_of_flow_node t.kind t.span ≡ false → in_block c ≡ false
+    → IsNoEnd t.kind → begins_block t.kind ≡ false → is_of_flow_node t.kind t.span ≡ false → in_block c ≡ false
     → (A → c.indent ≤ u.mark.col) → Reading 1 c t u
-    → DoesWithin A within (enclosures_behind t.kind t.span within) None 1 1 c
+    → DoesWithin A within (calm (enclosures_behind t.kind t.span within)) None 1 1 c
     (record c { cursor = u; level = l; outer = ls; key_allowed = false; adjacent = n }) (Put t ∷ [])
-left within c l ls t u n j z q b depth fit e unbound node flows right h =
+left within c l ls t u n j z q b depth fit e other node flows right h =
     let d : Core = record c { cursor = u; level = l; outer = ls; key_allowed = false; adjacent = n } in
-    encloses (sym (unbound_calm t.kind t.span within unbound))
-    (putting within (calm (enclosures_behind t.kind t.span within)) None 1 0 c d t h e refl refl (λ m. inl m)
+    putting within (calm (enclosures_behind t.kind t.span within)) None 1 0 c d t h e refl refl (λ m. inl m)
     (omega arith) (λ i _ a. z.above i a.1) (λ premise laws opened from p _ k.
     let w = h.token laws in
     let r = with_piece t p in
@@ -304,14 +310,14 @@ left within c l ls t u n j z q b depth fit e unbound node flows right h =
     record {
       taken = holds_put within opened from c d p t c.cursor w.0 (taken.nothing c.cursor.mark c.cursor.rest) w.1 w.2
           (quiet_opens t c d q refl refl (λ y v. b y ∙ ap (λ i. i - 1) v ∙ sym z.fewer)) j fit
-          (unbound_parted t c d unbound) (λ _ _ _. inl (right premise)) (λ line y. record {
+          ((λ yes. absurd (cc)), λ no. absurd (cc)) (λ _ _ _. inl (right premise)) (λ line y. record {
             free = λ no. indented_then all p t fits (y.free no);
             waits = λ yes. waits_then all c d p t (z.root some ∙ sym (root_inner c.level c.outer some)) line
                 (y.waits yes) (λ _ allowed. absurd (cc));
           }) k;
       keys = z.keys opened.enclosures (next r) r
           (keys_put opened.enclosures 1 0 (next r) p c.indent c.outer t q (leads_out t c.outer 0 depth) outers);
-    }))
+    })
 
 -- ## A candidate turns out to be a key
 

@@ -18,6 +18,8 @@ use Rattle.saphyr_scanner.proofs.LineTails.{OnLine}
 use Rattle.saphyr_scanner.proofs.LessIndented.{less_indented}
 use Rattle.saphyr_scanner.proofs.Reached.{apart_reached, passed_reached}
 use Rattle.saphyr_scanner.proofs.Taken.Cores.{surroundings}
+use Rattle.saphyr_scanner.proofs.Taken.InPlace.{begun_by}
+use Rattle.saphyr_scanner.proofs.Taken.KeysInPlace.{IsPast}
 use Rattle.saphyr_scanner.proofs.Taken.SavedKeys.{IsSaved}
 use Rattle.saphyr_scanner.proofs.Taken.Indented.{BeginsNoNode, other_than_colon}
 use Rattle.saphyr_scanner.proofs.Taken.Keys.{IsArrival}
@@ -45,6 +47,7 @@ record Quoting (quote : Quote) : Type 0 where
       → IsToken i (quote_kind quote value) span s t
   of : (i : Surroundings) (value : List ℕ) (span : Span) (s t : Cursor) → IsToken i (quote_kind quote value) span s t
       → Starts span s
+  past : (value : List ℕ) (span : Span) (n : ℕ) → span.end.line < n → IsPast (begun_by (quote_kind quote value) span) n
 
 quoting : (quote : Quote) → Quoting quote
 quoting Double = record {
@@ -55,6 +58,7 @@ quoting Double = record {
   ends_json = λ v p b. refl;
   is = λ i v p s t k. k;
   of = λ i v p s t k. (k.4, ap (λ l. begins_text (slice_index l 0)) k.1.1);
+  past = λ v p n l. l;
 }
 quoting Single = record {
   other = refl;
@@ -64,6 +68,7 @@ quoting Single = record {
   ends_json = λ v p b. refl;
   is = λ i v p s t k. k;
   of = λ i v p s t k. (k.4, ap (λ l. begins_text (slice_index l 0)) k.1.1);
+  past = λ v p n l. l;
 }
 
 -- later lines of quoted scalars have to reach the column of the innermost block collection at least
@@ -139,7 +144,13 @@ quotes_do quote n c first l r s =
     saved n c (scalar.adjacent_here f) t (rw (same, k.0.3 ∙ g.0.3) s)
     (ap (λ (a : Around). record a { adjacent = c.adjacent }) (k.0.1 ∙ g.0.1)) (inr (refl, (quoting quote).ends_json x.0 t.span))
     (λ m. inl (k.0.2 (g.0.2 m))) ((quoting quote).quiet x.0) (neutral _ t.span refl) (quoting quote).flow (λ i. absurd (cc))
-    (λ no. absurd (cc))
+    (λ arrival laws allowed small.
+    let p = past arrival laws in
+    let line = on_line_same x.1 u g.1 in
+    elim (k.3.begins allowed) [
+      | inl before ↦ absurd (let same = g.2 in cc)
+      | inr later ↦ (quoting quote).past x.0 t.span v.mark.line (later (omega (arith, p.0, line)) small)
+    ])
     (λ i. (quoting quote).of i x.0 t.span) refl (other_than_colon (mark quote) here.rest (quoting quote).other first)
     (λ arrival laws i allowed small.
     let p = past arrival laws in

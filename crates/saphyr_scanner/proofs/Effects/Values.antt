@@ -272,8 +272,8 @@ alone_does b c d x t none =
     (λ f. let r = same_blocks column c d g.0 in
     let allowed = sym g.2 ∙ allowed_in (in_block d) d.key_allowed w (further_block column d f) in
     encloses (turned_in_block b x c d (behind_pair_colon e) column t same) (and_then (λ n. n)
-    (block_begins e c c.required tokens.BlockMappingStart place.BlockMapping (λ i. absurd (cc)) refl refl allowed
-    (λ _. free_key) (λ r. r) (λ p. refl) (λ i p v t h. h) (λ x y. refl) (λ p all. refl) (λ p columns. refl)
+    (block_begins e c c.required tokens.BlockMappingStart place.BlockMapping (λ i. absurd (cc)) (λ p. refl) refl allowed
+    t.small (λ _. free_key) (λ r. r) (λ p. refl) (λ i p v t h. h) (λ x y. refl) (λ p all. refl) (λ p columns. refl)
     (block_same c d g.0 (further_block column d f)) (right_same column c d g.0 f) (ap taken.begins_text t.first))
     (colon_does (with_begun place.BlockMapping (free e (outside_of (enter_block column c))))
     (with_key None (enter_block column c)) (Into true) u t.first t.parted g.1 (

@@ -91,7 +91,7 @@ pub record Marking (stands : List ℕ → Bool) (text : List ℕ) (kind : Kind) 
   pub ends : (xs : List ℕ) → stands xs ≡ true → is_document_indicator xs ≡ true
   pub count : length text ≡ 3
   pub no_node : (span : Span) → is_of_flow_node kind span ≡ false
-  pub unbound : is_unbound kind ≡ true
+  pub unbound : (span : Span) → is_unbound kind span ≡ true
 
 pub start_marking : Marking is_document_start (codes "---") tokens.DocumentStart
 start_marking = grind arith
@@ -117,8 +117,8 @@ directive_is_token d i span s t h = grind arith
 pub quiet_directive : (d : ReadDirective) → is_quiet (document.directive_kind d) ≡ true
 quiet_directive d = grind arith
 
-pub unbound_directive : (d : ReadDirective) → is_unbound (document.directive_kind d) ≡ true
-unbound_directive d = grind arith
+pub unbound_directive : (d : ReadDirective) (span : Span) → is_unbound (document.directive_kind d) span ≡ true
+unbound_directive d span = grind arith
 
 pub no_node_directive : (d : ReadDirective) (span : Span) → is_of_flow_node (document.directive_kind d) span ≡ false
 no_node_directive d span = grind arith

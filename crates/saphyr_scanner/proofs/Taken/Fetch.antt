@@ -41,9 +41,10 @@ end_over opened from s = grind (arith, by_test, over_put, unrolled_required)
 
 -- ## A token is fetched
 
--- no token may be a key before the first
+-- before the first token none may be a key, and nothing was passed
 abbrev pub IsFresh : State → Type 0
-IsFresh t = t.core.ended ≡ false → t.core.started ≡ false → t.core.level.key ≡ None
+IsFresh t = t.core.ended ≡ false → t.core.started ≡ false
+    → (t.core.level.key ≡ None) × (t.core.cursor.mark.index ≡ 0)
 
 pub record Read (opened : Setting) (from : Cursor) (t : State) : Type 0 where
   pub fetched : Fetched opened from t.core t.queue
@@ -119,32 +120,33 @@ here_read laws text small opened from s l going begun a =
     (after_step_fetches _ s r (step_effect (slice_index t 0) (slice_index t 1) (next s.queue) s.core some refl refl
     deep))))))))
 
-begin_live : (opened : Setting) (from : Cursor) (s : State) → s.core.level.key ≡ None → TakenState opened from s
+begin_live : (opened : Setting) (from : Cursor) (s : State) → s.core.level.key ≡ None → s.core.cursor.mark.index ≡ 0
+    → TakenState opened from s
     → Live opened.enclosures s.core s.queue
     → Live opened.enclosures (record s.core { started = true })
     (with_piece (empty_piece s.core.cursor.mark tokens.StreamStart) s.queue)
-begin_live opened from s none h l nz =
+begin_live opened from s none at h l nz =
     (quiet_put (enclosures_of s.core) opened from s.core (record s.core { started = true }) s.queue
     (empty_piece s.core.cursor.mark tokens.StreamStart) s.core.cursor s.core.cursor refl (λ x. refl)
     (λ d. refl) refl none refl
     (unbound_parted (empty_piece s.core.cursor.mark tokens.StreamStart) s.core (record s.core { started = true }) refl)
-    h.right (taken.nothing _ _) (λ _ _. (refl, inl refl, refl)) (taken.nothing _ _)
+    h.right (taken.nothing _ _) (λ _ _. (at, (refl, inl refl, refl))) (taken.nothing _ _)
     (record { level = refl; outer = refl; indent = refl; outer_indents = refl; adjacent = refl; required = refl })
     (record { taken = h; keys = l nz })).keys
 
 begin_read : (opened : Setting) (from : Cursor) (s : State) → s.core.ended ≡ false → s.core.level.key ≡ None
-    → TakenState opened from s → Live opened.enclosures s.core s.queue → Read opened from (begin s)
-begin_read opened from s going none h l = record {
+    → s.core.cursor.mark.index ≡ 0 → TakenState opened from s → Live opened.enclosures s.core s.queue → Read opened from (begin s)
+begin_read opened from s going none at h l = record {
   fetched = record {
     taken = taken_put (enclosures_of s.core) opened from s.core (record s.core { started = true }) s.queue
         (empty_piece s.core.cursor.mark tokens.StreamStart) s.core.cursor s.core.cursor (taken.nothing _ _)
-        (λ _ _. (refl, inl refl, refl)) (taken.nothing _ _) (λ cs k. (k.0, k.1)) (inl refl) refl
+        (λ _ _. (at, (refl, inl refl, refl))) (taken.nothing _ _) (λ cs k. (k.0, k.1)) (inl refl) refl
         (unbound_parted (empty_piece s.core.cursor.mark tokens.StreamStart) s.core (record s.core { started = true })
         refl) h.right (indented_put opened.enclosures s.core (record s.core { started = true }) s.queue
         (empty_piece s.core.cursor.mark tokens.StreamStart)
         (no_node_fits opened.enclosures s.queue (empty_piece s.core.cursor.mark tokens.StreamStart) refl)
         (record { required = refl; root = λ _. refl; block = refl }) (λ w. w.past)) h;
-    live = λ _. inl (begin_live opened from s none h l);
+    live = λ _. inl (begin_live opened from s none at h l);
   };
   over = λ e. absurd (let f : s.core.ended ≡ true = e in cc);
   settled = λ e. absurd (let f : s.core.ended ≡ true = e in cc);
@@ -160,7 +162,7 @@ fetch_read laws text small opened from s l going fresh h k = by_test s.core.star
     let a = given_of (Arrived opened from) (arrive s) t (arrived text small opened from s l h k) e in
     let kept = given_of (FetchesTokens 0 s) (arrive s) t (arrive_advances s) e in
     here_read laws text small opened from t l (kept.ended ∙ going) (kept.started ∙ begun) a))
-    (λ first. begin_read opened from s going (fresh going first) h k)
+    (λ first. let new = fresh going first in begin_read opened from s going new.0 new.1 h k)
 
 -- ## Where a candidate that is too far is dropped
 
@@ -199,7 +201,7 @@ settled_ready opened from s h =
       ];
       over = h.over;
       settled = λ e. rw (h.settled e) (and_false (not (in_block c)));
-      fresh = λ _ _. refl;
+      fresh = λ g b. (refl, (h.fresh g b).1);
     }))
 
 pub read_ready : TextLaws → (text : List ℕ) → length text < 2 ^ 63

@@ -1,5 +1,6 @@
 -- What is known of the tokens that a scanner holds: they are taken from the text, and each may be where it is.
-use Rattle.saphyr_scanner.proofs.Common.{◌≡◌, ℕ, zero, suc, ◌+◌, List, [], ◌∷◌, ◌++◌, length, None, refl, sym, ap, ◌∙◌, arith, subst, IsTrue, ◌≤◌, ◌<◌, ◌⊎◌, Bool, true, inl, inr, false, nat_lt, not, ◌&&◌, Cursor, Span, Piece, Context, ltb-false}
+use Rattle.saphyr_scanner.proofs.Common.{◌≡◌, ℕ, zero, suc, ◌+◌, List, [], ◌∷◌, ◌++◌, length, None, refl, sym, ap, ◌∙◌, arith, subst, IsTrue, ◌≤◌, ◌<◌, ◌⊎◌, Bool, true, inl, inr, false, nat_lt, not, ◌&&◌, Marker, Cursor, Span, Piece, Context, IsPlainReading, by_test, ltb-false}
+use Rattle.saphyr_scalar.specs.declared.scalar.style.ScalarStyle.TheVariants as style
 use Rattle.saphyr_scanner.specs.Grammar.Tokens as tokens
 use Rattle.saphyr_scanner.specs.Grammar.Tokens.{Kind}
 use Rattle.saphyr_scanner.specs.Steps.Queue.{Queue, bare_place, with_piece}
@@ -8,12 +9,12 @@ use Rattle.saphyr_scanner.specs.Steps.Level.{Level}
 use Rattle.saphyr_scanner.specs.declared.engine.level.Context.TheVariants as context
 use Rattle.saphyr_scanner.specs.TokensInPlace as place
 use Rattle.saphyr_scanner.specs.TokensInPlace.{Enclosure, Enclosed, Begun, Enclosures, with_begun, begun_at, enclosures_behind, may_stand, AreInPlace, is_of_flow_node, fits_at, may_follow}
-use Rattle.saphyr_scanner.specs.TokensTaken.{Collections, Surroundings, AreApart, IsToken, AreTokens, open_behind, least_column_in, surroundings_in, ends_json_behind}
+use Rattle.saphyr_scanner.specs.TokensTaken.{Collections, Surroundings, AreApart, LiesOnLine, IsToken, AreTokens, open_behind, least_column_in, surroundings_in, ends_json_behind}
 use Rattle.saphyr_scanner.proofs.Leads.{flat}
 use Rattle.saphyr_scanner.proofs.Taken.InPlace.{all_behind, behind_append, each_append, begun_by, begun_behind}
-use Rattle.saphyr_scanner.proofs.Taken.KeysInPlace.{Outside, free, calmed, calm, IsPast, EndsOn, past_later, past_end}
+use Rattle.saphyr_scanner.proofs.Taken.KeysInPlace.{Outside, free, calmed, calm, IsPast, EndsOn, past_later, past_end, no_text}
 use Rattle.saphyr_scanner.proofs.Taken.Indented.{IsRight, Indented, KeepsRequired, indented_further}
-use Rattle.saphyr_scanner.proofs.Taken.Later.{top, apart_later, end_stays}
+use Rattle.saphyr_scanner.proofs.Taken.Later.{Later, top, apart_later, piece_later, end_stays}
 use Rattle.saphyr_scanner.proofs.Taken.Separated.{apart_apart}
 use Rattle.saphyr_scanner.proofs.Taken.Places.{token_goes_on, token_later, tokens_later}
 use Rattle.saphyr_scanner.proofs.Taken.Parts.{open_all, open_append, tokens_append}
@@ -114,8 +115,8 @@ abbrev pub setting_behind : List Piece → Setting → Setting
 setting_behind ps opened =
     record { collections = open_all ps opened.collections; enclosures = all_behind ps opened.enclosures }
 
--- The tokens are taken from the text, and what encloses the next token is known. Where properties are last no key may
--- begin on their line.
+-- The tokens are taken from the text, and what encloses the next token is known. Where properties or content are last no
+-- key may begin on their line.
 pub record TakenWithin (within : Enclosures) (opened : Setting) (from : Cursor) (c : Core) (q : Queue) : Type 0 where
   pub last : Cursor
   pub tokens : AreTokens opened.collections (flat q.places) from last
@@ -125,7 +126,8 @@ pub record TakenWithin (within : Enclosures) (opened : Setting) (from : Cursor) 
   pub encloses : calm (all_behind (flat q.places) opened.enclosures) ≡ within
   pub small : from.mark.line ≤ top
   pub ends : EndsOn (all_behind (flat q.places) opened.enclosures).begun last.mark.line
-  pub past : c.key_allowed ≡ true → IsPast (all_behind (flat q.places) opened.enclosures).begun c.cursor.mark.line
+  pub past : c.key_allowed ≡ true → c.cursor.mark.line < top
+      → IsPast (all_behind (flat q.places) opened.enclosures).begun c.cursor.mark.line
   pub indented : Indented opened.enclosures c q
   pub right : IsRight c
   pub place : KeepsPlace (open_all (flat q.places) opened.collections).ends_json c
@@ -161,8 +163,9 @@ taken_further within opened from c d q a i o n e allows kept h =
       encloses = h.encloses;
       small = h.small;
       ends = h.ends;
-      past = λ g. elim (allows.0 g) [
-        | inl f ↦ past_later now.begun c.cursor.mark.line d.cursor.mark.line there.0 (h.past f)
+      past = λ g small. elim (allows.0 g) [
+        | inl f ↦ past_later now.begun c.cursor.mark.line d.cursor.mark.line there.0
+            (h.past f (omega (arith, there.0, small)))
         | inr l ↦ past_end now.begun h.last.mark.line d.cursor.mark.line (omega (arith, here.0, l)) h.ends
       ];
       indented = indented_further opened.enclosures c d q kept there.0 allows.0 (end_stays c.cursor d.cursor a)
@@ -192,35 +195,52 @@ begins_block tokens.BlockMappingStart = true
 begins_block tokens.BlockEntry = true
 begins_block _ = false
 
-abbrev pub is_property : Kind → Bool
-is_property (tokens.Anchor name) = true
-is_property (tokens.Tag handle suffix) = true
-is_property _ = false
+-- a property, or the end of a node's content in flow style: on its line no key may begin behind it
+abbrev pub closes_keys : Kind → Span → Bool
+closes_keys (tokens.Anchor name) span = true
+closes_keys (tokens.Tag handle suffix) span = true
+closes_keys (tokens.Alias name) span = true
+closes_keys (tokens.Scalar style value) span = place.is_flow_style style
+closes_keys tokens.FlowSequenceEnd span = true
+closes_keys tokens.FlowMappingEnd span = place.has_text span
+closes_keys _ span = false
 
--- a block collection and an entry begin where a key may, and after properties no key may begin
+-- behind a token a key may begin only on a later line
+abbrev pub ClosesKeys : Piece → Core → Type 0
+ClosesKeys t d = d.key_allowed ≡ true → d.cursor.mark.line < top → IsPast (begun_by t.kind t.span) d.cursor.mark.line
+
+-- where a block collection or an entry begins
+abbrev pub MayBegin : Piece → Core → Type 0
+MayBegin t c = (c.key_allowed ≡ true) × (t.span.start.line ≡ c.cursor.mark.line) × (c.cursor.mark.line < top)
+
+-- a block collection and an entry begin where a key may, and after properties or content no key may begin
 abbrev pub IsParted : Piece → Core → Core → Type 0
-IsParted t c d = (begins_block t.kind ≡ true → (c.key_allowed ≡ true) × (t.span.start.line ≡ c.cursor.mark.line))
-    × (is_property t.kind ≡ true → d.key_allowed ≡ false)
+IsParted t c d = (begins_block t.kind ≡ true → MayBegin t c) × ClosesKeys t d
 
 -- a token that is neither
-abbrev pub is_unbound : Kind → Bool
-is_unbound kind = not (begins_block kind) && not (is_property kind)
+abbrev pub is_unbound : Kind → Span → Bool
+is_unbound kind span = not (begins_block kind) && not (closes_keys kind span)
 
-pub unbound_parted : (t : Piece) (c d : Core) → is_unbound t.kind ≡ true → IsParted t c d
+pub open_keys : (t : Piece) (d : Core) → closes_keys t.kind t.span ≡ false → ClosesKeys t d
+open_keys t d e = grind arith
+
+pub unbound_parted : (t : Piece) (c d : Core) → is_unbound t.kind t.span ≡ true → IsParted t c d
 unbound_parted t c d e = grind arith
 
-pub same_calm : (kind : Kind) (span : Span) (all : Enclosures) → is_property kind ≡ false
+pub same_calm : (kind : Kind) (span : Span) (all : Enclosures) → closes_keys kind span ≡ false
     → calm (enclosures_behind kind span all) ≡ enclosures_behind kind span all
 same_calm kind span all e = grind arith
 
-pub unbound_calm : (kind : Kind) (span : Span) (all : Enclosures) → is_unbound kind ≡ true
+pub unbound_calm : (kind : Kind) (span : Span) (all : Enclosures) → is_unbound kind span ≡ true
     → calm (enclosures_behind kind span all) ≡ enclosures_behind kind span all
 unbound_calm kind span all e = grind arith
 
 -- a node's token begins no block collection
-pub node_parted : (t : Piece) (c d : Core) → IsTrue (is_of_flow_node t.kind t.span)
-    → (is_property t.kind ≡ true → d.key_allowed ≡ false) → IsParted t c d
-node_parted t c d node closes = grind arith
+pub node_parted : (t : Piece) (c d : Core) → IsTrue (is_of_flow_node t.kind t.span) → ClosesKeys t d → IsParted t c d
+node_parted t c d node closes = (λ b. absurd (no t.kind t.span node b), closes)
+  where
+    no : (kind : Kind) (span : Span) → IsTrue (is_of_flow_node kind span) → begins_block kind ≡ true → ⊥
+    no kind span n b = grind arith
 
 calmed_fits : (g : Begun) (kind : Kind) (span : Span) (fit : Bool) → (may_follow (calmed g) kind span && fit) ≡ true
     → (begins_block kind ≡ true → IsPast g span.start.line) → (may_follow g kind span && fit) ≡ true
@@ -231,14 +251,39 @@ behind_begun : (kind : Kind) (span : Span) (g : Begun) (all : Enclosures)
     → enclosures_behind kind span (with_begun g all) ≡ enclosures_behind kind span all
 behind_begun kind span g all = grind arith
 
--- properties end where their token does
-begun_ends : (i : Surroundings) (kind : Kind) (span : Span) (s t : Cursor) → IsToken i kind span s t
-    → EndsOn (begun_by kind span) t.mark.line
-begun_ends i u0 span s t h = grind arith
+-- a plain scalar ends before the white space after it
+plain_end_line : (f : Bool) (s t : Cursor) (text : List ℕ) (end : Marker) → IsPlainReading f s text end t
+    → s.mark.line ≤ top → end.line ≤ t.mark.line
+plain_end_line f s t text end r l =
+    let P : Marker → Type 0 = λ k. Later s.mark (r.piece ++ (r.white ++ t.rest)) k (r.white ++ t.rest) in
+    let Q : Marker → Type 0 = λ k. Later end (r.white ++ t.rest) k t.rest in
+    let a = subst P r.ends (piece_later s.mark r.piece (r.white ++ t.rest)) in
+    let b = subst Q r.behind (piece_later end r.white t.rest) in (b.lines ((a.lines l).1)).0
 
-begun_past : (kind : Kind) (span : Span) (n : ℕ) (allowed : Bool) → (is_property kind ≡ true → allowed ≡ false)
-    → allowed ≡ true → IsPast (begun_by kind span) n
-begun_past kind span n allowed f e = grind arith
+on_its_line : (s : Cursor) (m : Marker) → LiesOnLine s m → m.line ≤ s.mark.line
+on_its_line s m h = let e = ap (λ (k : Marker). k.line) h.4 in omega (arith, e)
+
+-- properties end where their token does, and content there or before
+begun_ends : (i : Surroundings) (kind : Kind) (span : Span) (s t : Cursor) → s.mark.line ≤ top → IsToken i kind span s t
+    → EndsOn (begun_by kind span) t.mark.line
+begun_ends i (tokens.Anchor name) span s t l h = ap (λ (m : Marker). m.line) h.3.end
+begun_ends i (tokens.Tag handle suffix) span s t l h = ap (λ (m : Marker). m.line) h.6.end
+begun_ends i (tokens.Alias name) span s t l h = let e = ap (λ (m : Marker). m.line) h.3.end in omega (arith, e)
+begun_ends i (tokens.Scalar style.Plain value) span s t l h =
+    plain_end_line i.in_flow s t value span.end h.reading l
+begun_ends i (tokens.Scalar style.SingleQuoted value) span s t l h = on_its_line t span.end h.5
+begun_ends i (tokens.Scalar style.DoubleQuoted value) span s t l h = on_its_line t span.end h.5
+begun_ends i (tokens.Scalar style.Literal value) span s t l h = tt
+begun_ends i (tokens.Scalar style.Folded value) span s t l h = tt
+begun_ends i tokens.FlowSequenceEnd span s t l h = on_its_line t span.end h.2
+begun_ends i tokens.FlowMappingEnd span s t l (inl h) =
+    by_test (place.has_text span) _ _ (λ g. EndsOn g t.mark.line) (λ _. on_its_line t span.end h.2) (λ _. tt)
+begun_ends i tokens.FlowMappingEnd span s t l (inr h) = rw no tt
+  where
+    no : place.has_text span ≡ false
+    no = rw h.0 (no_text span.start.index)
+begun_ends i tokens.Key span s t l h = by_test (place.has_text span) _ _ (λ g. EndsOn g t.mark.line) (λ _. tt) (λ _. tt)
+begun_ends i _ span s t l h = tt
 
 -- where lines count up, the tokens stay right of their collections' columns
 abbrev pub PutsIndented : Setting → Core → Core → Queue → Piece → Type 0
@@ -284,8 +329,8 @@ taken_put within opened from c d q t here behind a known b o adjoins f parted ri
           (put_fits within now t c d h.encloses f parted h.past, tt));
       encloses = cc (behind_begun t.kind t.span (calmed now.begun) now);
       small = h.small;
-      ends = rw begun (begun_ends around t.kind t.span here behind is);
-      past = λ e. rw begun (begun_past t.kind t.span d.cursor.mark.line d.key_allowed parted.1 e);
+      ends = rw begun (begun_ends around t.kind t.span here behind last.1 is);
+      past = λ e small. rw begun (parted.1 e small);
       indented = puts (omega (arith, own.0, token.0, ends.0)) h.indented;
       right = right;
       place = rw open_then (keeps_put around c d t here behind open_now a is b refl h.stands.1 stands_then.1 adjoins
@@ -293,9 +338,10 @@ taken_put within opened from c d q t here behind a known b o adjoins f parted ri
     }
   where
     put_fits : (within now : Enclosures) (t : Piece) (c d : Core) → calm now ≡ within → FitsWithin within t
-        → IsParted t c d → (c.key_allowed ≡ true → IsPast now.begun c.cursor.mark.line) → FitsWithin now t
+        → IsParted t c d
+        → (c.key_allowed ≡ true → c.cursor.mark.line < top → IsPast now.begun c.cursor.mark.line) → FitsWithin now t
     put_fits within now t c d e f parted past =
         let P : Enclosures → Type 0 = λ x. FitsWithin x t in
         let Q : ℕ → Type 0 = λ m. IsPast now.begun m in
         calmed_fits now.begun t.kind t.span (fits_at now.inner.enclosure now.inner.key now.columns t.kind t.span)
-        (subst P (sym e) f) (λ b. let w = parted.0 b in subst Q (sym w.1) (past w.0))
+        (subst P (sym e) f) (λ b. let w = parted.0 b in subst Q (sym w.1) (past w.0 w.2))

@@ -169,19 +169,23 @@ begun_by tokens.BlockMappingStart span = place.BlockMapping
 begun_by (tokens.Anchor name) span = place.Property span.end.line
 begun_by (tokens.Tag handle suffix) span = place.Property span.end.line
 begun_by tokens.Key span = if has_text span then place.Nothing else place.KeyStart
+begun_by (tokens.Alias name) span = place.Content span.end.line
+begun_by (tokens.Scalar style value) span = place.behind_scalar style span.end.line
+begun_by tokens.FlowSequenceEnd span = place.Content span.end.line
+begun_by tokens.FlowMappingEnd span = if has_text span then place.Content span.end.line else place.Nothing
 begun_by _ span = place.Nothing
-
-begun_left : (es : List Enclosed) (columns : List ℕ) → (place.left_for es columns).begun ≡ place.Nothing
-begun_left es columns = grind arith
 
 pub begun_behind : (kind : Kind) (span : Span) (all : Enclosures)
     → (enclosures_behind kind span all).begun ≡ begun_by kind span
-begun_behind tokens.FlowSequenceEnd span all = begun_left all.outer all.columns
 begun_behind tokens.FlowMappingStart span all =
     by_test (has_text span) _ _ (λ (x : Enclosures). x.begun ≡ place.Nothing) (λ _. refl) (λ _. refl)
 begun_behind tokens.FlowMappingEnd span all =
-    by_test (has_text span) _ _ (λ (x : Enclosures). x.begun ≡ place.Nothing) (λ _. begun_left all.outer all.columns)
-    (λ _. refl)
+    by (has_text span)
+  where
+    by : (b : Bool) → (if b then with_begun (place.Content span.end.line) (place.left_for all.outer all.columns)
+        else turned_to place.Sequence all).begun
+        ≡ (if b then place.Content span.end.line else place.Nothing)
+    by b = grind arith
 begun_behind tokens.Key span all = by (has_text span)
   where
     by : (b : Bool) → (if b then turned_to (place.enclosure_behind_question all.inner.enclosure) all else

@@ -8,24 +8,27 @@ use Rattle.saphyr_scanner.specs.TokensInPlace.{Enclosure, Enclosed, Begun, Enclo
 use Rattle.saphyr_scanner.proofs.Leads.{place_pieces}
 use Rattle.saphyr_scanner.proofs.Taken.InPlace.{all_behind, AreInside, takes_node, node_may_follow, AreQuiet, node_carried}
 
--- ## Properties right in front
+-- ## A node's tokens right in front
 
--- what encloses, but for properties that come right before
+-- what encloses, but for properties or content that come right before
 abbrev pub calmed : Begun → Begun
 calmed (place.Property line) = place.Nothing
+calmed (place.Content line) = place.Nothing
 calmed g = g
 
 abbrev pub calm : Enclosures → Enclosures
 calm all = with_begun (calmed all.begun) all
 
--- properties that come right before end before a line
+-- properties or content that come right before end before a line
 abbrev pub IsPast : Begun → ℕ → Type 0
 IsPast (place.Property line) n = line < n
+IsPast (place.Content line) n = line < n
 IsPast _ n = Unit {0}
 
--- they end on a line
+-- properties end on a line, and content on it or before
 abbrev pub EndsOn : Begun → ℕ → Type 0
 EndsOn (place.Property line) n = line ≡ n
+EndsOn (place.Content line) n = line ≤ n
 EndsOn _ n = Unit {0}
 
 pub past_later : (g : Begun) (m n : ℕ) → m ≤ n → IsPast g m → IsPast g n

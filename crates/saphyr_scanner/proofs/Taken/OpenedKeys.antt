@@ -9,7 +9,7 @@ use Rattle.saphyr_scanner.proofs.Leads.{flat, place_pieces}
 use Rattle.saphyr_scanner.proofs.Taken.InPlace.{all_behind, behind_append, each_append, each_parts, AreInside, inside_append, inside_parts, inside_shift, node_carried, node_taken}
 use Rattle.saphyr_scanner.proofs.Taken.KeysInPlace.{awaited, MayOpen, Outside, free, opened_in_place, calm, IsPast, EndsOn}
 use Rattle.saphyr_scanner.proofs.Taken.Indented.{IsRight, root_key, OpensKey, indented_open}
-use Rattle.saphyr_scanner.proofs.Taken.Later.{apart_later}
+use Rattle.saphyr_scanner.proofs.Taken.Later.{top, apart_later}
 use Rattle.saphyr_scanner.proofs.Taken.Parts.{open_all, open_append, AreQuiet, quiet_columns, same_brackets, with_opening_there, with_opening_behind, opens_block, column_of, place_tokens, place_open, EndsOnLine}
 use Rattle.saphyr_scanner.proofs.Queues.{flat_append, place_with_front}
 use Rattle.saphyr_scanner.proofs.Taken.Held.{stack_indent, Stands, Setting, KeepsPlace, keeps_further, TakenWithin}
@@ -255,7 +255,7 @@ taken_open e outside opened from c d q b block k o x f near right left outer m t
           (let line = ap (λ (u : Cursor). u.mark.line) there in omega (arith, line)) opens h.indented;
       right = on h.right;
       ends = subst (λ g. EndsOn g h.last.mark.line) (sym begun) h.ends;
-      past = λ i. subst (λ g. IsPast g d.cursor.mark.line) (sym begun) (subst
+      past = λ i small. subst (λ g. IsPast g d.cursor.mark.line) (sym begun) (subst
           (λ (u : Cursor). IsPast (all_behind (flat q.places) opened.enclosures).begun u.mark.line) (sym there)
-          (h.past (sym allowed ∙ i)));
+          (h.past (sym allowed ∙ i) (subst (λ (u : Cursor). u.mark.line < top) there small)));
     }

@@ -141,7 +141,7 @@ block style value span s t l f h =
 
 token_takes : (i : Surroundings) (kind : Kind) (span : Span) (s t : Cursor) → IsToken i kind span s t
     → Takes i kind span s t
-token_takes i tokens.StreamStart span s t h = nothing span s t (λ e. ((λ x. refl), λ b. rw e refl)) h
+token_takes i tokens.StreamStart span s t h = nothing span s t (λ e. ((λ x. refl), λ b. rw e refl)) h.1
 token_takes i tokens.StreamEnd span s t h = nothing span s t (λ e. ((λ x. refl), λ b. rw e refl)) h.1
 token_takes i (tokens.VersionDirective major minor) span s t h = line h.0 span s t
     (directive_no_break (version major minor) h.0 h.4) (λ e. ((λ x. refl), λ b. rw e refl)) h.5

@@ -133,7 +133,7 @@ one_left text opened from c p ps n l h e =
           encloses = ap calm (sym same) ∙ h.taken.encloses;
           small = (further.lines h.taken.small).1;
           ends = rw same at h.taken.ends;
-          past = λ a. rw same at (h.taken.past a);
+          past = λ a small. rw same at (h.taken.past a small);
           indented = i.1;
           right = h.taken.right;
           place = rw (open_append ts (flat ps) opened.collections) at h.taken.place;
@@ -226,7 +226,7 @@ start_read text = record {
       encloses = refl;
       small = omega arith;
       ends = tt;
-      past = λ _. tt;
+      past = λ _ _. tt;
       indented = record { free = λ _. tt; waits = λ e. absurd (cc) };
       right = λ _ e. absurd (cc);
       place = (omega arith, λ _ some. absurd (omega (arith, some)));
@@ -235,7 +235,7 @@ start_read text = record {
   };
   over = λ e. absurd (cc);
   settled = λ e. absurd (cc);
-  fresh = λ _ _. refl;
+  fresh = λ _ _. (refl, refl);
 }
 
 scan_follows : AllLaws → (limit : ℕ) (text : List ℕ) → length text < 2 ^ 63

@@ -12,7 +12,9 @@ use Rattle.saphyr_scanner.specs.Steps.State.{State, with_core}
 use Rattle.saphyr_scanner.specs.Steps.Unrolling.{unroll, end_blocks, end_block, is_right_of, with_outer_indent, go_less_deep}
 use Rattle.saphyr_scanner.specs.TokensTaken as taken
 use Rattle.saphyr_scanner.specs.TokensTaken.{AreTokens, IsToken, IsBlockScalarToken, IsPlaceOrEnd, begins_text, IsContentEnd, IsBlockEnd}
-use Rattle.saphyr_scanner.specs.TokensInPlace.{Enclosures, is_flow_style, without_innermost, block_ended}
+use Rattle.saphyr_scanner.specs.TokensInPlace as place
+use Rattle.saphyr_scanner.specs.TokensInPlace.{Enclosures, with_begun, enclosures_behind, is_flow_style, without_innermost, block_ended}
+use Rattle.saphyr_scanner.proofs.Taken.KeysInPlace.{calm}
 use Rattle.saphyr_scanner.proofs.Blocks.{block_cursor, go_less_deep_cursor}
 use Rattle.saphyr_scanner.proofs.Leads.{flat}
 use Rattle.saphyr_scanner.proofs.Taken.Later.{top, Later, LaterThan, later_later, apart_later}
@@ -130,6 +132,11 @@ key_line opened from q c d l s h k i = by s.level
 no_flow_style : (style : BlockStyle) → is_flow_style (scalar.style_of style) ≡ false
 no_flow_style style = grind arith
 
+-- behind a block scalar a key may begin
+block_calm : (style : BlockStyle) (value : List ℕ) (span : Span) (all : Enclosures)
+    → calm (enclosures_behind (tokens.Scalar (scalar.style_of style) value) span all) ≡ with_begun place.Nothing all
+block_calm style value span all = grind arith
+
 pub block_fetched : TextLaws → (text : List ℕ) → length text < 2 ^ 63
     → (opened : Setting) (from : Cursor) (q : Queue) (style : BlockStyle) (c d : Core)
     → LaterThan (start_cursor text) from
@@ -169,12 +176,13 @@ block_fetched laws text small opened from q style c d l s stays allowed arrival 
       )
     ] g in
     record {
-      taken = taken_within (enclosures_of c) (enclosures_of e2) opened from e2 (with_piece piece q)
-          (saved_enclosures (next q) c d s)
+      taken = taken_within (calm (enclosures_behind piece.kind piece.span (enclosures_of c))) (enclosures_of e2) opened
+          from e2 (with_piece piece q)
+          (saved_enclosures (next q) c d s ∙ sym (block_calm style x.0 piece.span (enclosures_of c)))
           (taken_put (enclosures_of c) opened from c e2 q piece c.cursor x.2 (taken.nothing _ _)
           (λ i _. rw none (block_token style c.indent i x.0 x.1 c.cursor x.2 is)) (taken.nothing _ _)
           (λ cs k. stands_same cs c e2 s.indent s.outer_indents (ap length s.outer) k) (inl stays) refl
-          (unbound_parted piece c e2 refl) (λ _ f. absurd (cc))
+          (unbound_parted piece c e2 (rw (no_flow_style style) refl)) (λ _ f. absurd (cc))
           (saved_indented opened from c d e2 q piece s refl refl arrival
           (λ n. absurd (let f = no_flow_style style in cc)) (λ _ _ _. p.line arrival.2) h) h.taken);
       live = λ _. elim (p.line arrival.2) [ inl less ↦ by d.level.key refl less | inr z ↦ inl (λ nz. absurd (cc)) ];
