@@ -38,7 +38,7 @@ dropped_text (
     here,
     behind,
     apart,
-    (x, y, is),
+    (at, (x, y, is)),
     (h, b, a, ((e, m), s, o), (i, d, f, ((g, n), r, q), rest)),
   ),
   place,
@@ -85,7 +85,7 @@ other_anchor t = let beside : false ≡ true = t.2.1.1.0 in cc
 -- ## Spans
 
 pub other_start : AreTakenFrom (codes "[]") wrong.other_start → ⊥
-other_start (end, (here, behind, apart, (x, y, is), (h, b, a, (c, start, o), rest)), place, right, fin) =
+other_start (end, (here, behind, apart, (at, (x, y, is)), (h, b, a, (c, start, o), rest)), place, right, fin) =
     let first = refusal_stays _ _ _ _ 91 (codes "]") apart refl refl refl (λ v. omega arith) in
     let second = refusal_stays _ _ _ _ 91 (codes "]") a (ap (λ v. v.rest) is ∙ first.1) refl refl (λ v. omega arith) in
     let same : marker_at 1 1 1 ≡ marker_at 0 1 0 = start ∙ second.0 ∙ ap (λ v. v.mark) is ∙ first.0 in
