@@ -19,6 +19,7 @@ pub mod Completions
 pub mod Sound
 pub mod Refusing
 pub mod TokensForm
+pub mod AtColons
 pub mod Maps
 pub mod Longer
 pub mod Placeless

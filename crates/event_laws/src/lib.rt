@@ -4,7 +4,7 @@
 //! The functions are laws: they do nothing, and what matters is their proved clauses.
 #![tactic(auto)]
 
-ghost use Rattle.std.specs.Prelude.{Bool, List, [], ◌∷◌, ◌++◌, true, ℕ, ◌≡◌, ◌≢◌, ◌<◌, ◌≤◌, ◌^◌, length, None, Ok, Option, Some};
+ghost use Rattle.std.specs.Prelude.{Bool, List, [], ◌∷◌, ◌++◌, true, ℕ, ◌≡◌, ◌≢◌, ◌⊎◌, IsTrue, slice_index, ◌<◌, ◌≤◌, ◌^◌, length, None, Ok, Option, Some};
 ghost use Rattle.event_laws.specs.Limits.{most_characters};
 ghost use Rattle.event_laws.specs.Nesting.{IsAtStart, IsNested, IsWhole, Nest, nest_before_stream, nest_behind_all, nest_behind_stream};
 ghost use Rattle.event_laws.specs.Anchors.{IsLatest, anchors, latest_id};
@@ -31,7 +31,11 @@ ghost use Rattle.saphyr_scalar.specs.declared.scalar.fault.Refusal.{Refusal};
 ghost use Rattle.saphyr_scanner.specs.Limits.{most_open};
 ghost use Rattle.saphyr_scanner.specs.AtPlaces.{AreAtPlaces};
 ghost use Rattle.saphyr_scanner.specs.Ends.{EndsWithStream};
-ghost use Rattle.saphyr_scanner.specs.TokensTaken.{AreTakenFrom, IsPlaceOf};
+ghost use Rattle.saphyr_input.specs.Classes.{is_blank_or_breakz};
+ghost use Rattle.saphyr_input.specs.Indicators.{colon};
+ghost use Rattle.saphyr_scalar.specs.Views.Cursor.{Cursor};
+ghost use Rattle.saphyr_scanner.specs.TokensInPlace.{Begun, Property, Content, with_begun, not_enclosed, may_stand};
+ghost use Rattle.saphyr_scanner.specs.TokensTaken.{AreTakenFrom, IsPlaceOf, IsToken, no_collections, surroundings_in, with_ends_json};
 ghost use Rattle.yaml_laws.specs.Grammar.Yaml.{IsYamlText};
 ghost use Rattle.event_laws.specs.WellFormed.{AreWellFormed};
 ghost use Rattle.saphyr_machine.specs.Steps.Machine.{Machine, Emitted, ending_refusal};
@@ -157,6 +161,17 @@ pub fn takes_all_events()
 {
     saphyr_scanner::law::places_taken_tokens();
 }
+
+/// Where no collection is open, no token is at a colon that parts a key from its value, on the line of the content or of
+/// the properties before it. So no document ends there, behind which another token comes.
+pub fn stands_at_no_colon()
+    ensures { (begun : Begun) (kind : Kind) (span : Span) (ends_json : Bool) (s t : Cursor)
+        (more : List ℕ) → (begun ≡ Property s.mark.line) ⊎ (begun ≡ Content s.mark.line)
+        → 0 < s.mark.index → 0 < s.mark.col → s.rest ≡ colon ∷ more
+        → IsTrue (is_blank_or_breakz (slice_index more 0))
+        → IsTrue (may_stand (with_begun begun not_enclosed) kind span)
+        → ¬ IsToken (surroundings_in (with_ends_json ends_json no_collections)) kind span s t }
+{}
 
 /// Each step takes tokens only from the head. If it gives an event, it gives the same one when more tokens follow, and
 /// leaves those too. So the events of some tokens also come first when more tokens follow. If they end without a fault,
