@@ -19,16 +19,21 @@ use Rattle.saphyr_scalar.specs.Views.Cursor.{Cursor}
 use Rattle.saphyr_scanner.specs.Grammar.Tokens.{Kind}
 use Rattle.saphyr_scanner.specs.declared.queue.Queue.{Queue}
 use Rattle.saphyr_scanner.specs.declared.queue.place.Place.{Place}
-use Rattle.saphyr_scanner.specs.Views.Places.{Fit, places_at}
-use Rattle.saphyr_scanner.specs.Views.Reads.{PlacesToken, TokenRead, queue_with_token, read_piece}
+use Rattle.saphyr_scanner.specs.declared.queue.texts.Extent.{Extent}
+use Rattle.saphyr_scanner.specs.Views.Places.{AddsBehind, Fit, places_at}
+use Rattle.saphyr_scanner.specs.Views.Reads.{PlacesToken, TokenRead, queue_with_token, read_piece, spanning_piece}
 use Rattle.saphyr_scanner.specs.Views.Queue.{first_number, queue}
 use Rattle.saphyr_scanner.proofs.QueuedPlaces.{put_behind}
 use Rattle.saphyr_scanner.proofs.Queues.{queue_at}
-use Rattle.saphyr_scanner.specs.Views.Texts.{Texts, AreTextsOf, IsTextOf}
+use Rattle.saphyr_scanner.specs.Views.Texts.{Texts, IsTextOf, with_last_text}
 
 abbrev pub value_or : {X : Type 0} → X → Result X Refusal → X
 value_or d (Ok x) = x
 value_or d (Err e) = d
+
+-- what contracts see of texts, of which so many bytes were handed out
+abbrev pub seen_texts : ℕ → List ℕ → List Extent → Texts
+seen_texts spent bytes es = record { bytes = drop spent bytes; extents = es }
 
 -- what is read behind a text, and the text that it was read behind
 pub read_behind : (before grown : List ℕ) (read : PlainScalarRead) (end : Marker) (comment : Option Marker) (s : Cursor)
@@ -42,11 +47,6 @@ read_behind before grown (Ok x) end comment s is =
       sym (ap (λ y. y.0) parts) ∙ ap (λ t. before ++ t) text,
     )
 
--- the bytes behind others, of which some were handed out
-added_is : (spent : ℕ) (before grown : List ℕ) → spent ≤ length before → grown ≡ before ++ drop (length before) grown
-    → drop (length (drop spent before)) (drop spent grown) ≡ drop (length before) grown
-added_is spent before grown within is = grind (arith, drop-append-le, drop-append_seam)
-
 -- What is behind a text in a text is one.
 pub text_behind : (before text : List ℕ) → IsUtf8 before → IsUtf8 (before ++ text) → IsUtf8 text
 text_behind before text h k =
@@ -56,17 +56,29 @@ text_behind before text h k =
     (IsCharBoundary-from_take (before ++ text) (length before) k (omega (arith, count))
     (subst IsUtf8 (sym (take-append_seam before text)) h)))
 
--- What came behind is a text of so many bytes.
+-- What came behind other texts, of which some were handed out, is a text of so many bytes.
+pub text_added : (n k spent : ℕ) (before grown : List ℕ) (es : List Extent) → n ≡ length grown → k ≡ length before
+    → spent ≤ length before
+    → grown ≡ before ++ drop (length before) grown → IsUtf8 before → IsUtf8 grown
+    → (seen_texts spent grown es ≡ with_last_text (drop (length before) grown) (seen_texts spent before es))
+    × IsTextOf (n - k) (drop (length before) grown)
+text_added n k spent before grown es e d within is old new =
+    let text = drop (length before) grown in
+    let count = ap length is ∙ length-append before text in
+    let bytes = ap (drop spent) is ∙ drop-append-le spent before text within in (
+      λ i. record { bytes = bytes i; extents = es },
+      (omega (arith, count, e, d), ∣ text_behind before text old (subst IsUtf8 is new) ∣₁),
+    )
+
+-- The same of the bytes that were added to those not handed out.
 pub is_text_added : (n k spent : ℕ) (before grown : List ℕ) → n ≡ length grown → k ≡ length before
     → spent ≤ length before
     → grown ≡ before ++ drop (length before) grown → IsUtf8 before → IsUtf8 grown
     → IsTextOf (n - k) (drop (length (drop spent before)) (drop spent grown))
 is_text_added n k spent before grown e d within is old new =
-    let text = drop (length before) grown in
-    let same = added_is spent before grown within is in
-    let count = ap length is ∙ length-append before text in
-    let utf8 = text_behind before text old (subst IsUtf8 is new) in
-    subst (IsTextOf (n - k)) (sym same) (omega (arith, count, e, d), ∣ utf8 ∣₁)
+    let same : drop (length (drop spent before)) (drop spent grown) ≡ drop (length before) grown =
+    grind (arith, drop-append-le, drop-append_seam) in
+    subst (IsTextOf (n - k)) (sym same) (text_added n k spent before grown [] e d within is old new).1
 
 -- ## Tags
 
@@ -120,32 +132,30 @@ tag_behind before grown handle (Ok x) s is =
       omega (arith, count, both),
     )
 
--- Two texts came behind.
-pub are_texts_added : (handle n k spent : ℕ) (before grown : List ℕ) → n ≡ length grown → k ≡ length before
-    → spent ≤ length before → grown ≡ before ++ drop (length before) grown → IsUtf8 before → IsUtf8 grown
+-- What came behind other texts is two texts, one behind the other.
+pub texts_added : (handle n k spent : ℕ) (before grown : List ℕ) (es : List Extent) → n ≡ length grown
+    → k ≡ length before → spent ≤ length before
+    → grown ≡ before ++ drop (length before) grown → IsUtf8 before → IsUtf8 grown
     → handle ≤ length (drop (length before) grown) → IsUtf8 (take handle (drop (length before) grown))
-    → AreTextsOf handle (n - k - handle) (drop (length (drop spent before)) (drop spent grown))
-are_texts_added handle n k spent before grown e d within is old new most front =
+    → (seen_texts spent grown es ≡ with_last_text (drop handle (drop (length before) grown))
+    (with_last_text (take handle (drop (length before) grown)) (seen_texts spent before es)))
+    × IsTextOf handle (take handle (drop (length before) grown))
+    × IsTextOf (n - k - handle) (drop handle (drop (length before) grown))
+texts_added handle n k spent before grown es e d within is old new most front =
     let text = drop (length before) grown in
-    let same = added_is spent before grown within is in
-    let count = ap length is ∙ length-append before text in
-    let whole = take-append-drop handle text in
+    let whole = text_added n k spent before grown es e d within is old new in
+    let parts = take-append-drop handle text in
+    let bytes = append_assoc (drop spent before) (take handle text) (drop handle text)
+    ∙ ap (λ t. drop spent before ++ t) parts in
     let utf8 = text_behind before text old (subst IsUtf8 is new) in
-    let first = length-take-le handle text most in
-    let second = length-drop handle text in
-    subst (AreTextsOf handle (n - k - handle)) (sym same) (
-      (sym first, ∣ front ∣₁),
+    let second = length-drop handle text in (
+      whole.0 ∙ (λ i. record { bytes = sym bytes i; extents = es }),
+      (sym (length-take-le handle text most), ∣ front ∣₁),
       (
-        omega (arith, count, e, d, second),
-        ∣ text_behind (take handle text) (drop handle text) front (subst IsUtf8 (sym whole) utf8) ∣₁,
+        omega (arith, whole.1.0, second),
+        ∣ text_behind (take handle text) (drop handle text) front (subst IsUtf8 (sym parts) utf8) ∣₁,
       ),
     )
-
--- The bytes that came behind are all that is new.
-pub kept_added : (spent : ℕ) (before grown : List ℕ) → spent ≤ length before
-    → grown ≡ before ++ drop (length before) grown
-    → drop spent grown ≡ drop spent before ++ drop (length (drop spent before)) (drop spent grown)
-kept_added spent before grown within is = grind (arith, added_is, drop-append-le)
 
 -- the handle of a tag is a text
 pub tag_text : (in_flow : Bool) (s t : Cursor) (handle suffix : List ℕ) → slice_index s.rest 0 ≡ exclamation_mark
@@ -155,6 +165,18 @@ tag_text in_flow s t handle suffix begins is =
     subst IsUtf8 spelled.7 (handle_text spelled.0 spelled.1 spelled.2 spelled.4)
 
 -- ## The token of what was read is put behind others
+
+-- The place of a token that was put behind texts is that of the token that was read.
+pub token_placed : {A X : Type 0} (kind : A → Kind) (start a end b : Marker) (old seen new : Texts) (s : Cursor)
+    (p : Place) (known : X) (x : A) (k : Kind) (f : TokenRead A X) → a ≡ start → b ≡ end → k ≡ kind x → seen ≡ old
+    → f ≡ Ok (x, end, known, s) → AddsBehind (spanning_piece a b k) p seen new
+    → PlacesToken kind start old new s (Ok (p, known)) f
+token_placed kind start a end b old seen new s p known x k f begins ends says same is adds =
+    let here = subst (λ m. AddsBehind (spanning_piece m b k) p seen new) begins adds in
+    let there = subst (λ m. AddsBehind (spanning_piece start m k) p seen new) ends here in
+    let piece = subst (λ l. AddsBehind (spanning_piece start end l) p seen new) says there in
+    subst (λ r. PlacesToken kind start old new s (Ok (p, known)) r) (sym is)
+    (refl, refl, subst (λ o. AddsBehind (spanning_piece start end (kind x)) p o new) same piece)
 
 pub token_put : {A X : Type 0} (q : Queue) (qs : List Place) (p : Place) (kind : A → Kind) (start : Marker)
     (new : Texts) (s : Cursor) (known : X) (f : TokenRead A X) → qs ≡ q.places.items ++ p ∷ []

@@ -105,6 +105,8 @@ not_both true false e = absurd (cc)
 never : (a b c : Bool) → (b || c) ≡ false → (a && b) ≡ false
 never a b c e = grind arith
 
+-- A piece of a text is passed to the place that its characters give, if it doesn't part a CR from its LF (`Uncut`). CR
+-- and LF inside the piece are passed together, and each other character alone.
 pub piece_reached : (m : Marker) (cs u : List ℕ) → Uncut cs u → IsReached m (cs ++ u) (end_of_text m cs) u
 piece_reached m [] u h = taken.nothing m u
 piece_reached m (c ∷ []) u h =

@@ -84,6 +84,9 @@ delivers_few : (n limit : ℕ) (s : State) (r : Result State Refusal) (go : Stat
     → ((t : State) → r ≡ Ok t → IsFew n limit s (go t)) → IsFew n limit s (remaining_after r go)
 delivers_few n limit s r go h others = grind arith
 
+-- At most so many tokens are still to come: those in the queue, and some for what is open and for each character that
+-- is left. By induction on the fuel. `handed` takes the queue's tokens off, one by one, and `here` is the step behind
+-- them, whose tokens are paid for by what it reads (`read_few`).
 run_few : Readers → ReaderEnds → (n limit fuel : ℕ) (s : State) → CountsWithin n limit s
     → IsFew n limit s (run fuel limit s)
 run_few readers laws n limit zero s h = none_few n limit s h

@@ -86,6 +86,9 @@ dash g c d small first second b allowed column s free o follows =
 at_column : (i column : ℕ) (b : Bool) → b ≡ true → (b && nat_le i column) ≡ false → i ≤ column + 1 → i ≡ column + 1
 at_column i column b e f deep = grind arith
 
+-- A dash puts the token of an entry. If it is right of the indentation, a sequence begins at its column, whose start
+-- is put first (`block_begins`). Otherwise the innermost block collection is at its column (`at_column`). In both
+-- cases a candidate key is forgotten on the way.
 next_entry_does : (c : Core) → in_block c ≡ true → c.key_allowed ≡ true → IsDeep c
     → slice_index c.cursor.rest 0 ≡ hyphen → is_blank_or_breakz (slice_index c.cursor.rest 1) ≡ true
     → Walked (Premises c) (Doing None c) c.cursor (block.next_entry c)
@@ -192,6 +195,9 @@ question g x c d turned none first second column s a allowed follows =
 question_block : (x : Context) → is_block (behind_question x) ≡ is_block x
 question_block x = grind arith
 
+-- A question mark puts the token of a key, in the same two cases: a block mapping begins at its column, or none does,
+-- outside flow because one is open there. In front of the token there may be nothing but a candidate that is forgotten
+-- (`lesser`). Where no key may begin the mark is refused.
 pub key_does : (c : Core) → IsDeep c → slice_index c.cursor.rest 0 ≡ question_mark
     → is_blank_or_breakz (slice_index c.cursor.rest 1) ≡ true
     → Walked (Premises c) (Doing None c) c.cursor (block.key_steps c)

@@ -154,6 +154,9 @@ three_reached x s z b e =
     let P : List ℕ → Type 0 = λ l. IsReached s.mark l (along s.mark 3) (drop 3 s.rest) in
     subst P (sym three) (along_reached s.mark (x ∷ x ∷ x ∷ []) (drop 3 s.rest) (b, (b, (b, tt))))
 
+-- The end of a document, and the rest of its line. The marker's token is put by a move that it shares with `---`
+-- (`marker_walked`). What comes behind it only moves the place (`further`), and is refused if the line doesn't end
+-- there.
 pub end_marker_walked : (s : State) → s.core.cursor.mark.col ≡ 0 → is_document_end s.core.cursor.rest ≡ true
     → Walked (Premises s.core) (Documented s) s.core.cursor (document.state_behind_document_end s)
 unfolding document.state_behind_document_end document.end_line
@@ -229,6 +232,8 @@ mark_walked s e =
 directive_is_no_end : (d : ReadDirective) → IsNoEnd (document.directive_kind d)
 directive_is_no_end d = grind arith
 
+-- A directive that was read is a token: it goes from the percent sign to its end, and the rest of its line separates
+-- it from what comes next.
 directive_reading : (c : Core) (x : ReadDirective × Marker × Cursor) → c.cursor.mark.col ≡ 0
     → slice_index c.cursor.rest 0 ≡ percent_sign → directives.directive c.cursor ≡ Ok x
     → Reading 1 c (record { span = record { start = c.cursor.mark; end = x.1 }; kind = document.directive_kind x.0 })
@@ -266,6 +271,8 @@ directive_reading c x col f e = record {
       );
 }
 
+-- A directive at a line's start: all block collections end (`content_walked`), and then its token is put, which begins
+-- no node. The rest of its line is passed with it.
 pub directive_walked : (s : State) → s.core.cursor.mark.col ≡ 0 → slice_index s.core.cursor.rest 0 ≡ percent_sign
     → Walked (Premises s.core) (Documented s) s.core.cursor (document.state_behind_directive s)
 unfolding document.state_behind_directive document.read_directive

@@ -50,6 +50,8 @@ beside_parts : (second : ℕ) (c : Core) → slice_index c.cursor.rest 1 ≡ sec
     → (c.cursor.mark.index ≡ c.adjacent) ⊎ IsTrue (parts_colon (slice_index c.cursor.rest 1))
 beside_parts second c g e = grind arith
 
+-- The sum of all steps: each does what `Stepped` says. A row for each choice of `step` cites the lemma of that step:
+-- with `does` where it may save a candidate key, and with `still` where it saves none.
 pub step_does : (first second n : ℕ) (c : Core) → 0 < length c.cursor.rest → slice_index c.cursor.rest 0 ≡ first
     → slice_index c.cursor.rest 1 ≡ second → IsDeep c
     → Walked (Premises c) (Stepped n c) c.cursor (step first second n c)

@@ -296,6 +296,9 @@ least_reached : (deeper : Bool) (i m : ℕ) → (if deeper then i else i - 1) �
 least_reached true i m l = omega (arith, l)
 least_reached false i m l = omega (arith, l)
 
+-- A closing bracket ends its collection: the level outside becomes the innermost again, with its candidate key
+-- (`leaving`). A pair without braces that is open in the collection ends first (`ends`). Inside flow a value may be
+-- adjacent to the bracket, so its place is noted.
 pub end_does : (i : ℕ) (kind : Kind) → Bracket i kind → Counts (λ n. n - 1) kind → LeavesAll kind
     → (ends : Bool) (c : Core) → EndsPair ends c.level.context → MayClose kind ends c.level.context
     → slice_index c.cursor.rest 0 ≡ i → Walked (Premises c) (Doing None c) c.cursor (flow.closing_steps ends kind c)
@@ -338,6 +341,8 @@ entry_fits : (x : Context) (outside : Outside) (span : Span)
 entry_fits context.Block outside span = refl
 entry_fits _ outside span = refl
 
+-- A comma ends an entry, and a pair without braces in it (`ended`). The candidate key before it is forgotten; one that
+-- had to be a key is refused.
 pub entry_does : (c : Core) → slice_index c.cursor.rest 0 ≡ comma
     → Walked (Premises c) (Doing None c) c.cursor (flow.flow_entry_steps c)
 unfolding flow.flow_entry_steps flow.next_flow_entry remove_key

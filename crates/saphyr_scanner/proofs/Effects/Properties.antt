@@ -63,6 +63,8 @@ tag_begins text behind handle suffix (inr (inr h)) = ap (λ t. slice_index (t ++
     by : IsHandleText handle → slice_index ((handle ++ h.0) ++ behind) 0 ≡ exclamation_mark
     by h = grind arith
 
+-- An anchor or an alias puts its token, which may begin a key (`saved`). All that has to be known of the token comes
+-- from the law on names that were read: how long it is, where it ends, and how it is spelled.
 pub name_does : (token_of : List ℕ → Kind) (x : ℕ) → Named token_of x → (n : ℕ) (c : Core) → 0 < length c.cursor.rest
     → slice_index c.cursor.rest 0 ≡ x
     → Walked (Premises c) (Doing (Some n) c) c.cursor (property.name_steps token_of n c)
@@ -92,6 +94,8 @@ name_does token_of x named n c some f =
     named.is (surroundings b c) y.0 span here y.1
     (w.1, w.3, sym w.6, record { is = subst P first w.2; start = refl; end = refl; goes_on = goes }, w.4)))))
 
+-- The same of a tag, by the law on tags. What may end it depends on whether flow is open, which saving a candidate
+-- leaves as it is (`same_flow`).
 pub tag_does : (n : ℕ) (c : Core) → slice_index c.cursor.rest 0 ≡ exclamation_mark
     → Walked (Premises c) (Doing (Some n) c) c.cursor (property.tag_steps n c)
 unfolding property.tag_steps property.read_tag

@@ -105,6 +105,10 @@ quotes_end : (i : ℕ) (s x u v : Cursor) (j : ℕ) (quote : Quote) → slice_in
     → (j ≤ v.mark.col) ⊎ BeginsNoNode v.rest
 quotes_end i s x u v j quote first unbroken passed less o apart begins same deep low small line u0 = grind (arith, apart_later, on_line_same, character_right, or_cases, break_passed, end_stays)
 
+-- A quoted scalar puts its token behind three readings: of the scalar, of what separates it on its line from what
+-- comes next (`separate`), and of the gap behind that. Each begins at a place that the one before reached (`there`,
+-- `reach`). If the line goes on as it must not, that is refused. What is known of the token comes from the law on
+-- quoted scalars, and its end is where the line goes on.
 quotes_do : (quote : Quote) (n : ℕ) (c : Core)
     → slice_index c.cursor.rest 0 ≡ mark quote → (l : Level) (r : Bool) → IsSaved n c l r
     → let d = scalar.disallow_key (record c { level = l; required = r }) in

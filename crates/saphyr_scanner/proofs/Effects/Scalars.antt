@@ -61,6 +61,9 @@ pub plain_start : (first second : ℕ) (c : Core) → slice_index c.cursor.rest 
     → slice_index c.cursor.rest 1 ≡ second → NoIndicator first second c → PlainStart (not (in_block c)) c.cursor
 plain_start first second c f g n = grind (arith, or_parts, no_sign, no_indicator_begins_plain, ne_eqb, no_second, no_literal)
 
+-- A plain scalar puts its token, which may begin a key (`saved`). Where it ends and whether a key may follow comes
+-- from `plain_ends`, and that no indicator begins it from the choice of this step (`starts`). The rest comes from the
+-- law on plain scalars.
 pub plain_does : (n : ℕ) (c : Core) → PlainStart (not (in_block c)) c.cursor
     → Walked (Premises c) (Doing (Some n) c) c.cursor (scalar.plain_steps n c)
 unfolding scalar.plain_steps scalar.read_plain

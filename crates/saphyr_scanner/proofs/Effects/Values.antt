@@ -173,6 +173,9 @@ turned_in_block : (b : Core) (x : Context) (c d : Core) (e : Enclosure) (column 
     → enclosures_of (enter_block column d) ≡ free e (outside_of (enter_block column c))
 turned_in_block b x c d e column t f = grind arith
 
+-- A colon behind a candidate key. The opening of the candidate's place becomes a key, alone or behind a mapping's
+-- start: a block mapping begins where the key is right of the indentation (`is_further`), a flow mapping where the key
+-- is an entry of a flow sequence (`begins_pair`). Then the colon's token is put (`colon_does`).
 key_does : (b c d : Core) (x : Context) (k : Candidate) → Turned b x c d → d.level.key ≡ Some k
     → Walked (Premises b) (Valued b x c) c.cursor (value.value_of_key k (begins_pair x) c.cursor.mark d)
 unfolding value.value_of_key
@@ -247,6 +250,8 @@ alone_fits : (b : Core) (x : Context) (c d : Core) (e : Enclosure) → Turned b 
     → IsTrue (is_in_brackets e || is_at_column c.cursor.mark.col (outside_of c).columns)
 alone_fits b x c d e t bracketed f deep = grind arith
 
+-- A colon without a key before it. `value` puts its token, behind the start of a block mapping where the colon is
+-- right of the indentation. In a flow sequence the start of a pair comes first (`pair_begins`).
 alone_does : (b c d : Core) (x : Context) → Turned b x c d → d.level.key ≡ None
     → Walked (Premises b) (Valued b x c) c.cursor (value.value_alone (begins_pair x) c.cursor.mark d)
 unfolding value.value_alone value.opening_actions

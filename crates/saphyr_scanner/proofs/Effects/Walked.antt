@@ -148,6 +148,8 @@ abbrev pub Gapped : Core → Core → Type 0
 Gapped c d = Same c d × AreApart c.cursor d.cursor × IsTrue (begins_text (slice_index d.cursor.rest 0))
     × AllowsBehind c d
 
+-- A gap moves the place to where a text begins, and keeps all else (`Gapped`). Its own faults are refused at a place
+-- inside it. The check of a comment behind a plain scalar refuses nothing, since there is none (`none`).
 pub gap_walked : (b : Core) (s : Cursor) (c : Core) → (Premises b → Reaches s c.cursor)
     → (Premises b → c.comment ≡ None)
     → Walked (Premises b) (Gapped c) s (pass_gap c)

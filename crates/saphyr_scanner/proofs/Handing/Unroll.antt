@@ -66,6 +66,9 @@ pub record Filled (limit : ℕ) (s t : State) : Type 0 where
   pub ready : needs_token t ≡ false
   pub settles : IsSettled t
 
+-- Filling the queue keeps the tokens that are still to come, and ends where the first may be handed out. By induction
+-- on how often it may read: where a token is needed nothing is handed out, so the first step of the rest is the
+-- reading, which leaves a smaller state.
 pub filled_in : Readers → (limit n : ℕ) (s t : State) → size s.core < n → IsSettled s → fill_in n limit s ≡ Ok t
     → Filled limit s t
 filled_in laws limit zero s t a k e = absurd (omega (arith, a))
@@ -100,6 +103,8 @@ filled_in laws limit (suc n) s t a k e =
 
 -- ## A refusal
 
+-- If filling the queue is refused, that refusal is all that is still to come: no token was handed out before it. The
+-- induction is that of `filled_in`.
 refused_in : Readers → (limit n : ℕ) (s : State) (e : Refusal) → size s.core < n → IsSettled s
     → fill_in n limit s ≡ Err e → rest limit s ≡ refusal_alone e
 refused_in laws limit zero s e a k q = absurd (omega (arith, a))

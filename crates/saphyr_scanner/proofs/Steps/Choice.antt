@@ -70,6 +70,9 @@ pub record Cases (P : StepResult → StepResult → Type 0) (first second other 
       (refuse (fault.UnexpectedCharacter first) d.cursor.mark)
   pub plain : NoIndicator first second c → P (scalar.plain_steps n c) (scalar.plain_steps n d)
 
+-- What is proved of each step, of two cores side by side, is proved of the step that `step` chooses for both. The
+-- tests come in its order. Where a test reads the second character or the core, the premises say that it gives the
+-- same for both.
 pub both_cases : (P : StepResult → StepResult → Type 0) (first second other n : ℕ) (c d : Core)
     → is_blank_or_breakz second ≡ is_blank_or_breakz other → is_value_adjacent second c ≡ is_value_adjacent other d
     → in_block c ≡ in_block d → Cases P first second other n c d → P (step first second n c) (step first other n d)

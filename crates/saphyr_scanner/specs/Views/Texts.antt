@@ -27,10 +27,6 @@ added old new = drop (length old.bytes) new.bytes
 abbrev pub IsTextOf : ℕ → List ℕ → Type 0
 IsTextOf n text = (n ≡ length text) × ∥ IsUtf8 text ∥₁
 
--- It is two texts, one behind the other, of so many bytes each.
-abbrev pub AreTextsOf : ℕ → ℕ → List ℕ → Type 0
-AreTextsOf n m both = IsTextOf n (take n both) × IsTextOf m (drop n both)
-
 -- The first so many bytes are a text.
 abbrev pub BeginsWithText : ℕ → Texts → Type 0
 BeginsWithText n s = (n ≤ length s.bytes) × ∥ IsUtf8 (take n s.bytes) ∥₁

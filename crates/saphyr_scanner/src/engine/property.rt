@@ -23,7 +23,7 @@ impl<T: Input> Engine<T> {
     {
         self.save_key();
         self.key_allowed = false;
-        keep(&mut self.stop, self.queue.read_name(kind, &mut self.reader))
+        keep(&mut self.stop, self.queue.put_name(kind, &mut self.reader))
     }
 
     // `!` and the rest of a tag.
@@ -36,7 +36,7 @@ impl<T: Input> Engine<T> {
         self.save_key();
         self.key_allowed = false;
         let in_flow = !self.in_block();
-        let read = self.queue.read_tag(&mut self.reader, in_flow);
+        let read = self.queue.put_tag(&mut self.reader, in_flow);
         keep(&mut self.stop, read)
     }
 }

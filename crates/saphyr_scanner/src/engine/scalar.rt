@@ -42,7 +42,7 @@ impl<T: Input> Engine<T> {
         let in_block = self.in_block();
         let least = self.least_column();
         let reader = &mut self.reader;
-        let is_at_end = self.queue.read_quoted(reader, quote, in_block, least);
+        let is_at_end = self.queue.put_quoted(reader, quote, in_block, least);
         let is_at_end = keep(&mut self.stop, is_at_end)?;
         self.pass_gap_to(is_at_end)?;
         self.adjacent = self.reader.mark().index;
@@ -79,7 +79,7 @@ impl<T: Input> Engine<T> {
             return Err(self.refuse_here(FaultText::FlowIndentation));
         }
         let reader = &mut self.reader;
-        let comment = self.queue.read_plain(reader, in_flow, self.indent);
+        let comment = self.queue.put_plain(reader, in_flow, self.indent);
         self.comment = keep(&mut self.stop, comment)?;
         self.key_allowed = self.reader.blank_so_far();
         Ok(())

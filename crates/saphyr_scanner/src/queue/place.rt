@@ -1,7 +1,5 @@
 //! A token of the queue, and what comes in front of it, in a small form, since the queue may hold all tokens of a text.
 
-mod read;
-
 ghost use Rattle.std.specs.Prelude.{◌≡◌, ◌++◌, ◌-◌, ◌<◌, ◌≤◌, [], true, false, List, ℕ, IfOk, OnErr, OnOk, Some, length, string_bytes};
 ghost use Rattle.saphyr_scanner.specs.declared.queue.Opening.TheVariants.{Nothing};
 ghost use Rattle.saphyr_scanner.specs.Views.Texts.{IsTextOf, with_last_extent, with_last_text};

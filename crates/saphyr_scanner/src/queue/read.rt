@@ -23,7 +23,7 @@ impl Queue {
     /// Reads a plain scalar, and puts its token at the end. Returns a comment that ended it. After an error no token
     /// is here.
     #[inline(always)]
-    pub(crate) fn read_plain<T: Input>(
+    pub(crate) fn put_plain<T: Input>(
         &mut self,
         reader: &mut Reader<T>,
         in_flow: bool,
@@ -58,7 +58,7 @@ impl Queue {
     /// Reads a quoted scalar in the same way, passes what separates it from what comes after it, and puts its token at
     /// the end. Returns whether an indicator is there.
     #[inline(always)]
-    pub(crate) fn read_quoted<T: Input>(
+    pub(crate) fn put_quoted<T: Input>(
         &mut self,
         reader: &mut Reader<T>,
         quote: Quote,
@@ -71,7 +71,7 @@ impl Queue {
             (quoted_whole in_block quote indent (cursor_of reader.old))) }
     {
         self.make_room()?;
-        match Place::read_quoted(reader, quote, in_block, indent, &mut self.texts) {
+        match self.texts.read_quoted(reader, quote, in_block, indent) {
             Ok((place, is_at_end)) => {
                 self.places.push_reserved(place);
                 Ok(is_at_end)
@@ -81,7 +81,7 @@ impl Queue {
     }
 
     /// Reads the name of an anchor or an alias, and puts its token at the end. After an error no token is here.
-    pub(crate) fn read_name<T: Input>(
+    pub(crate) fn put_name<T: Input>(
         &mut self,
         kind: TokenKind,
         reader: &mut Reader<T>,
@@ -92,7 +92,7 @@ impl Queue {
             (name_whole (cursor_of reader.old))) }
     {
         self.make_room()?;
-        match Place::read_name(kind, reader, &mut self.texts) {
+        match self.texts.read_name(kind, reader) {
             Ok((place, ())) => {
                 self.places.push_reserved(place);
                 Ok(())
@@ -102,7 +102,7 @@ impl Queue {
     }
 
     /// Reads a tag in the same way.
-    pub(crate) fn read_tag<T: Input>(
+    pub(crate) fn put_tag<T: Input>(
         &mut self,
         reader: &mut Reader<T>,
         in_flow: bool,
@@ -113,7 +113,7 @@ impl Queue {
             (tag_whole in_flow (cursor_of reader.old))) }
     {
         self.make_room()?;
-        match Place::read_tag(reader, in_flow, &mut self.texts) {
+        match self.texts.read_tag(reader, in_flow) {
             Ok((place, ())) => {
                 self.places.push_reserved(place);
                 Ok(())

@@ -1,19 +1,12 @@
 //! The texts of the tokens in a queue, and the extents of those tokens that don't fit into their places.
 
+mod read;
+
 ghost use Rattle.std.specs.Prelude.{◌≡◌, ◌<◌, ◌≤◌, ◌+◌, [], drop, length, take, IfOk, OnErr, OnOk, IsUtf8, slice_index, string_bytes};
-ghost use Rattle.saphyr_input.specs.Indicators.{exclamation_mark};
-ghost use Rattle.saphyr_scalar.specs.Steps.Anchor.{anchor};
-ghost use Rattle.saphyr_scalar.specs.Steps.Plain.{plain, seen_plain_end};
-ghost use Rattle.saphyr_scalar.specs.Steps.Quoted.{quoted};
-ghost use Rattle.saphyr_scalar.specs.Steps.Tag.{tag};
-ghost use Rattle.saphyr_scalar.specs.Views.Reader.{Moves, cursor_of};
-ghost use Rattle.saphyr_scalar.specs.Values.Flow as flow;
 ghost use Rattle.saphyr_scanner.specs.Views.Texts as spec;
 
 use crate::queue::place::Place;
-use saphyr_input::input::Input;
-use saphyr_scalar::values::Quote;
-use saphyr_scalar::{Marker, PlainEnd, Reader, Span, Spare, Stop};
+use saphyr_scalar::{Marker, Span, Spare, Stop};
 use std::alloc::{AllocError, Global};
 use std::collections::VecDeque;
 use std::marker::Model;
@@ -124,95 +117,6 @@ impl Texts {
     {
         self.extents.push_back(extent)?;
         Ok(())
-    }
-
-    /// Reads a plain scalar, and puts its text behind the others. Returns how the scalar ended, and how many bytes its
-    /// text has. After an error nothing is known of what is here.
-    #[inline(always)]
-    pub(super) fn read_plain<T: Input>(
-        &mut self,
-        reader: &mut Reader<T>,
-        in_flow: bool,
-        indent: usize,
-    ) -> Result<(PlainEnd, usize), Stop>
-        ensures read { Moves (λ read. seen_plain_end read.0 (spec.added self.old self.new)
-            (cursor_of reader.new)) result (plain in_flow indent (cursor_of reader.old)) }
-        ensures kept { IfOk result
-            (λ _. self.new ≡ spec.with_last_text (spec.added self.old self.new) self.old) }
-        ensures count { IfOk result
-            (λ read. spec.IsTextOf read.1 (spec.added self.old self.new)) }
-    {
-        let before = self.texts.len();
-        match reader.read_plain_onto(in_flow, indent, &mut self.texts) {
-            Ok(end) => Ok((end, self.texts.len() - before)),
-            Err(stop) => Err(lose(&mut self.texts, &mut self.spent, stop)),
-        }
-    }
-
-    /// Reads a quoted scalar in the same way. Returns how many bytes its text has.
-    #[inline(always)]
-    pub(super) fn read_quoted<T: Input>(
-        &mut self,
-        reader: &mut Reader<T>,
-        quote: Quote,
-        indent: usize,
-    ) -> Result<usize, Stop>
-        requires { slice_index (cursor_of reader.old).rest 0 ≡ flow.mark quote }
-        ensures read { Moves (λ _. (spec.added self.old self.new, cursor_of reader.new)) result
-            (quoted quote indent (cursor_of reader.old)) }
-        ensures kept { IfOk result
-            (λ _. self.new ≡ spec.with_last_text (spec.added self.old self.new) self.old) }
-        ensures count { IfOk result
-            (λ count. spec.IsTextOf count (spec.added self.old self.new)) }
-    {
-        let before = self.texts.len();
-        match reader.read_quoted_onto(quote, indent, &mut self.texts) {
-            Ok(()) => Ok(self.texts.len() - before),
-            Err(stop) => Err(lose(&mut self.texts, &mut self.spent, stop)),
-        }
-    }
-
-    /// Reads the name of an anchor or an alias in the same way.
-    pub(super) fn read_name<T: Input>(&mut self, reader: &mut Reader<T>) -> Result<usize, Stop>
-        requires { 0 < length (cursor_of reader.old).rest }
-        ensures read { Moves (λ _. (spec.added self.old self.new, cursor_of reader.new)) result
-            (anchor (cursor_of reader.old)) }
-        ensures kept { IfOk result
-            (λ _. self.new ≡ spec.with_last_text (spec.added self.old self.new) self.old) }
-        ensures count { IfOk result
-            (λ count. spec.IsTextOf count (spec.added self.old self.new)) }
-    {
-        let before = self.texts.len();
-        match reader.read_anchor_onto(&mut self.texts) {
-            Ok(()) => Ok(self.texts.len() - before),
-            Err(stop) => Err(lose(&mut self.texts, &mut self.spent, stop)),
-        }
-    }
-
-    /// Reads a tag in the same way: its suffix is behind its handle. Returns how many bytes the two have.
-    pub(super) fn read_tag<T: Input>(
-        &mut self,
-        reader: &mut Reader<T>,
-        in_flow: bool,
-    ) -> Result<(usize, usize), Stop>
-        requires { slice_index (cursor_of reader.old).rest 0 ≡ exclamation_mark }
-        ensures read { Moves (λ read. (
-          take read.0 (spec.added self.old self.new),
-          drop read.0 (spec.added self.old self.new),
-          cursor_of reader.new,
-        )) result
-            (tag in_flow (cursor_of reader.old)) }
-        ensures kept { IfOk result (λ read. self.new ≡ spec.with_last_text
-            (drop read.0 (spec.added self.old self.new))
-            (spec.with_last_text (take read.0 (spec.added self.old self.new)) self.old)) }
-        ensures counts { IfOk result (λ read.
-            spec.AreTextsOf read.0 read.1 (spec.added self.old self.new)) }
-    {
-        let before = self.texts.len();
-        match reader.read_tag_onto(in_flow, &mut self.texts) {
-            Ok(handle) => Ok((handle, self.texts.len() - before - handle)),
-            Err(stop) => Err(lose(&mut self.texts, &mut self.spent, stop)),
-        }
     }
 
     /// The text of so many bytes behind others.

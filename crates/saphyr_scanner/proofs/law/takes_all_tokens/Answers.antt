@@ -20,6 +20,8 @@ some_indicator style (x ∷ xs) e = omega arith
 some_indicator block_style.Literal [] e = absurd (omega (arith, e))
 some_indicator block_style.Folded [] e = absurd (omega (arith, e))
 
+-- The laws of `saphyr_scalar`, put into the form that the proofs on tokens ask for, give all three clauses:
+-- `scan_taken` the tokens and what ends them, and `tokens_at` their places.
 pub returns : goal.returns
 returns c =
     let laws : TextLaws = record {

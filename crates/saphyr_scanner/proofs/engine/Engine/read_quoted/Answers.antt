@@ -12,8 +12,8 @@ pass_gap_to-requires g c is =
     let old = c.args.self.now in
     found_end c.in_block-in_block.result c.args.quote c.least_column-least.result (cursor_of old.reader) (queue
     old.queue)
-    (queue c.read_quoted-is_at_end.new.self) old.reader.mark c.in_ok-is_at_end.is_at_end
-    (cursor_of c.read_quoted-is_at_end.new.reader) (rw c.in_ok-is_at_end.ensures at c.read_quoted-is_at_end.ensures) is
+    (queue c.put_quoted-is_at_end.new.self) old.reader.mark c.in_ok-is_at_end.is_at_end
+    (cursor_of c.put_quoted-is_at_end.new.reader) (rw c.in_ok-is_at_end.ensures at c.put_quoted-is_at_end.ensures) is
 
 pub returns-in_err-is_at_end : goal.returns-in_err-is_at_end
 returns-in_err-is_at_end g c =

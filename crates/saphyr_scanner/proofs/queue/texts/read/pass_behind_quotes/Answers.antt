@@ -3,7 +3,7 @@ use Rattle.std.proofs.Common.{ap, sym, ◌∙◌}
 use Rattle.saphyr_scalar.specs.Views.Reader.{cursor_of}
 use Rattle.saphyr_scanner.specs.Views.Reads.{behind_quoted}
 use Rattle.saphyr_scanner.proofs.Ahead.QuotedEnds.{separated_at_end}
-use Rattle.saphyr_scanner.proofs.queue.place.read.pass_behind_quotes.Goals as goal
+use Rattle.saphyr_scanner.proofs.queue.texts.read.pass_behind_quotes.Goals as goal
 
 pub returns-then-is_at_end : goal.returns-then-is_at_end
 returns-then-is_at_end g c =
