@@ -77,9 +77,8 @@ impl<'input, T: Input> Parser<'input, T> {
     ///
     /// The events of every text are taken from it: all events of a forest, or a beginning of them and one
     /// fault. The text spells the forest's tokens in order, or a beginning of them. Before a fault a document
-    /// ends only where the text has ended all of its collections and another token comes: of `k: [a` none ends at
-    /// the key. Which document comes there is not said, as in `--- ,`. The place of a refusal is in the text, and so
-    /// are both ends of each event's span.
+    /// ends only where the text has ended all of its collections, and never between a key and its colon. The
+    /// place of a refusal is in the text, and so are both ends of each event's span.
     #[must_use]
     pub fn new(alloc: Global, src: T) -> Self
         ensures decided { result ≡ spec.at_start (scan most_characters (T.rest src)) }
