@@ -21,8 +21,9 @@ A method of `Search` is a definition: given a place, it yields each way in which
 they tell and the place behind them. `OPEN` names what is known that no definition asks: the search keeps to these
 conditions too, and an answer that is taken for the want of one is counted under its name. `-` stands for an answer that
 keeps to all: a class without a name, which wants a condition. A definition that comes to ask a condition takes its name
-out of `OPEN`. A list of a refused text that the grammar of YAML has without E1 to E8 is the right one; such lists are
-counted under `of YAML`.
+out of `OPEN`. `FAULTS` names what the parser refuses and no method looks for: an answer of a refused text that has it
+is counted under its name. A list of a refused text that the grammar of YAML has without E1 to E8 is the right one; such
+lists are counted under `of YAML`.
 
 A list that a fault ends may end anywhere, and differ from the parser's before. What matters most is counted: whole
 documents, from the text's start, that are given before a fault, and that the parser doesn't give. The definitions take
@@ -53,7 +54,7 @@ from recognizer import Grammar, printed as printed_forest
 
 TOP = os.path.dirname(os.path.dirname(os.path.abspath(__file__)))
 PROGRAM, DATA = TOP + "/crates/dump_events/out/dump_events", TOP + "/crates/test_cases/data/"
-ALPHABET = "a:-?#[]{},&!*|>\"' \n"
+ALPHABET = "a:-?#[]{},&!*|>\"'. \n"
 PIECES = ["a", "a ", "a: ", ": ", ":\n", "- ", "-\n", "? ", "\n ", "\n  ", "\n- ", "\n: ", "\n? ", "\na: ", "&a ",
           "&a\n", "!a ", "*a ", "|\n", ">\n", "--- ", "\n...\n", " #", "[a", "{a", ", ", "a\n", '"a"', "'a'", "%TAG ",
           "%a\n"]
@@ -62,7 +63,8 @@ TOKENS = [
     ["- ", "a", "\n", " "], ["? ", ": ", "a", "\n"], [": ", "a", "\n", " "], ["[", "]", "a", "\n"],
     ["[", ", ", ": ", "]"], ["{", "}", "a", ": "], ["[", "? ", ": ", "a"], ["|", "\n", " ", "a"],
     ["#", " ", "\n", "a"], ['"', "\n", " ", "a"], ["&a ", "a", "\n", ": "], ["- ", "? ", ": ", "\n"],
-    ["---", "\n", "a", " "], ["- ", "&a\n", ": ", "a"], ["!a ", "*a", "&a ", "\n"],
+    ["---", "\n", "a", " "], ["- ", "&a\n", ": ", "a"], ["!a ", "*a", "&a ", "\n"], ["- ", "[", "]", "\n"],
+    ["...", "\n", "a", " "], ["[", "! ", ": ", "]"],
 ]
 END, MARK, BLANK, BREAK, FLOW = "\0", "\ufeff", " \t", "\n\r", ",[]{}"
 WHITE, BREAKZ, BLANK_OR_BREAKZ = BLANK + BREAK, BREAK + END, BLANK + BREAK + END
@@ -102,8 +104,22 @@ OPEN = {
     "no indicator behind a dash": ("[-]", "+SEQ / =VAL :- / -SEQ", r"-[,\[\]{}]"),
     # E8: of YAML, unless the mapping is on the line of a colon
     "something behind a question mark": ("?", "+MAP / =VAL : / =VAL : / -MAP", r"\?\Z"),
+    # 7.4: properties before a single pair are those of its key
+    "a single pair without properties": ("[! :]", "+SEQ / +MAP <!> / =VAL : / =VAL : / -MAP / -SEQ", r"\[[^]]*[&!]"),
+    # 8.1: right of its collection's column, as other nodes
+    "a block scalar's column": (":\n|\n a", "+MAP / =VAL : / =VAL |a\\n / -MAP", r"[\n\r][ \t]*[|>&!]"),
     # [183], [187]: it begins on a line of its own, or behind `-`, `?` or the colon of no key
     "the line of a block collection": ("a: -", "+MAP / =VAL :a / +SEQ / =VAL : / -SEQ / -MAP", r"\S[ \t]+[^\s#]"),
+}
+# What the parser refuses and no definition asks, by a name: a smallest text, an answer of it that is taken, and a
+# pattern that each such text has.
+FAULTS = {
+    # 6.1: no tab is left of where content begins
+    "a tab as indentation": (":\n\ta", "+MAP / =VAL : / =VAL :a / -MAP", r"(?m)^ *\t[ \t]*[^ \t\n\r]"),
+    # 7.4: the later lines of brackets are right of their collection's column
+    "a line in brackets": ("- [\n]", "+SEQ / +SEQ / -SEQ / -SEQ", r"(?s)[\[{].*[\n\r]"),
+    # 7.3: so are those of a quoted scalar, which may be at the column by the definitions
+    "a line in quotes": (': "\n"', '+MAP / =VAL : / =VAL "  / -MAP', r"(?s)[\"'].*[\n\r]"),
 }
 WAIVED = "key with a colon", "own braces"
 ASKED, REFUSED = 0, 1
@@ -280,7 +296,8 @@ class Search:
 
     def marker(self, place, text):
         is_marker = self.text.startswith(text, place.index) and self.is_document_indicator(place.index)
-        return [self.along(place, 3)] if place.col == 0 and is_marker else []
+        ends = text == "---" or self.ends_line_behind(place.index + 3)
+        return [self.along(place, 3)] if place.col == 0 and is_marker and ends else []
 
     def name_tokens(self, place, indicator):
         name = NAME.match(self.text, place.index + 1)
@@ -350,8 +367,8 @@ class Search:
                 yield (handle, suffix), self.along(place, end - place.index)
 
     # ## Spelling/Directive.antt
-    def ends_directive(self, index):
-        """Whether only a line's tail stands behind a directive (IsLineTail)."""
+    def ends_line_behind(self, index):
+        """Whether only a line's tail stands behind a directive or `...` (EndsLine)."""
         return bool(LINE_TAIL.match(self.text, index))
 
     def directive_texts(self, index):
@@ -376,7 +393,7 @@ class Search:
     def directive_tokens(self, place):
         if place.col == 0 and self.at(place.index) == "%":
             for handle, prefix, end in self.directive_texts(place.index):
-                if self.ends_directive(end):
+                if self.ends_line_behind(end):
                     yield (handle, prefix), self.along(place, end - place.index), 0
 
     # ## Spelling/LaterLines.antt. `least` there is `column` + 1 for plain scalars, and `column` for quoted ones.
@@ -568,10 +585,13 @@ class Search:
         content = self.apart(place)
         if (anchor, tag) != (None, None):
             yield from ((emitted, t, 0) for emitted, t in self.emit(place, Leaf("=VAL", anchor, tag, "plain", "")))
-        if not self.is_indented(content, context, column):
+        is_indented = self.is_indented(content, context, column)
+        left = self.unless("a block scalar's column", is_indented)
+        for style, value, t in self.scalar_tokens(content, context, column) if self.may(left) else []:
+            if is_indented or style in "|>":
+                yield from ((emitted, u, left) for emitted, u in self.emit(t, Leaf("=VAL", anchor, tag, style, value)))
+        if not is_indented:
             return
-        for style, value, t in self.scalar_tokens(content, context, column):
-            yield from ((emitted, u, 0) for emitted, u in self.emit(t, Leaf("=VAL", anchor, tag, style, value)))
         for name, collection in (("+SEQ", self.flow_sequence), ("+MAP", self.flow_mapping)):
             if name == "+MAP" or self.at(content.index) == "[":
                 for emitted, t in self.emit(content, Opening(name, anchor, tag)):
@@ -622,16 +642,19 @@ class Search:
     def flow_entry(self, place, column):
         """A node, or a mapping of a single pair. That has a start and an end without a text, but for a `?` in it."""
         yield from self.node(place, IN_FLOW, column)
-        here = self.apart(place)
-        for emitted, t in self.emit(here, Opening("+MAP", None, None)):
-            for others, u, broken in self.single_pair(t, column):
-                yield from self.closed(emitted + others, u, broken, "-MAP")
+        for (anchor, tag), t, broken in self.properties(place, IN_FLOW, column):
+            is_bare = (anchor, tag) == (None, None)
+            broken |= self.unless("a single pair without properties", is_bare)
+            for emitted, u in self.emit(self.apart(t), Opening("+MAP", anchor, tag)) if self.may(broken) else []:
+                for others, v, more in self.single_pair(u, column, is_bare):
+                    yield from self.closed(emitted + others, v, broken | more, "-MAP")
 
     @way
-    def single_pair(self, place, column):
-        """A pair as an entry of brackets (YieldsSinglePair; YieldsFlowPair between a start and an end without text)."""
+    def single_pair(self, place, column, is_bare):
+        """A pair as an entry of brackets (YieldsSinglePair; YieldsFlowPair between a start and an end without text).
+        Those have a colon."""
         yield from self.marked_pair(place, IN_FLOW, column, True)
-        yield from self.key_alone(place, IN_FLOW, column)
+        yield from self.key_alone(place, IN_FLOW, column) if is_bare else []
         for t in self.without_text(place):
             yield from self.value_alone(t, IN_FLOW, column)
 
@@ -953,7 +976,8 @@ class Count:
         or several."""
         shown = map(printed_forest, Grammar(text, frozenset()).forests() if is_cut else ())
         left = others - {tuple((it or "").split("\n")[:-1]) for it in shown}
-        found = {"of YAML": others - left, "-": left & strict}
+        fault = next((name for name, (_, _, it) in FAULTS.items() if is_cut and re.search(it, text)), "-")
+        found = {"of YAML": others - left, fault: left & strict}
         for name in OPEN if left - strict else []:
             found[name] = (left - strict) & lines_of(Search(text, bare, [name]).answers())
         found["several"] = left.difference(*found.values())
@@ -1048,13 +1072,18 @@ def check_cases(words):
 
 
 def check_open(words):
-    """Whether each open condition is one: its text has its answer for the want of this alone."""
+    """Whether each open condition is one: its text has its answer for the want of this alone. What no method looks for
+    is found in its text too."""
     wrong = []
     for name, (text, answer, _) in OPEN.items():
         known = ("+STR", "+DOC", *answer.split(" / "), "-DOC", "-STR")
         has = [known in lines_of(Search(text, words.bare, waived).answers()) for waived in ((), (name,))]
         if has != [False, True]:
             wrong.append(f"{name}: {answer!r} is not an answer of {text!r} for the want of this alone")
+    for name, (text, answer, pattern) in FAULTS.items():
+        known = ("+STR", "+DOC", *answer.split(" / "), "-DOC", "-STR")
+        if not re.search(pattern, text) or known not in lines_of(Search(text, words.bare).answers()):
+            wrong.append(f"{name}: {answer!r} is not an answer of {text!r}")
     print(*wrong, sep="\n", end="\n" * bool(wrong))
     return bool(wrong)
 

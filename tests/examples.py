@@ -115,6 +115,8 @@ RIGHT = [
     (":", "+MAP / =VAL : / =VAL : / -MAP"),
     ("- : a", "+SEQ / +MAP / =VAL : / =VAL :a / -MAP / -SEQ"),
     ("? a\n: b", "+MAP / =VAL :a / =VAL :b / -MAP"),
+    ("a\n... # c\n", "=VAL :a"),
+    ("[! : ]", "+SEQ / +MAP / =VAL <!> : / =VAL : / -MAP / -SEQ"),
 ]
 
 # Texts that the standard derives and the grammar leaves out by one of the exceptions E1 to E8.
@@ -186,6 +188,7 @@ WRONG = [
     ("[a\n:]", "+SEQ / +MAP / =VAL :a / =VAL : / -MAP / -SEQ"),
     ("[a:]", "+SEQ / =VAL :a / -SEQ"),
     ("&a x\n--- *a\n", "=VAL &1 :x / -DOC / +DOC --- / =ALI *1"),
+    ("... a", "=VAL :a"),
 ]
 
 

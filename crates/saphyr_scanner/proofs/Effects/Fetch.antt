@@ -31,7 +31,6 @@ use Rattle.saphyr_scanner.proofs.Taken.Keys.{IsDeep}
 use Rattle.saphyr_scanner.proofs.Taken.Places.{at_here}
 use Rattle.saphyr_scanner.proofs.Effects.States.{FetchesTokens, advances_advances, on_core_fetches, after_step_fetches, same_index, unroll_advances}
 use Rattle.saphyr_scanner.proofs.Effects.Documents.{start_walked, end_marker_walked, mark_walked, directive_walked, documents_advance}
-use Rattle.saphyr_scanner.proofs.Taken.Documents.{start_marking}
 
 -- ## What begins at a place
 
@@ -166,8 +165,7 @@ here_fetched s going =
     (eqb-true (slice_index t 0) 37 w.1))))
     (λ _. by_test ((s.core.cursor.mark.col == 0) && is_document_start t) _ _ P
     (λ e. let w = and_parts (s.core.cursor.mark.col == 0) (is_document_start t) e in
-    of_advances s _ going (documents_advance s _ (start_walked is_document_start (codes "---") tokens.DocumentStart
-    start_marking (λ i. absurd (cc)) s (eqb-true s.core.cursor.mark.col 0 w.0) w.1)))
+    of_advances s _ going (documents_advance s _ (start_walked s (eqb-true s.core.cursor.mark.col 0 w.0) w.1)))
     (λ _. by_test ((s.core.cursor.mark.col == 0) && is_document_end t) _ _ P
     (λ e. let w = and_parts (s.core.cursor.mark.col == 0) (is_document_end t) e in
     of_advances s _ going (documents_advance s _ (end_marker_walked s (eqb-true s.core.cursor.mark.col 0 w.0) w.1)))

@@ -81,11 +81,11 @@ forgotten_unrolled opened from s end free h =
 pub three_at : (x : ℕ) (xs : List ℕ) → (0 == x) ≡ false → next_3_are xs x x x ≡ true → xs ≡ x ∷ x ∷ x ∷ drop 3 xs
 three_at x xs z e = grind arith
 
--- a document marker's token
-pub record Marking (stands : List ℕ → Bool) (text : List ℕ) (kind : Kind) : Type 0 where
+-- a document marker's token, with what has to come after it
+pub record Marking (stands : List ℕ → Bool) (text : List ℕ) (kind : Kind) (Behind : List ℕ → Type 0) : Type 0 where
   pub quiet : is_quiet kind ≡ true
   pub keeps : (span : Span) → Neutral (record { span = span; kind = kind })
-  pub is : (i : Surroundings) (span : Span) (s t : Cursor) → taken.IsMarker stands text span s t
+  pub is : (i : Surroundings) (span : Span) (s t : Cursor) → taken.IsMarker stands text span s t → Behind t.rest
       → IsToken i kind span s t
   pub three : (xs : List ℕ) → stands xs ≡ true → xs ≡ text ++ drop 3 xs
   pub ends : (xs : List ℕ) → stands xs ≡ true → is_document_indicator xs ≡ true
@@ -93,10 +93,10 @@ pub record Marking (stands : List ℕ → Bool) (text : List ℕ) (kind : Kind) 
   pub no_node : (span : Span) → is_of_flow_node kind span ≡ false
   pub unbound : is_unbound kind ≡ true
 
-pub start_marking : Marking is_document_start (codes "---") tokens.DocumentStart
+pub start_marking : Marking is_document_start (codes "---") tokens.DocumentStart (λ _. Unit {0})
 start_marking = grind arith
 
-pub end_marking : Marking is_document_end (codes "...") tokens.DocumentEnd
+pub end_marking : Marking is_document_end (codes "...") tokens.DocumentEnd taken.EndsLine
 end_marking = grind arith
 
 -- ## Directives

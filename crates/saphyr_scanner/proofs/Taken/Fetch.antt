@@ -20,7 +20,7 @@ use Rattle.saphyr_scanner.proofs.Taken.Cores.{no_keys, quiet_put}
 use Rattle.saphyr_scanner.proofs.Effects.Walked.{Premises, Walked, walked_given, Stepped}
 use Rattle.saphyr_scanner.proofs.Effects.Documents.{Documented, start_walked, end_marker_walked, mark_walked, directive_walked, documents_advance, documents_hold}
 use Rattle.saphyr_scanner.proofs.Taken.States.{line_small, taken_later, unrolled_required, Live, Fetched, holds_fetched, FetchedStep, TakenState}
-use Rattle.saphyr_scanner.proofs.Taken.Documents.{HoldsState, start_marking, end_fetched}
+use Rattle.saphyr_scanner.proofs.Taken.Documents.{HoldsState, end_fetched}
 use Rattle.saphyr_scanner.proofs.Queues.{flat_append}
 use Rattle.saphyr_scanner.proofs.Taken.Arrivals.{key_column, forgotten_live, forgotten_taken, Arrived, arrived}
 
@@ -95,8 +95,7 @@ here_read laws text small opened from s l going begun a =
     (λ _. by_test ((s.core.cursor.mark.col == 0) && is_document_start t) _ _ P
     (λ e. let w = and_parts (s.core.cursor.mark.col == 0) (is_document_start t) e in
     behind (document.state_behind_marker tokens.DocumentStart s)
-    (start_walked is_document_start (codes "---") tokens.DocumentStart start_marking (λ i. absurd (cc)) s
-    (eqb-true s.core.cursor.mark.col 0 w.0) w.1))
+    (start_walked s (eqb-true s.core.cursor.mark.col 0 w.0) w.1))
     (λ _. by_test ((s.core.cursor.mark.col == 0) && is_document_end t) _ _ P
     (λ e. let w = and_parts (s.core.cursor.mark.col == 0) (is_document_end t) e in
     behind (document.state_behind_document_end s) (end_marker_walked s (eqb-true s.core.cursor.mark.col 0 w.0) w.1))
