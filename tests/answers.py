@@ -104,8 +104,6 @@ OPEN = {
     "no indicator behind a dash": ("[-]", "+SEQ / =VAL :- / -SEQ", r"-[,\[\]{}]"),
     # E8: of YAML, unless the mapping is on the line of a colon
     "something behind a question mark": ("?", "+MAP / =VAL : / =VAL : / -MAP", r"\?\Z"),
-    # 7.4: properties before a single pair are those of its key
-    "a single pair without properties": ("[! :]", "+SEQ / +MAP <!> / =VAL : / =VAL : / -MAP / -SEQ", r"\[[^]]*[&!]"),
     # 8.1: right of its collection's column, as other nodes
     "a block scalar's column": (":\n|\n a", "+MAP / =VAL : / =VAL |a\\n / -MAP", r"[\n\r][ \t]*[|>&!]"),
     # [183], [187]: it begins on a line of its own, or behind `-`, `?` or the colon of no key
@@ -120,6 +118,8 @@ FAULTS = {
     "a line in brackets": ("- [\n]", "+SEQ / +SEQ / -SEQ / -SEQ", r"(?s)[\[{].*[\n\r]"),
     # 7.3: so are those of a quoted scalar, which may be at the column by the definitions
     "a line in quotes": (': "\n"', '+MAP / =VAL : / =VAL "  / -MAP', r"(?s)[\"'].*[\n\r]"),
+    # 7.4.2: E3, and no bracket behind a colon that nothing ends like JSON before
+    "a colon beside brackets": ("[:[]]", "+SEQ / +MAP / =VAL : / +SEQ / -SEQ / -MAP / -SEQ", r":[\[{]"),
 }
 WAIVED = "key with a colon", "own braces"
 ASKED, REFUSED = 0, 1
@@ -610,7 +610,7 @@ class Search:
 
     @way
     def flow_mapping(self, place, column):
-        """In braces (AreInPlace)."""
+        """In braces: a start without a text is a single pair's (AreInPlace, AreBare)."""
         lacks = self.unless("own braces", False)
         starts = [(t, 0) for t in self.stands(place, "{")]
         starts += [(t, lacks) for t in self.without_text(place) if self.may(lacks)]
@@ -640,21 +640,19 @@ class Search:
 
     @way
     def flow_entry(self, place, column):
-        """A node, or a mapping of a single pair. That has a start and an end without a text, but for a `?` in it."""
+        """A node, or a mapping of a single pair. That has a start and an end without a text, but for a `?` in it, and
+        no properties (AreBare)."""
         yield from self.node(place, IN_FLOW, column)
-        for (anchor, tag), t, broken in self.properties(place, IN_FLOW, column):
-            is_bare = (anchor, tag) == (None, None)
-            broken |= self.unless("a single pair without properties", is_bare)
-            for emitted, u in self.emit(self.apart(t), Opening("+MAP", anchor, tag)) if self.may(broken) else []:
-                for others, v, more in self.single_pair(u, column, is_bare):
-                    yield from self.closed(emitted + others, v, broken | more, "-MAP")
+        here = self.apart(place)
+        for emitted, t in self.emit(here, Opening("+MAP", None, None)):
+            for others, u, broken in self.single_pair(t, column):
+                yield from self.closed(emitted + others, u, broken, "-MAP")
 
     @way
-    def single_pair(self, place, column, is_bare):
-        """A pair as an entry of brackets (YieldsSinglePair; YieldsFlowPair between a start and an end without text).
-        Those have a colon."""
+    def single_pair(self, place, column):
+        """A pair as an entry of brackets (YieldsSinglePair; YieldsFlowPair between a start and an end without text)."""
         yield from self.marked_pair(place, IN_FLOW, column, True)
-        yield from self.key_alone(place, IN_FLOW, column) if is_bare else []
+        yield from self.key_alone(place, IN_FLOW, column)
         for t in self.without_text(place):
             yield from self.value_alone(t, IN_FLOW, column)
 

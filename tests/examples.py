@@ -189,6 +189,8 @@ WRONG = [
     ("[a:]", "+SEQ / =VAL :a / -SEQ"),
     ("&a x\n--- *a\n", "=VAL &1 :x / -DOC / +DOC --- / =ALI *1"),
     ("... a", "=VAL :a"),
+    ("[! :]", "+SEQ / +MAP <!> / =VAL : / =VAL : / -MAP / -SEQ"),
+    ("[&a a: b]", "+SEQ / +MAP &1 / =VAL :a / =VAL :b / -MAP / -SEQ"),
 ]
 
 

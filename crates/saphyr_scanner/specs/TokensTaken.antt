@@ -30,7 +30,7 @@ use Rattle.saphyr_scalar.specs.Spelling.Directive.{ReadDirective, version, tag_p
 use Rattle.saphyr_scanner.specs.Grammar.Tokens as tokens
 use Rattle.saphyr_scanner.specs.Grammar.Tokens.{Kind}
 use Rattle.saphyr_scanner.specs.Views.Tokens.{Piece, Remaining}
-use Rattle.saphyr_scanner.specs.TokensInPlace.{has_text, without_innermost, not_enclosed, AreInPlace, AreIndented}
+use Rattle.saphyr_scanner.specs.TokensInPlace.{has_text, without_innermost, not_enclosed, AreInPlace, AreIndented, OtherFront, AreBare}
 pub use Rattle.saphyr_scanner.specs.TokensInPlace.{least_column_in}
 
 -- ## Places (5.4)
@@ -370,4 +370,4 @@ IsEndOf text (Some e) u = IsPlaceOf text e.mark
 abbrev pub AreTakenFrom : List ℕ → Remaining → Type 0
 AreTakenFrom text r =
     (end : Cursor) × AreTokens no_collections r.pieces (start_cursor text) end × AreInPlace not_enclosed r.pieces
-    × AreIndented not_enclosed r.pieces × IsEndOf text r.refusal end
+    × AreIndented not_enclosed r.pieces × AreBare OtherFront r.pieces × IsEndOf text r.refusal end

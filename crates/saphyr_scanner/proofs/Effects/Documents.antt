@@ -14,8 +14,8 @@ use Rattle.saphyr_scanner.specs.TokensTaken.{AreApart, IsReached, IsToken, IsCon
 use Rattle.saphyr_scanner.proofs.Added.Queue.{IsNoEnd}
 use Rattle.saphyr_scanner.proofs.Blocks.{unrolled_cursor, unrolled_comment}
 use Rattle.saphyr_scanner.proofs.Counted.{stays, text_passed}
-use Rattle.saphyr_scanner.proofs.Effects.Moves.{Does, and_then, NoComment, Same, still, further}
-use Rattle.saphyr_scanner.proofs.Effects.Puts.{Reading, freed, quiet}
+use Rattle.saphyr_scanner.proofs.Effects.Moves.{Does, and_then, NoComment, Same, right_before, still, further}
+use Rattle.saphyr_scanner.proofs.Effects.Puts.{Reading, quiet}
 use Rattle.saphyr_scanner.proofs.Effects.Walked.{Premises, Walked, walked_then, at_most, resting, unsaved_step, at_reach}
 use Rattle.saphyr_scanner.proofs.Effects.Walked.{at_inside, read_walked, separate_walked}
 use Rattle.saphyr_scanner.proofs.Effects.Readers.{TextLaws}
@@ -23,7 +23,8 @@ use Rattle.saphyr_scanner.proofs.Effects.States.{FetchesTokens, advances_advance
 use Rattle.saphyr_scanner.proofs.Effects.Steps.{begins_none, begins_forgotten}
 use Rattle.saphyr_scanner.proofs.LineTails.{OnLine, tail_apart}
 use Rattle.saphyr_scanner.proofs.Reached.{along_reached, apart_reached}
-use Rattle.saphyr_scanner.proofs.Taken.Documents.{HoldsState, unrolled_indent, forgotten_unrolled, three_at, Marking, start_marking, end_marking, break_apart, directive_is_token, directive_keeps, quiet_directive, no_node_directive, unbound_directive}
+use Rattle.saphyr_scanner.proofs.Taken.Documents.{HoldsState, unrolled_indent, forgotten_unrolled, three_at, Marking, start_marking, end_marking, break_apart, directive_is_token, directive_keeps, quiet_directive, no_node_directive, unbound_directive, plain_directive}
+use Rattle.saphyr_scanner.proofs.Taken.Bare.{is_plain, entry_same}
 use Rattle.saphyr_scanner.proofs.Taken.Cores.{surroundings}
 use Rattle.saphyr_scanner.proofs.Taken.Neutral.{Neutral, neutral}
 use Rattle.saphyr_scanner.proofs.Taken.Held.{Setting, is_unbound}
@@ -84,23 +85,27 @@ spelled : {A : Type 0} (c d : Core) → c.level.key ≡ None → (kind : Kind) (
     → c.cursor.rest ≡ text ++ d.cursor.rest
     → d.cursor.mark.index ≡ c.cursor.mark.index + length text → 0 < length text → is_quiet kind ≡ true
     → ((span : Span) → Neutral (record { span = span; kind = kind }))
-    → ((span : Span) → is_of_flow_node kind span ≡ false) → IsNoEnd kind → is_unbound kind ≡ true
+    → ((span : Span) → is_of_flow_node kind span ≡ false) → IsNoEnd kind → is_unbound kind ≡ true → is_plain kind ≡ true
     → Same c d → IsRight d → ((b : Bool)
     → IsToken (surroundings b c) kind (record { start = c.cursor.mark; end = d.cursor.mark }) c.cursor d.cursor)
     → Does A None 1 5 c d (up_to_here c.cursor.mark kind d ∷ [])
-spelled c d none kind text is i some q b node e unbound s right token =
+spelled c d none kind text is i some q b node e unbound plain s right token =
     let u = d.cursor in
     let a = text_passed c.cursor u text is i in
     at_most (omega arith) (and_then (λ n. n)
-    (quiet 1 c (record { span = record { start = c.cursor.mark; end = u.mark }; kind = kind }) u q
+    (quiet 1 c (record { span = record { start = c.cursor.mark; end = u.mark }; kind = kind }) u d.key_allowed q
     (b (record { start = c.cursor.mark; end = u.mark })) (node (record { start = c.cursor.mark; end = u.mark })) none e
-    unbound
+    unbound plain (λ _. right_before c d u s refl right)
     (record {
       less = λ _. omega (arith, a.counted, i, some);
       span = λ _. record { ahead = a; begins = omega arith; inside = a.later; ends = omega arith };
       token = λ _. (u, (λ b _. token b), taken.nothing u.mark u.rest);
     }))
-    (still (freed (with_cursor u c)) d s refl (λ _. ((λ _. inl refl), λ _. right))))
+    (still (record c { cursor = u; key_allowed = d.key_allowed }) d s refl (λ _. (
+      (λ a. inl a),
+      (λ _. right),
+      entry_same (record c { cursor = u; key_allowed = d.key_allowed }) d s.0 (λ a. a) (taken.nothing u.mark u.rest),
+    ))))
 
 -- after blanks and a comment the text goes on as far right, or there is no node still
 tail_right : (c d : Core) → Same c d → OnLine c.cursor d.cursor → d.key_allowed ≡ c.key_allowed → IsRight c → IsRight d
@@ -133,6 +138,7 @@ marker_walked stands text kind After marking no_end s col e = walked_then (Premi
       λ after. documented s t (record { core = d; actions = up_to_here t.core.cursor.mark kind d ∷ [] }) c (λ n. n)
           (spelled t.core d c.no_key kind text three (let k = marking.count in omega (arith, k))
           (let k = marking.count in omega (arith, k)) marking.quiet marking.keeps marking.no_node no_end marking.unbound
+          marking.plain
           (refl, refl, (λ n. n), refl) (λ i _ _. inl (let left = c.indent i in omega (arith, left)))
           (λ b. marking.is (surroundings b t.core) _ t.core.cursor d.cursor token after)),
       ap (pass 3) c.cursor,
@@ -184,7 +190,11 @@ end_marker_walked s col e =
         let u = x.1.cursor in
         let later = apart_later c.mark c.rest u.mark u.rest h.1.apart in
         let f : Does (Unit {0}) None 0 0 t.core x.1 [] = further t.core x.1 h.0 h.1.apart
-        (λ _. ((λ a. inl (sym h.2 ∙ a)), tail_right t.core x.1 h.0 h.1 h.2)) in
+        (λ _. (
+          (λ a. inl (sym h.2 ∙ a)),
+          tail_right t.core x.1 h.0 h.1 h.2,
+          entry_same t.core x.1 h.0.0 (λ a. h.2 ∙ a) h.1.apart,
+        )) in
         by_test (is_breakz (slice_index u.rest 0)) _ _ (Walked (Premises s.core) (Documented s) s.core.cursor)
         (λ e. let line = h.1.on_line in
         let d = put (line.0, line.1, line.2, line.3, subst (λ l. is_breakz (slice_index l 0) ≡ true) h.1.behind e) in
@@ -222,7 +232,7 @@ mark_walked s e =
     documented s t (record { core = d; actions = up_to_here here.mark tokens.ByteOrderMark d ∷ [] }) c (λ n. n)
     (subst P c.cursor (spelled t.core d c.no_key tokens.ByteOrderMark (byte_order_mark ∷ []) is (omega arith)
     (omega arith) refl
-    (λ p. neutral _ p refl) (λ p. refl) (λ i. absurd (cc)) refl (refl, refl, (λ n. n), refl) (λ _ f. absurd (cc))
+    (λ p. neutral _ p refl) (λ p. refl) (λ i. absurd (cc)) refl refl (refl, refl, (λ n. n), refl) (λ _ f. absurd (cc))
     (λ _. record { is = is; at_start = col; start = refl; end = refl; goes_on = refl })))))
   where
     no_column : (n : ℕ) (b : Bool) → (nat_lt 0 n || b) ≡ false → n ≡ 0
@@ -293,12 +303,12 @@ directive_walked s col f =
         let kind = document.directive_kind x.0 in
         documented s t (record { core = d; actions = from_to t.core.cursor.mark x.1 kind ∷ [] }) c (λ n. n)
         (at_most (omega arith) (and_then (λ n. n)
-        (quiet 1 t.core (record { span = record { start = t.core.cursor.mark; end = x.1 }; kind = kind }) x.2
+        (quiet 1 t.core (record { span = record { start = t.core.cursor.mark; end = x.1 }; kind = kind }) x.2 false
         (quiet_directive x.0) (directive_keeps x.0 (record { start = t.core.cursor.mark; end = x.1 }))
         (no_node_directive x.0 (record { start = t.core.cursor.mark; end = x.1 })) c.no_key
-        (directive_is_no_end x.0) (unbound_directive x.0) (directive_reading t.core x col first e))
-        (still (freed (with_cursor x.2 t.core)) d (refl, refl, (λ n. n), refl) refl
-        (λ _. ((λ _. inl refl), λ _ i _ _. inl (let left = c.indent i in omega (arith, left)))))))
+        (directive_is_no_end x.0) (unbound_directive x.0) (plain_directive x.0)
+        (λ _ i _ _. inl (let left = c.indent i in omega (arith, left))) (directive_reading t.core x col first e))
+        (still d d (refl, refl, (λ n. n), refl) refl (λ _. ((λ a. inl a), (λ h. h), λ front h. h)))))
     by t c (Err e) col first h = h
 
 -- ## What follows

@@ -26,7 +26,7 @@ use Rattle.saphyr_scanner.proofs.Effects.Values.{value_does, flow_value_does}
 use Rattle.saphyr_scanner.proofs.Effects.Blocks.{block_entry_does, key_does}
 use Rattle.saphyr_scanner.proofs.Effects.Scalars.{plain_start, plain_does, block_does}
 use Rattle.saphyr_scanner.proofs.Effects.QuotedScalars.{quoted_does}
-use Rattle.saphyr_scanner.proofs.Effects.Properties.{an_alias, an_anchor, name_does, tag_does}
+use Rattle.saphyr_scanner.proofs.Effects.Properties.{an_alias, an_anchor, alias_keeps, anchor_keeps, name_does, tag_does}
 use Rattle.saphyr_scanner.proofs.Taken.Keys.{IsDeep}
 use Rattle.saphyr_scanner.proofs.Taken.Places.{at_here}
 use Rattle.saphyr_scanner.proofs.Effects.States.{FetchesTokens, advances_advances, on_core_fetches, after_step_fetches, same_index, unroll_advances}
@@ -79,8 +79,8 @@ step_does first second n c h f g deep =
             λ _. beside_parts second c g w.1,
           ));
       quoted = λ quote e. does _ (quoted_does quote n c (f ∙ e));
-      alias = λ e. does _ (name_does tokens.Alias 42 an_alias n c h (f ∙ e));
-      anchor = λ e. does _ (name_does tokens.Anchor 38 an_anchor n c h (f ∙ e));
+      alias = λ e. does _ (name_does tokens.Alias 42 an_alias alias_keeps n c h (f ∙ e));
+      anchor = λ e. does _ (name_does tokens.Anchor 38 an_anchor anchor_keeps n c h (f ∙ e));
       tag = λ e. does _ (tag_does n c (f ∙ e));
       literal = λ e b. block_does block_style.Literal n c b h (f ∙ e);
       folded = λ e b. block_does block_style.Folded n c b h (f ∙ e);

@@ -18,6 +18,7 @@ use Rattle.saphyr_scanner.proofs.LineTails.{OnLine}
 use Rattle.saphyr_scanner.proofs.LessIndented.{less_indented}
 use Rattle.saphyr_scanner.proofs.Reached.{apart_reached, passed_reached}
 use Rattle.saphyr_scanner.proofs.Taken.Cores.{surroundings}
+use Rattle.saphyr_scanner.proofs.Taken.Bare.{is_plain, plain_fronts}
 use Rattle.saphyr_scanner.proofs.Taken.SavedKeys.{IsSaved}
 use Rattle.saphyr_scanner.proofs.Taken.Indented.{BeginsNoNode, other_than_colon}
 use Rattle.saphyr_scanner.proofs.Taken.Keys.{IsArrival}
@@ -33,6 +34,9 @@ abbrev pub Starts : Span → Cursor → Type 0
 Starts span s = (span.start ≡ s.mark) × IsTrue (begins_text (slice_index s.rest 0))
 
 -- ## Quoted scalars
+
+plain_quote : (quote : Quote) (value : List ℕ) → is_plain (quote_kind quote value) ≡ true
+plain_quote quote value = grind arith
 
 -- what is so of both quotes
 record Quoting (quote : Quote) : Type 0 where
@@ -139,7 +143,7 @@ quotes_do quote n c first l r s =
     saved n c (scalar.adjacent_here f) t (rw (same, k.0.3 ∙ g.0.3) s)
     (ap (λ (a : Around). record a { adjacent = c.adjacent }) (k.0.1 ∙ g.0.1)) (inr (refl, (quoting quote).ends_json x.0 t.span))
     (λ m. inl (k.0.2 (g.0.2 m))) ((quoting quote).quiet x.0) (neutral _ t.span refl) (quoting quote).flow (λ i. absurd (cc))
-    (λ no. absurd (cc))
+    (λ no. absurd (cc)) (plain_fronts t c (scalar.adjacent_here f) (plain_quote quote x.0))
     (λ i. (quoting quote).of i x.0 t.span) refl (other_than_colon (mark quote) here.rest (quoting quote).other first)
     (λ arrival laws i allowed small.
     let p = past arrival laws in
@@ -157,7 +161,7 @@ quotes_do quote n c first l r s =
     let line = on_line_same x.1 u g.1 in
     elim (k.3.begins allowed) [
       | inl before ↦ absurd (let same = g.2 in cc)
-      | inr later ↦ inl (let z = later (omega (arith, p.0, line)) small in omega (arith, p.1, line, z))
+      | inr later ↦ inl (let z = later.1 (omega (arith, p.0, line)) small in omega (arith, p.1, line, z))
     ])
     (record {
       less = λ laws. let z = laws.quoted_scalar quote low here x.1 x.0 first e in

@@ -3,15 +3,16 @@ use Rattle.saphyr_scanner.proofs.Common.{◌≡◌, ℕ, zero, suc, ◌+◌, Lis
 use Rattle.saphyr_scanner.specs.Grammar.Tokens as tokens
 use Rattle.saphyr_scanner.specs.Grammar.Tokens.{Kind}
 use Rattle.saphyr_scanner.specs.Steps.Queue.{Queue, bare_place, with_piece}
-use Rattle.saphyr_scanner.specs.Steps.Core.{Core, enter_block}
+use Rattle.saphyr_scanner.specs.Steps.Core.{Core, in_block, enter_block}
 use Rattle.saphyr_scanner.specs.Steps.Level.{Level}
 use Rattle.saphyr_scanner.specs.declared.engine.level.Context.TheVariants as context
 use Rattle.saphyr_scanner.specs.TokensInPlace as place
-use Rattle.saphyr_scanner.specs.TokensInPlace.{Enclosure, Enclosed, Begun, Enclosures, with_begun, begun_at, enclosures_behind, may_stand, AreInPlace, is_of_flow_node, fits_at, may_follow}
+use Rattle.saphyr_scanner.specs.TokensInPlace.{Enclosure, Enclosed, Begun, Enclosures, with_begun, begun_at, enclosures_behind, may_stand, AreInPlace, is_of_flow_node, fits_at, may_follow, EntryFront, front_behind, AreBare}
 use Rattle.saphyr_scanner.specs.TokensTaken.{Collections, Surroundings, AreApart, IsToken, AreTokens, open_behind, least_column_in, surroundings_in, ends_json_behind}
 use Rattle.saphyr_scanner.proofs.Leads.{flat}
 use Rattle.saphyr_scanner.proofs.Taken.InPlace.{all_behind, behind_append, each_append, begun_by, begun_behind}
 use Rattle.saphyr_scanner.proofs.Taken.KeysInPlace.{Outside, free, calmed, calm, IsPast, EndsOn, past_later, past_end}
+use Rattle.saphyr_scanner.proofs.Taken.Bare.{fronts, fronts_append, bare_append, Agrees, IsEntry, KeepsEntry, KeepsFronts}
 use Rattle.saphyr_scanner.proofs.Taken.Indented.{IsRight, Indented, KeepsRequired, indented_further}
 use Rattle.saphyr_scanner.proofs.Taken.Later.{top, apart_later, end_stays}
 use Rattle.saphyr_scanner.proofs.Taken.Separated.{apart_apart}
@@ -109,10 +110,14 @@ keeps_put i c d t here behind opened a is b flows before after adjoins k = grind
 pub record Setting : Type 0 where
   pub collections : Collections
   pub enclosures : Enclosures
+  pub front : EntryFront
 
 abbrev pub setting_behind : List Piece → Setting → Setting
-setting_behind ps opened =
-    record { collections = open_all ps opened.collections; enclosures = all_behind ps opened.enclosures }
+setting_behind ps opened = record {
+  collections = open_all ps opened.collections;
+  enclosures = all_behind ps opened.enclosures;
+  front = fronts ps opened.front;
+}
 
 -- The tokens are taken from the text, and what encloses the next token is known. Where properties are last no key may
 -- begin on their line.
@@ -125,7 +130,11 @@ pub record TakenWithin (within : Enclosures) (opened : Setting) (from : Cursor) 
   pub encloses : calm (all_behind (flat q.places) opened.enclosures) ≡ within
   pub small : from.mark.line ≤ top
   pub ends : EndsOn (all_behind (flat q.places) opened.enclosures).begun last.mark.line
-  pub past : c.key_allowed ≡ true → IsPast (all_behind (flat q.places) opened.enclosures).begun c.cursor.mark.line
+  pub past : c.key_allowed ≡ true
+      → IsPast (all_behind (flat q.places) opened.enclosures).begun (in_block c) c.cursor.mark.line
+  pub bare : AreBare opened.front (flat q.places)
+  pub agrees : Agrees opened.front opened.enclosures.begun
+  pub entry : IsEntry (fronts (flat q.places) opened.front) c
   pub indented : Indented opened.enclosures c q
   pub right : IsRight c
   pub place : KeepsPlace (open_all (flat q.places) opened.collections).ends_json c
@@ -137,10 +146,11 @@ pub taken_within : (v w : Enclosures) (opened : Setting) (from : Cursor) (c : Co
     → TakenWithin v opened from c q → TakenWithin w opened from c q
 taken_within v w opened from c q e h = rw e h
 
--- A key may begin only where one might before, or on a later line. Where none may the text goes on as far right.
+-- A key may begin only where one might before, or outside flow on a later line. Where none may the text goes on as
+-- far right.
 abbrev pub AllowsKey : Core → Core → Type 0
-AllowsKey c d = (d.key_allowed ≡ true → (c.key_allowed ≡ true) ⊎ (c.cursor.mark.line < d.cursor.mark.line))
-    × (IsRight c → IsRight d)
+AllowsKey c d = (d.key_allowed ≡ true → (c.key_allowed ≡ true)
+    ⊎ ((in_block d ≡ true) × (c.cursor.mark.line < d.cursor.mark.line))) × (IsRight c → IsRight d) × KeepsEntry c d
 
 -- the text goes on after separation
 pub taken_further : (within : Enclosures) (opened : Setting) (from : Cursor) (c d : Core) (q : Queue)
@@ -162,11 +172,16 @@ taken_further within opened from c d q a i o n e allows kept h =
       small = h.small;
       ends = h.ends;
       past = λ g. elim (allows.0 g) [
-        | inl f ↦ past_later now.begun c.cursor.mark.line d.cursor.mark.line there.0 (h.past f)
-        | inr l ↦ past_end now.begun h.last.mark.line d.cursor.mark.line (omega (arith, here.0, l)) h.ends
+        | inl f ↦ subst (λ b. IsPast now.begun b d.cursor.mark.line) (sym kept.block)
+            (past_later now.begun (in_block c) c.cursor.mark.line d.cursor.mark.line there.0 (h.past f))
+        | inr l ↦ subst (λ b. IsPast now.begun b d.cursor.mark.line) (sym l.0)
+            (past_end now.begun h.last.mark.line d.cursor.mark.line (omega (arith, here.0, l.1)) h.ends)
       ];
-      indented = indented_further opened.enclosures c d q kept there.0 allows.0 (end_stays c.cursor d.cursor a)
-          h.indented;
+      bare = h.bare;
+      agrees = h.agrees;
+      entry = allows.2 (fronts (flat q.places) opened.front) h.entry;
+      indented = indented_further opened.enclosures c d q kept there.0
+          (λ g. elim (allows.0 g) [ inl f ↦ inl f | inr l ↦ inr l.1 ]) (end_stays c.cursor d.cursor a) h.indented;
       right = allows.1 h.right;
       place = keeps_further (open_all (flat q.places) opened.collections).ends_json c d
           (apart_later c.cursor.mark c.cursor.rest d.cursor.mark d.cursor.rest a).index e n h.place;
@@ -200,14 +215,19 @@ is_property _ = false
 -- a block collection and an entry begin where a key may, and after properties no key may begin
 abbrev pub IsParted : Piece → Core → Core → Type 0
 IsParted t c d = (begins_block t.kind ≡ true → (c.key_allowed ≡ true) × (t.span.start.line ≡ c.cursor.mark.line))
-    × (is_property t.kind ≡ true → d.key_allowed ≡ false)
+    × (is_property t.kind ≡ true → d.key_allowed ≡ false) × KeepsFronts t c d
 
 -- a token that is neither
 abbrev pub is_unbound : Kind → Bool
 is_unbound kind = not (begins_block kind) && not (is_property kind)
 
-pub unbound_parted : (t : Piece) (c d : Core) → is_unbound t.kind ≡ true → IsParted t c d
-unbound_parted t c d e = grind arith
+not_bound : (kind : Kind) → is_unbound kind ≡ true → (begins_block kind ≡ false) × (is_property kind ≡ false)
+not_bound kind e = grind arith
+
+pub unbound_parted : (t : Piece) (c d : Core) → is_unbound t.kind ≡ true → KeepsFronts t c d → IsParted t c d
+unbound_parted t c d e fronts =
+    let r = not_bound t.kind e in
+    ((λ b. absurd (let no = r.0 in cc)), (λ p. absurd (let no = r.1 in cc)), fronts)
 
 pub same_calm : (kind : Kind) (span : Span) (all : Enclosures) → is_property kind ≡ false
     → calm (enclosures_behind kind span all) ≡ enclosures_behind kind span all
@@ -217,14 +237,19 @@ pub unbound_calm : (kind : Kind) (span : Span) (all : Enclosures) → is_unbound
     → calm (enclosures_behind kind span all) ≡ enclosures_behind kind span all
 unbound_calm kind span all e = grind arith
 
+node_begins_none : (kind : Kind) (span : Span) → IsTrue (is_of_flow_node kind span) → begins_block kind ≡ false
+node_begins_none kind span node = grind arith
+
 -- a node's token begins no block collection
 pub node_parted : (t : Piece) (c d : Core) → IsTrue (is_of_flow_node t.kind t.span)
-    → (is_property t.kind ≡ true → d.key_allowed ≡ false) → IsParted t c d
-node_parted t c d node closes = grind arith
+    → (is_property t.kind ≡ true → d.key_allowed ≡ false) → KeepsFronts t c d → IsParted t c d
+node_parted t c d node closes fronts =
+    ((λ b. absurd (let no = node_begins_none t.kind t.span node in cc)), closes, fronts)
 
-calmed_fits : (g : Begun) (kind : Kind) (span : Span) (fit : Bool) → (may_follow (calmed g) kind span && fit) ≡ true
-    → (begins_block kind ≡ true → IsPast g span.start.line) → (may_follow g kind span && fit) ≡ true
-calmed_fits g kind span fit h past = grind arith
+calmed_fits : (g : Begun) (block : Bool) (kind : Kind) (span : Span) (fit : Bool)
+    → (may_follow (calmed g) kind span && fit) ≡ true → (begins_block kind ≡ true → IsPast g block span.start.line)
+    → (may_follow g kind span && fit) ≡ true
+calmed_fits g block kind span fit h past = grind arith
 
 -- what encloses the token after does not rest on what has begun in front
 behind_begun : (kind : Kind) (span : Span) (g : Begun) (all : Enclosures)
@@ -236,9 +261,9 @@ begun_ends : (i : Surroundings) (kind : Kind) (span : Span) (s t : Cursor) → I
     → EndsOn (begun_by kind span) t.mark.line
 begun_ends i u0 span s t h = grind arith
 
-begun_past : (kind : Kind) (span : Span) (n : ℕ) (allowed : Bool) → (is_property kind ≡ true → allowed ≡ false)
-    → allowed ≡ true → IsPast (begun_by kind span) n
-begun_past kind span n allowed f e = grind arith
+begun_past : (kind : Kind) (span : Span) (block : Bool) (n : ℕ) (allowed : Bool)
+    → (is_property kind ≡ true → allowed ≡ false) → allowed ≡ true → IsPast (begun_by kind span) block n
+begun_past kind span block n allowed f e = grind arith
 
 -- where lines count up, the tokens stay right of their collections' columns
 abbrev pub PutsIndented : Setting → Core → Core → Queue → Piece → Type 0
@@ -269,6 +294,10 @@ taken_put within opened from c d q t here behind a known b o adjoins f parted ri
     let then : all_behind (flat (with_piece t q).places) opened.enclosures ≡ enclosures_behind t.kind t.span now =
     cc (flat_put t q, behind_append (flat q.places) (t ∷ []) opened.enclosures) in
     let begun = ap (λ (x : Enclosures). x.begun) then ∙ begun_behind t.kind t.span now in
+    let fit = parted.2 (fronts (flat q.places) opened.front) h.entry in
+    let front : fronts (flat (with_piece t q).places) opened.front
+    ≡ front_behind t.kind (fronts (flat q.places) opened.front) =
+    ap (λ l. fronts l opened.front) (flat_put t q) ∙ fronts_append (flat q.places) (t ∷ []) opened.front in
     let first = (tokens_later opened.collections (flat q.places) from h.last h.tokens).lines h.small in
     let last = (apart_later h.last.mark h.last.rest here.mark here.rest apart).lines first.1 in
     let own = (apart_later c.cursor.mark c.cursor.rest here.mark here.rest a).lines
@@ -285,7 +314,11 @@ taken_put within opened from c d q t here behind a known b o adjoins f parted ri
       encloses = cc (behind_begun t.kind t.span (calmed now.begun) now);
       small = h.small;
       ends = rw begun (begun_ends around t.kind t.span here behind is);
-      past = λ e. rw begun (begun_past t.kind t.span d.cursor.mark.line d.key_allowed parted.1 e);
+      past = λ e. rw begun (begun_past t.kind t.span (in_block d) d.cursor.mark.line d.key_allowed parted.1 e);
+      bare = subst (AreBare opened.front) same
+          (bare_append (flat q.places) (t ∷ []) opened.front h.bare (fit.0, tt));
+      agrees = h.agrees;
+      entry = subst (λ f. IsEntry f d) (sym front) fit.1;
       indented = puts (omega (arith, own.0, token.0, ends.0)) h.indented;
       right = right;
       place = rw open_then (keeps_put around c d t here behind open_now a is b refl h.stands.1 stands_then.1 adjoins
@@ -293,9 +326,10 @@ taken_put within opened from c d q t here behind a known b o adjoins f parted ri
     }
   where
     put_fits : (within now : Enclosures) (t : Piece) (c d : Core) → calm now ≡ within → FitsWithin within t
-        → IsParted t c d → (c.key_allowed ≡ true → IsPast now.begun c.cursor.mark.line) → FitsWithin now t
+        → IsParted t c d → (c.key_allowed ≡ true → IsPast now.begun (in_block c) c.cursor.mark.line)
+        → FitsWithin now t
     put_fits within now t c d e f parted past =
         let P : Enclosures → Type 0 = λ x. FitsWithin x t in
-        let Q : ℕ → Type 0 = λ m. IsPast now.begun m in
-        calmed_fits now.begun t.kind t.span (fits_at now.inner.enclosure now.inner.key now.columns t.kind t.span)
+        let Q : ℕ → Type 0 = λ m. IsPast now.begun (in_block c) m in
+        calmed_fits now.begun (in_block c) t.kind t.span (fits_at now.inner.enclosure now.inner.key now.columns t.kind t.span)
         (subst P (sym e) f) (λ b. let w = parted.0 b in subst Q (sym w.1) (past w.0))
