@@ -21,8 +21,9 @@ A method of `Search` is a definition: given a place, it yields each way in which
 they tell and the place behind them. `OPEN` names what is known that no definition asks: the search keeps to these
 conditions too, and an answer that is taken for the want of one is counted under its name. `-` stands for an answer that
 keeps to all: a class without a name, which wants a condition. A definition that comes to ask a condition takes its name
-out of `OPEN`. A list of a refused text that the grammar of YAML has without E1 to E8 is the right one; such lists are
-counted under `of YAML`.
+out of `OPEN`. `FAULTS` names what the parser refuses and no method looks for: an answer of a refused text that has it
+is counted under its name. A list of a refused text that the grammar of YAML has without E1 to E8 is the right one; such
+lists are counted under `of YAML`.
 
 A list that a fault ends may end anywhere, and differ from the parser's before. What matters most is counted: whole
 documents, from the text's start, that are given before a fault, and that the parser doesn't give. The definitions take
@@ -53,7 +54,7 @@ from recognizer import Grammar, printed as printed_forest
 
 TOP = os.path.dirname(os.path.dirname(os.path.abspath(__file__)))
 PROGRAM, DATA = TOP + "/crates/dump_events/out/dump_events", TOP + "/crates/test_cases/data/"
-ALPHABET = "a:-?#[]{},&!*|>\"' \n"
+ALPHABET = "a:-?#[]{},&!*|>\"'. \n"
 PIECES = ["a", "a ", "a: ", ": ", ":\n", "- ", "-\n", "? ", "\n ", "\n  ", "\n- ", "\n: ", "\n? ", "\na: ", "&a ",
           "&a\n", "!a ", "*a ", "|\n", ">\n", "--- ", "\n...\n", " #", "[a", "{a", ", ", "a\n", '"a"', "'a'", "%TAG ",
           "%a\n"]
@@ -62,7 +63,8 @@ TOKENS = [
     ["- ", "a", "\n", " "], ["? ", ": ", "a", "\n"], [": ", "a", "\n", " "], ["[", "]", "a", "\n"],
     ["[", ", ", ": ", "]"], ["{", "}", "a", ": "], ["[", "? ", ": ", "a"], ["|", "\n", " ", "a"],
     ["#", " ", "\n", "a"], ['"', "\n", " ", "a"], ["&a ", "a", "\n", ": "], ["- ", "? ", ": ", "\n"],
-    ["---", "\n", "a", " "], ["- ", "&a\n", ": ", "a"], ["!a ", "*a", "&a ", "\n"],
+    ["---", "\n", "a", " "], ["- ", "&a\n", ": ", "a"], ["!a ", "*a", "&a ", "\n"], ["- ", "[", "]", "\n"],
+    ["...", "\n", "a", " "], ["[", "! ", ": ", "]"],
 ]
 END, MARK, BLANK, BREAK, FLOW = "\0", "\ufeff", " \t", "\n\r", ",[]{}"
 WHITE, BREAKZ, BLANK_OR_BREAKZ = BLANK + BREAK, BREAK + END, BLANK + BREAK + END
@@ -103,8 +105,22 @@ OPEN = {
     "no indicator behind a dash": ("[-]", "+SEQ / =VAL :- / -SEQ", r"-[,\[\]{}]"),
     # E8: of YAML, unless the mapping is on the line of a colon
     "something behind a question mark": ("?", "+MAP / =VAL : / =VAL : / -MAP", r"\?\Z"),
+    # 8.1: right of its collection's column, as other nodes
+    "a block scalar's column": (":\n|\n a", "+MAP / =VAL : / =VAL |a\\n / -MAP", r"[\n\r][ \t]*[|>&!]"),
     # [183], [187]: it begins on a line of its own, or behind `-`, `?` or the colon of no key
     "the line of a block collection": ("a: -", "+MAP / =VAL :a / +SEQ / =VAL : / -SEQ / -MAP", r"\S[ \t]+[^\s#]"),
+}
+# What the parser refuses and no definition asks, by a name: a smallest text, an answer of it that is taken, and a
+# pattern that each such text has.
+FAULTS = {
+    # 6.1: no tab is left of where content begins
+    "a tab as indentation": (":\n\ta", "+MAP / =VAL : / =VAL :a / -MAP", r"(?m)^ *\t[ \t]*[^ \t\n\r]"),
+    # 7.4: the later lines of brackets are right of their collection's column
+    "a line in brackets": ("- [\n]", "+SEQ / +SEQ / -SEQ / -SEQ", r"(?s)[\[{].*[\n\r]"),
+    # 7.3: so are those of a quoted scalar, which may be at the column by the definitions
+    "a line in quotes": (': "\n"', '+MAP / =VAL : / =VAL "  / -MAP', r"(?s)[\"'].*[\n\r]"),
+    # 7.4.2: E3, and no bracket behind a colon that nothing ends like JSON before
+    "a colon beside brackets": ("[:[]]", "+SEQ / +MAP / =VAL : / +SEQ / -SEQ / -MAP / -SEQ", r":[\[{]"),
 }
 WAIVED = "key with a colon", "own braces"
 ASKED, REFUSED = 0, 1
@@ -281,7 +297,8 @@ class Search:
 
     def marker(self, place, text):
         is_marker = self.text.startswith(text, place.index) and self.is_document_indicator(place.index)
-        return [self.along(place, 3)] if place.col == 0 and is_marker else []
+        ends = text == "---" or self.ends_line_behind(place.index + 3)
+        return [self.along(place, 3)] if place.col == 0 and is_marker and ends else []
 
     def name_tokens(self, place, indicator):
         name = NAME.match(self.text, place.index + 1)
@@ -351,8 +368,8 @@ class Search:
                 yield (handle, suffix), self.along(place, end - place.index)
 
     # ## Spelling/Directive.antt
-    def ends_directive(self, index):
-        """Whether only a line's tail stands behind a directive (IsLineTail)."""
+    def ends_line_behind(self, index):
+        """Whether only a line's tail stands behind a directive or `...` (EndsLine)."""
         return bool(LINE_TAIL.match(self.text, index))
 
     def directive_texts(self, index):
@@ -377,7 +394,7 @@ class Search:
     def directive_tokens(self, place):
         if place.col == 0 and self.at(place.index) == "%":
             for handle, prefix, end in self.directive_texts(place.index):
-                if self.ends_directive(end):
+                if self.ends_line_behind(end):
                     yield (handle, prefix), self.along(place, end - place.index), 0
 
     # ## Spelling/LaterLines.antt. `least` there is `column` + 1 for plain scalars, and `column` for quoted ones.
@@ -578,10 +595,13 @@ class Search:
         content = self.apart(place)
         if (anchor, tag) != (None, None):
             yield from ((emitted, t, 0) for emitted, t in self.emit(place, Leaf("=VAL", anchor, tag, "plain", "")))
-        if not self.is_indented(content, context, column):
+        is_indented = self.is_indented(content, context, column)
+        left = self.unless("a block scalar's column", is_indented)
+        for style, value, t in self.scalar_tokens(content, context, column) if self.may(left) else []:
+            if is_indented or style in "|>":
+                yield from ((emitted, u, left) for emitted, u in self.emit(t, Leaf("=VAL", anchor, tag, style, value)))
+        if not is_indented:
             return
-        for style, value, t in self.scalar_tokens(content, context, column):
-            yield from ((emitted, u, 0) for emitted, u in self.emit(t, Leaf("=VAL", anchor, tag, style, value)))
         for name, collection in (("+SEQ", self.flow_sequence), ("+MAP", self.flow_mapping)):
             if name == "+MAP" or self.at(content.index) == "[":
                 for emitted, t in self.emit(content, Opening(name, anchor, tag)):
@@ -600,7 +620,7 @@ class Search:
 
     @way
     def flow_mapping(self, place, column):
-        """In braces (AreInPlace)."""
+        """In braces: a start without a text is a single pair's (AreInPlace, AreBare)."""
         lacks = self.unless("own braces", False)
         starts = [(t, 0) for t in self.stands(place, "{")]
         starts += [(t, lacks) for t in self.without_text(place) if self.may(lacks)]
@@ -630,7 +650,8 @@ class Search:
 
     @way
     def flow_entry(self, place, column):
-        """A node, or a mapping of a single pair. That has a start and an end without a text, but for a `?` in it."""
+        """A node, or a mapping of a single pair. That has a start and an end without a text, but for a `?` in it, and
+        no properties (AreBare)."""
         yield from self.node(place, IN_FLOW, column)
         here = self.apart(place)
         for emitted, t in self.emit(here, Opening("+MAP", None, None)):
@@ -990,7 +1011,8 @@ class Count:
         or several."""
         shown = map(printed_forest, Grammar(text, frozenset()).forests() if is_cut else ())
         left = others - {tuple((it or "").split("\n")[:-1]) for it in shown}
-        found = {"of YAML": others - left, "-": left & strict}
+        fault = next((name for name, (_, _, it) in FAULTS.items() if is_cut and re.search(it, text)), "-")
+        found = {"of YAML": others - left, fault: left & strict}
         for name in OPEN if left - strict else []:
             found[name] = (left - strict) & lines_of(Search(text, bare, [name]).answers())
         found["several"] = left.difference(*found.values())
@@ -1085,13 +1107,18 @@ def check_cases(words):
 
 
 def check_open(words):
-    """Whether each open condition is one: its text has its answer for the want of this alone."""
+    """Whether each open condition is one: its text has its answer for the want of this alone. What no method looks for
+    is found in its text too."""
     wrong = []
     for name, (text, answer, _) in OPEN.items():
         known = ("+STR", "+DOC", *answer.split(" / "), "-DOC", "-STR")
         has = [known in lines_of(Search(text, words.bare, waived).answers()) for waived in ((), (name,))]
         if has != [False, True]:
             wrong.append(f"{name}: {answer!r} is not an answer of {text!r} for the want of this alone")
+    for name, (text, answer, pattern) in FAULTS.items():
+        known = ("+STR", "+DOC", *answer.split(" / "), "-DOC", "-STR")
+        if not re.search(pattern, text) or known not in lines_of(Search(text, words.bare).answers()):
+            wrong.append(f"{name}: {answer!r} is not an answer of {text!r}")
     print(*wrong, sep="\n", end="\n" * bool(wrong))
     return bool(wrong)
 

@@ -115,6 +115,8 @@ RIGHT = [
     (":", "+MAP / =VAL : / =VAL : / -MAP"),
     ("- : a", "+SEQ / +MAP / =VAL : / =VAL :a / -MAP / -SEQ"),
     ("? a\n: b", "+MAP / =VAL :a / =VAL :b / -MAP"),
+    ("a\n... # c\n", "=VAL :a"),
+    ("[! : ]", "+SEQ / +MAP / =VAL <!> : / =VAL : / -MAP / -SEQ"),
 ]
 
 # A text that has such events only where prefixes of tags are kept for later documents.
@@ -199,6 +201,9 @@ WRONG = [
     ("[a\n:]", "+SEQ / +MAP / =VAL :a / =VAL : / -MAP / -SEQ"),
     ("[a:]", "+SEQ / =VAL :a / -SEQ"),
     ("&a x\n--- *a\n", "=VAL &1 :x / -DOC / +DOC --- / =ALI *1"),
+    ("... a", "=VAL :a"),
+    ("[! :]", "+SEQ / +MAP <!> / =VAL : / =VAL : / -MAP / -SEQ"),
+    ("[&a a: b]", "+SEQ / +MAP &1 / =VAL :a / =VAL :b / -MAP / -SEQ"),
 ]
 
 # A document that may come first, before a fault: another token is behind it.

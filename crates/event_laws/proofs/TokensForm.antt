@@ -53,9 +53,9 @@ token_form (tokens.Anchor name) at span s t i = (i.0, i.2)
 token_form (tokens.Tag front back) at span s t i = tag_of i.0 i.1 i.2 front back i.3 i.4 i.5
 token_form (tokens.Scalar k value) at span s t i = scalar_form k at value span s t i
 token_form (tokens.TagDirective handle prefix) at span s t i =
-    let d = i.4 in
+    let d = i.2 in
     let h = with_bytes d.0 handle d.3 d.2.5 in (h.0, h.1, (d.1, d.4))
-token_form (tokens.ReservedDirective name) at span s t i = let d = i.4 in (d.0, d.2)
+token_form (tokens.ReservedDirective name) at span s t i = let d = i.2 in (d.0, d.2)
 token_form _ at span s t i = tt
 
 -- no token comes after the end of the stream

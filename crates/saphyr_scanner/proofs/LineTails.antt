@@ -145,10 +145,15 @@ separation_tail m xs = by_test (blank_len Yes xs == 0) _ _ (Tail m xs) (λ _. em
 -- what a separation passes on its line
 pub record OnLine (s t : Cursor) : Type 0 where
   pub on_line : LiesOnLine s t.mark
+  pub behind : t.rest ≡ on_line.1
   pub apart : AreApart s t
 
 tail_on_line : (s : Cursor) (n : ℕ) → Tail s.mark s.rest n → OnLine s (pass_blanks n s)
-tail_on_line s n t = grind arith
+tail_on_line s n t = record {
+  on_line = (t.tail, t.behind, t.line, t.is, ap (along s.mark) (sym t.count));
+  behind = sym t.rest;
+  apart = subst (λ l. IsPassedOver s.mark s.rest (along s.mark n) l) t.rest t.apart;
+}
 
 pub separation_passes : (s : Cursor) → Given (λ (x : SkipTabs × Cursor). OnLine s x.1) (separation Yes s)
 unfolding separation behind_separation

@@ -7,6 +7,7 @@ pub mod Parts
 pub mod Later
 pub mod OnLine
 pub mod Indented
+pub mod Bare
 pub mod Held
 pub mod Keys
 pub mod OpenedKeys

@@ -278,3 +278,33 @@ AreInPlace all ps = AreEachInside may_stand all ps
 -- and is right of the column of its collection, if it is of a flow node
 abbrev pub AreIndented : Enclosures → List Piece → Type 0
 AreIndented all ps = AreEachInside is_indented all ps
+
+-- ## Single pairs and properties
+
+-- What came of an entry of brackets: nothing yet, properties alone, or more, as also where no entry is. (In braces no
+-- single pair begins.)
+pub data EntryFront : Type 0 where
+  EmptyFront : EntryFront
+  PropertyFront : EntryFront
+  OtherFront : EntryFront
+
+abbrev pub with_property : EntryFront → EntryFront
+with_property OtherFront = OtherFront
+with_property _ = PropertyFront
+
+abbrev pub front_behind : Kind → EntryFront → EntryFront
+front_behind tokens.FlowSequenceStart front = EmptyFront
+front_behind tokens.FlowEntry front = EmptyFront
+front_behind (tokens.Anchor name) front = with_property front
+front_behind (tokens.Tag handle suffix) front = with_property front
+front_behind _ front = OtherFront
+
+-- 7.4: A single pair has no properties: those that an entry begins with are its first node's, be that the pair's key.
+abbrev pub begins_bare : EntryFront → Kind → Span → Bool
+begins_bare PropertyFront tokens.FlowMappingStart span = has_text span
+begins_bare _ _ span = true
+
+-- no single pair has properties
+abbrev pub AreBare : EntryFront → List Piece → Type 0
+AreBare front [] = Unit {0}
+AreBare front (p ∷ ps) = IsTrue (begins_bare front p.kind p.span) × AreBare (front_behind p.kind front) ps

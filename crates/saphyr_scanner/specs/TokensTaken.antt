@@ -30,7 +30,7 @@ use Rattle.saphyr_scalar.specs.Spelling.Directive.{ReadDirective, version, tag_p
 use Rattle.saphyr_scanner.specs.Grammar.Tokens as tokens
 use Rattle.saphyr_scanner.specs.Grammar.Tokens.{Kind}
 use Rattle.saphyr_scanner.specs.Views.Tokens.{Piece, Remaining}
-use Rattle.saphyr_scanner.specs.TokensInPlace.{has_text, without_innermost, not_enclosed, AreInPlace, AreIndented}
+use Rattle.saphyr_scanner.specs.TokensInPlace.{has_text, without_innermost, not_enclosed, AreInPlace, AreIndented, OtherFront, AreBare}
 pub use Rattle.saphyr_scanner.specs.TokensInPlace.{least_column_in}
 
 -- ## Places (5.4)
@@ -132,6 +132,15 @@ pub record IsSpan (span : Span) (text : List ℕ) (s t : Cursor) : Type 0 where
 abbrev pub IsMarker : (List ℕ → Bool) → List ℕ → Span → Cursor → Cursor → Type 0
 IsMarker stands text span s t = (s.mark.col ≡ 0) × IsTrue (stands s.rest) × IsSpan span text s t
 
+-- only blanks, and after some a comment, are left of a line, which a break, NUL or the end ends
+abbrev pub EndsLine : List ℕ → Type 0
+EndsLine rest = (tail behind : List ℕ) × IsLineTail tail × (rest ≡ tail ++ behind)
+    × IsTrue (is_breakz (slice_index behind 0))
+
+-- 9.1.2: that of a document's end, which is all of its line but for a comment
+abbrev pub IsEndMarker : Span → Cursor → Cursor → Type 0
+IsEndMarker span s t = IsMarker is_document_end (codes "...") span s t × EndsLine t.rest
+
 -- 5.2: a byte order mark, at the start of a line
 pub record IsMark (span : Span) (s t : Cursor) : Type 0 where
   pub is : s.rest ≡ byte_order_mark ∷ t.rest
@@ -156,8 +165,7 @@ IsTagToken in_flow front back span s t =
 -- 6.8: a directive at the start of a line, on which nothing else is but a comment
 abbrev pub IsDirectiveToken : ReadDirective → Span → Cursor → Cursor → Type 0
 IsDirectiveToken d span s t =
-    (text tail behind : List ℕ) × (s.mark.col ≡ 0) × IsReadDirective d text × IsSpan span text s t
-    × IsLineTail tail × (t.rest ≡ tail ++ behind) × IsTrue (is_breakz (slice_index behind 0))
+    (text : List ℕ) × (s.mark.col ≡ 0) × IsReadDirective d text × IsSpan span text s t × EndsLine t.rest
 
 -- ## Indicators (5.3)
 
@@ -266,7 +274,7 @@ IsToken at (tokens.VersionDirective major minor) span s t = IsDirectiveToken (ve
 IsToken at (tokens.TagDirective handle prefix) span s t = IsDirectiveToken (tag_prefix handle prefix) span s t
 IsToken at (tokens.ReservedDirective name) span s t = IsDirectiveToken (reserved name) span s t
 IsToken at tokens.DocumentStart span s t = IsMarker is_document_start (codes "---") span s t
-IsToken at tokens.DocumentEnd span s t = IsMarker is_document_end (codes "...") span s t
+IsToken at tokens.DocumentEnd span s t = IsEndMarker span s t
 IsToken at tokens.ByteOrderMark span s t = IsMark span s t
 IsToken at tokens.BlockSequenceStart span s t = IsBlockStart at.indent span s t
 IsToken at tokens.BlockMappingStart span s t = IsBlockStart at.indent span s t
@@ -361,4 +369,4 @@ IsEndOf text (Some e) u = IsPlaceOf text e.mark
 abbrev pub AreTakenFrom : List ℕ → Remaining → Type 0
 AreTakenFrom text r =
     (end : Cursor) × AreTokens no_collections r.pieces (start_cursor text) end × AreInPlace not_enclosed r.pieces
-    × AreIndented not_enclosed r.pieces × IsEndOf text r.refusal end
+    × AreIndented not_enclosed r.pieces × AreBare OtherFront r.pieces × IsEndOf text r.refusal end

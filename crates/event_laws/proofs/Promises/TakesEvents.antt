@@ -35,7 +35,7 @@ ended P r (inr h) at = rw h.4 (complete P r.refusal h.0 h.1 h.2 h.3)
 pub takes : (text : List ℕ) (r : Remaining) → AreTakenFrom text r → AreAtPlaces text r.pieces → EndsWithStream r
     → length r.pieces < 2 ^ 64 → TakesEvents text (at_start r)
 takes text r t a e l keep =
-    let ends : AreEnded (IsPlaceOf text) r.refusal r.pieces = ended (IsPlaceOf text) r e (λ f is. rw is at t.4) in
+    let ends : AreEnded (IsPlaceOf text) r.refusal r.pieces = ended (IsPlaceOf text) r e (λ f is. rw is at t.5) in
     let formed = tokens_form (IsPlaceOf text) r.refusal no_collections r.pieces (scalar.start_cursor text) t.0 t.1
     (inr ends) in
     let begun = begins r keep formed l in (

@@ -4,7 +4,7 @@ use Rattle.saphyr_scanner.specs.Grammar.Tokens as tokens
 use Rattle.saphyr_scanner.specs.Steps.Gap.{spaces_at}
 use Rattle.saphyr_scanner.specs.Steps.Queue.{empty_piece}
 use Rattle.saphyr_scanner.specs.Steps.Core.{Core, at_mark, up_to_here, in_block, forget_key, remove_key, is_further, enter_block, with_context, completed_step}
-use Rattle.saphyr_scanner.specs.Steps.Level.{Level, is_block, behind_question}
+use Rattle.saphyr_scanner.specs.Steps.Level.{Level, is_block, begins_pair, behind_question}
 use Rattle.saphyr_scanner.specs.Steps.Passing.{separate, pass_on, with_cursor}
 use Rattle.saphyr_scanner.specs.Steps.Block as block
 use Rattle.saphyr_scanner.specs.TokensTaken as taken
@@ -16,6 +16,7 @@ use Rattle.saphyr_scanner.proofs.Effects.Puts.{passes, indicated, freed, quiet_w
 use Rattle.saphyr_scanner.proofs.Effects.Walked.{Premises, Walked, walked_then, at_most, Doing, at_reach, separate_walked}
 use Rattle.saphyr_scanner.proofs.LineTails.{OnLine}
 use Rattle.saphyr_scanner.proofs.Reached.{apart_reached}
+use Rattle.saphyr_scanner.proofs.Taken.Bare.{plain_fronts, entry_closed, question_no_pair, block_no_pair}
 use Rattle.saphyr_scanner.proofs.Taken.Keys.{IsDeep}
 use Rattle.saphyr_scanner.proofs.Taken.Cores.{by_bool, forget_requires}
 use Rattle.saphyr_scanner.proofs.Taken.SavedKeys.{further_block, further_right}
@@ -74,13 +75,18 @@ dash g c d small first second b allowed column s free o follows =
     let u = d.cursor in
     let later = apart_later (pass 1 c.cursor).mark (pass 1 c.cursor).rest u.mark u.rest o.apart in
     and_then (λ n. n) (loud (with_begun g (enclosures_of c)) 1 r (empty_piece u.mark tokens.BlockEntry) u (λ x. refl)
-    (rw (follows (empty_piece u.mark tokens.BlockEntry).span) refl) (λ i. absurd (cc)) refl refl
-    (λ a. ((λ _. (allowed, ap (λ (m : Marker). m.line) o.on_line.4, small a)), λ _ _. tt)) b refl
+    (rw (follows (empty_piece u.mark tokens.BlockEntry).span) refl) (λ i. absurd (cc)) refl refl (λ a. (
+      (λ _. (allowed, ap (λ (m : Marker). m.line) o.on_line.4, small a)),
+      (λ _ _. tt),
+      plain_fronts (empty_piece u.mark tokens.BlockEntry) r (freed (with_cursor u r)) refl,
+    )) b refl
     (indicated 45 r u (empty_piece u.mark tokens.BlockEntry) (record { some = refl; unbroken = refl; is = first })
     o.apart (omega (arith, later.index)) (omega arith) (omega arith)
     (λ t _ _. (t, ap is_blank_or_breakz (second_is c.cursor.rest) ∙ second, o.on_line, refl, column))))
     (further (freed (with_cursor u r)) d s (taken.nothing u.mark u.rest)
-    (λ _. allows_right (freed (with_cursor u r)) d (λ _. inl refl) (λ _. free)))
+    (λ _. allows_right (freed (with_cursor u r)) d (λ _. refl) (λ _. free)
+    (entry_closed (freed (with_cursor u r)) d
+    (block_no_pair d.level.context (ap (λ (l : Level). is_block l.context) s.0 ∙ b)))))
 
 -- where no block collection begins the innermost is at this column
 at_column : (i column : ℕ) (b : Bool) → b ≡ true → (b && nat_le i column) ≡ false → i ≤ column + 1 → i ≡ column + 1
@@ -105,8 +111,8 @@ next_entry_does c e allowed deep first second =
     walked_then (Premises c) (Behind r) (Doing None c) s (block.pass_dash r >>= remove_key) _ (dash_walked c s r a)
     (λ d g. at_most (omega arith) (and_then (λ n. n)
     (block_begins (enclosure_of c.level.context) c _ tokens.BlockSequenceStart place.BlockSequence
-    (λ i. absurd (cc)) (λ p. refl) refl allowed (λ a. a.2) (λ f. absurd (let no = g.2 in cc)) (λ f. absurd (cc))
-    (λ p. refl)
+    (λ i. absurd (cc)) (λ p. refl) refl refl allowed (λ a. a.2) (λ f. absurd (let no = g.2 in cc))
+    (λ f. absurd (cc)) (λ p. refl)
     (λ i p u t h. h) (λ x y. refl) (λ p all. refl) (λ p columns. refl) e
     (further_right s.mark.col c f) (ap taken.begins_text first))
     (dash place.BlockSequence (enter_block s.mark.col c) (record d { key_allowed = true }) (λ a. a.2) first second e
@@ -115,7 +121,9 @@ next_entry_does c e allowed deep first second =
     (block.pass_dash (pass_on 1 c) >>= remove_key) _ (dash_walked c s (pass_on 1 c) a)
     (λ d g. at_most (omega arith) (and_then (λ n. n)
     (lesser (enclosures_of c) c (forget_key c) (record { block = refl; key = inr refl }) refl (λ n. n)
-    (taken.nothing s.mark s.rest) (λ _. ((λ a. inl a), λ r. r)) (forget_requires c g.2))
+    (taken.nothing s.mark s.rest)
+    (λ _. ((λ a. inl a), (λ r. r), entry_closed c (forget_key c) (block_no_pair c.level.context e)))
+    (forget_requires c g.2))
     (dash place.Nothing c (record d { key_allowed = true }) (λ a. a.2) first second e allowed
     (at_column c.indent s.mark.col (in_block c) e f (deep e)) g.0 refl g.1 (λ p. refl)))))
 
@@ -172,8 +180,9 @@ question g x c d turned none first second column s a allowed follows =
     let some = has_some t.span (omega (arith, later.index)) in
     let behind : enclosures_of c ≡ enclosures_behind tokens.Key t.span within =
     cc (question_encloses x (outside_of c), marked (has_text t.span) some) in
-    and_then (λ n. n) (encloses behind (quiet_within within 1 c t u refl (λ y. refl) (λ y. refl) refl none
-    (λ _. rw (follows t.span, some) refl) (λ i. absurd (cc)) refl
+    and_then (λ n. n) (encloses behind (quiet_within within 1 c t u c.level true refl none refl (λ y. refl)
+    (λ y. refl) refl none (λ _. rw (follows t.span, some) refl) (λ i. absurd (cc)) refl
+    (plain_fronts t c (freed (with_cursor u c)) refl) (λ _ _ f. absurd (cc))
     (indicated 63 c u t (record { some = refl; unbroken = refl; is = first }) a (omega arith)
     (omega (arith, later.index)) (omega arith)
     (λ k _ _. inl (
@@ -184,7 +193,9 @@ question g x c d turned none first second column s a allowed follows =
       λ f. column (not-false (in_block c) f),
     )))))
     (further (freed (with_cursor u c)) d s (taken.nothing u.mark u.rest)
-    (λ _. allows_right (freed (with_cursor u c)) d (λ _. inl refl) (λ e. allowed ∙ e)))
+    (λ _. allows_right (freed (with_cursor u c)) d (λ _. refl) (λ e. allowed ∙ e)
+    (entry_closed (freed (with_cursor u c)) d (ap begins_pair (ap (λ (l : Level). l.context) s.0 ∙ turned)
+    ∙ question_no_pair x))))
   where
     marked : (b : Bool) → b ≡ true → (if b then turned_to (place.enclosure_behind_question (enclosure_of x))
         (free (enclosure_of x) (outside_of c)) else awaiting_colon c.cursor.mark
@@ -216,15 +227,20 @@ key_does c deep first second =
     walked_then (Premises c) (Asked r) (Doing None c) s _ _ (question_walked (Premises c) r a)
     (λ d g. at_most (omega arith) (and_then (λ n. n)
     (block_begins (enclosure_of c.level.context) c _ tokens.BlockMappingStart place.BlockMapping
-    (λ i. absurd (cc)) (λ p. refl) refl (allowed_in (in_block c) c.key_allowed w (further_block s.mark.col c f))
-    (λ a. a.2) (λ yes. absurd (let no = same_free (in_block c) (in_block r) c.required (question_block c.level.context) g.3 in
+    (λ i. absurd (cc)) (λ p. refl) refl refl (allowed_in (in_block c) c.key_allowed w (further_block s.mark.col c f))
+    (λ a. a.2)
+    (λ yes. absurd (let no = same_free (in_block c) (in_block r) c.required (question_block c.level.context) g.3 in
     let b = further_block s.mark.col c f in cc)) (λ yes. absurd (let b = further_block s.mark.col c f in cc))
     (λ p. refl) (λ i p u t h. h) (λ j y. refl) (λ p all. refl) (λ p columns. refl)
     (further_block s.mark.col c f) (further_right s.mark.col c f) (ap taken.begins_text first)) (and_then (λ n. n)
     (lesser (with_begun place.BlockMapping (enclosures_of (enter_block s.mark.col c)))
     (forget_key (enter_block s.mark.col c)) (forget_key r)
     (record { block = question_block c.level.context; key = inr refl }) refl (λ n. n) (taken.nothing s.mark s.rest)
-    (λ _. ((λ a. inl a), λ h b. h (sym (question_block c.level.context) ∙ b)))
+    (λ _. (
+      (λ a. inl a),
+      (λ h b. h (sym (question_block c.level.context) ∙ b)),
+      entry_closed _ (forget_key r) (question_no_pair c.level.context),
+    ))
     (record { required = rw (question_block c.level.context) refl; key = λ _ _. refl }))
     (question place.BlockMapping c.level.context (forget_key r) d refl refl first second (λ _. refl) g.0 g.1 g.2
     (λ p. refl))))))
@@ -232,7 +248,12 @@ key_does c deep first second =
     walked_then (Premises c) (Asked r) (Doing None c) s _ _ (question_walked (Premises c) r a)
     (λ d g. at_most (omega arith) (and_then (λ n. n)
     (lesser (enclosures_of c) c (forget_key r) (record { block = question_block c.level.context; key = inr refl }) refl
-    (λ n. n) (taken.nothing s.mark s.rest) (λ _. ((λ a. inl a), λ h b. h (sym (question_block c.level.context) ∙ b)))
+    (λ n. n) (taken.nothing s.mark s.rest)
+    (λ _. (
+      (λ a. inl a),
+      (λ h b. h (sym (question_block c.level.context) ∙ b)),
+      entry_closed c (forget_key r) (question_no_pair c.level.context),
+    ))
     (record {
       required = (forget_requires r g.3).required;
       key = λ b. (forget_requires r g.3).key (question_block c.level.context ∙ b);

@@ -1,5 +1,5 @@
 -- What each step of documents does: markers, byte order marks and directives.
-use Rattle.saphyr_scanner.proofs.Common.{◌≡◌, ℕ, ◌+◌, ◌<◌, Bool, true, false, List, [], ◌∷◌, ◌++◌, length, drop, None, Result, Ok, Err, refl, sym, ap, ◌∙◌, arith, subst, inl, inr, ◌&&◌, ◌||◌, ◌==◌, slice_index, not, nat_lt, codes, is_bom, is_break, is_breakz, is_blank_or_breakz, byte_order_mark, is_document_end, next_3_are, SkipTabs, Marker, Span, Refusal, Cursor, ◌>>=◌, along, pass, pass_break, ReadDirective, mid_line, along_more, cut_at, by_test, or_false_left, breakz_no_non_break, Given, eqb-true, and_parts, nat_tests, percent_sign}
+use Rattle.saphyr_scanner.proofs.Common.{◌≡◌, ℕ, ◌+◌, ◌<◌, Bool, true, false, List, [], ◌∷◌, ◌++◌, length, drop, None, Result, Ok, Err, refl, sym, ap, ◌∙◌, arith, subst, inl, inr, ◌&&◌, ◌||◌, ◌==◌, slice_index, not, nat_lt, codes, is_bom, is_break, is_breakz, is_blank_or_breakz, byte_order_mark, is_document_start, is_document_end, next_3_are, SkipTabs, Marker, Span, Refusal, Cursor, ◌>>=◌, along, pass, pass_break, ReadDirective, mid_line, along_more, cut_at, by_test, or_false_left, breakz_no_non_break, Given, eqb-true, and_parts, nat_tests, percent_sign}
 use Rattle.saphyr_scalar.specs.Steps.Directive as directives
 use Rattle.saphyr_scanner.specs.Grammar.Tokens as tokens
 use Rattle.saphyr_scanner.specs.Grammar.Tokens.{Kind}
@@ -10,12 +10,12 @@ use Rattle.saphyr_scanner.specs.Steps.Unrolling.{unroll}
 use Rattle.saphyr_scanner.specs.Steps.Document as document
 use Rattle.saphyr_scanner.specs.TokensInPlace.{is_of_flow_node}
 use Rattle.saphyr_scanner.specs.TokensTaken as taken
-use Rattle.saphyr_scanner.specs.TokensTaken.{AreApart, IsReached, IsToken, IsContentEnd}
+use Rattle.saphyr_scanner.specs.TokensTaken.{AreApart, IsReached, IsToken, IsContentEnd, EndsLine}
 use Rattle.saphyr_scanner.proofs.Added.Queue.{IsNoEnd}
 use Rattle.saphyr_scanner.proofs.Blocks.{unrolled_cursor, unrolled_comment}
 use Rattle.saphyr_scanner.proofs.Counted.{stays, text_passed}
-use Rattle.saphyr_scanner.proofs.Effects.Moves.{Does, and_then, NoComment, Same, still, further}
-use Rattle.saphyr_scanner.proofs.Effects.Puts.{Reading, freed, quiet}
+use Rattle.saphyr_scanner.proofs.Effects.Moves.{Does, and_then, NoComment, Same, right_before, still, further}
+use Rattle.saphyr_scanner.proofs.Effects.Puts.{Reading, quiet}
 use Rattle.saphyr_scanner.proofs.Effects.Walked.{Premises, Walked, walked_then, at_most, resting, unsaved_step, at_reach}
 use Rattle.saphyr_scanner.proofs.Effects.Walked.{at_inside, read_walked, separate_walked}
 use Rattle.saphyr_scanner.proofs.Effects.Readers.{TextLaws}
@@ -23,7 +23,8 @@ use Rattle.saphyr_scanner.proofs.Effects.States.{FetchesTokens, advances_advance
 use Rattle.saphyr_scanner.proofs.Effects.Steps.{begins_none, begins_forgotten}
 use Rattle.saphyr_scanner.proofs.LineTails.{OnLine, tail_apart}
 use Rattle.saphyr_scanner.proofs.Reached.{along_reached, apart_reached}
-use Rattle.saphyr_scanner.proofs.Taken.Documents.{HoldsState, unrolled_indent, forgotten_unrolled, three_at, Marking, end_marking, break_apart, directive_is_token, directive_keeps, quiet_directive, no_node_directive, unbound_directive}
+use Rattle.saphyr_scanner.proofs.Taken.Documents.{HoldsState, unrolled_indent, forgotten_unrolled, three_at, Marking, start_marking, end_marking, break_apart, directive_is_token, directive_keeps, quiet_directive, no_node_directive, unbound_directive, plain_directive}
+use Rattle.saphyr_scanner.proofs.Taken.Bare.{is_plain, entry_same}
 use Rattle.saphyr_scanner.proofs.Taken.Cores.{surroundings}
 use Rattle.saphyr_scanner.proofs.Taken.Neutral.{Neutral, neutral}
 use Rattle.saphyr_scanner.proofs.Taken.Held.{Setting, is_unbound}
@@ -85,23 +86,27 @@ spelled : {A : Type 0} (c d : Core) → c.level.key ≡ None → (kind : Kind) (
     → d.cursor.mark.index ≡ c.cursor.mark.index + length text → 0 < length text → is_quiet kind ≡ true
     → ((span : Span) → Neutral (record { span = span; kind = kind }))
     → ((span : Span) → is_of_flow_node kind span ≡ false) → IsNoEnd kind
-    → ((span : Span) → is_unbound kind span ≡ true)
+    → ((span : Span) → is_unbound kind span ≡ true) → is_plain kind ≡ true
     → Same c d → IsRight d → ((b : Bool)
     → IsToken (surroundings b c) kind (record { start = c.cursor.mark; end = d.cursor.mark }) c.cursor d.cursor)
     → Does A None 1 5 c d (up_to_here c.cursor.mark kind d ∷ [])
-spelled c d none kind text is i some q b node e unbound s right token =
+spelled c d none kind text is i some q b node e unbound plain s right token =
     let u = d.cursor in
     let a = text_passed c.cursor u text is i in
     at_most (omega arith) (and_then (λ n. n)
-    (quiet 1 c (record { span = record { start = c.cursor.mark; end = u.mark }; kind = kind }) u q
+    (quiet 1 c (record { span = record { start = c.cursor.mark; end = u.mark }; kind = kind }) u d.key_allowed q
     (b (record { start = c.cursor.mark; end = u.mark })) (node (record { start = c.cursor.mark; end = u.mark })) none e
-    (unbound (record { start = c.cursor.mark; end = u.mark }))
+    (unbound (record { start = c.cursor.mark; end = u.mark })) plain (λ _. right_before c d u s refl right)
     (record {
       less = λ _. omega (arith, a.counted, i, some);
       span = λ _. record { ahead = a; begins = omega arith; inside = a.later; ends = omega arith };
       token = λ _. (u, (λ b _. token b), taken.nothing u.mark u.rest);
     }))
-    (still (freed (with_cursor u c)) d s refl (λ _. ((λ _. inl refl), λ _. right))))
+    (still (record c { cursor = u; key_allowed = d.key_allowed }) d s refl (λ _. (
+      (λ a. inl a),
+      (λ _. right),
+      entry_same (record c { cursor = u; key_allowed = d.key_allowed }) d s.0 (λ a. a) (taken.nothing u.mark u.rest),
+    ))))
 
 -- after blanks and a comment the text goes on as far right, or there is no node still
 tail_right : (c d : Core) → Same c d → OnLine c.cursor d.cursor → d.key_allowed ≡ c.key_allowed → IsRight c → IsRight d
@@ -109,13 +114,17 @@ tail_right c d s o allowed h b f small = grind (arith, stays_no_node)
 
 -- ## Markers
 
-pub marker_walked : (stands : List ℕ → Bool) (text : List ℕ) (kind : Kind) → Marking stands text kind → IsNoEnd kind
-    → (s : State) → s.core.cursor.mark.col ≡ 0 → stands s.core.cursor.rest ≡ true
-    → Walked (Premises s.core) (λ (t : State). Documented s t × (t.core.cursor ≡ pass 3 s.core.cursor)) s.core.cursor
-    (document.state_behind_marker kind s)
+-- from s to t a marker was passed, whose token is put if what comes after it allows that
+abbrev Marked : (List ℕ → Type 0) → State → State → Type 0
+Marked After s t = (After t.core.cursor.rest → Documented s t) × (t.core.cursor ≡ pass 3 s.core.cursor)
+
+pub marker_walked : (stands : List ℕ → Bool) (text : List ℕ) (kind : Kind) (After : List ℕ → Type 0)
+    → Marking stands text kind After → IsNoEnd kind → (s : State) → s.core.cursor.mark.col ≡ 0
+    → stands s.core.cursor.rest ≡ true
+    → Walked (Premises s.core) (Marked After s) s.core.cursor (document.state_behind_marker kind s)
 unfolding document.state_behind_marker
-marker_walked stands text kind marking no_end s col e = walked_then (Premises s.core) (Content s)
-    (λ (t : State). Documented s t × (t.core.cursor ≡ pass 3 s.core.cursor)) s.core.cursor (document.end_content s) _
+marker_walked stands text kind After marking no_end s col e = walked_then (Premises s.core) (Content s)
+    (Marked After s) s.core.cursor (document.end_content s) _
     (content_walked s (inr (col, inl (marking.ends s.core.cursor.rest e)))) (λ t c.
     let d : Core = document.pass_marker t.core in
     let stand : stands t.core.cursor.rest ≡ true = ap (λ (u : Cursor). stands u.rest) c.cursor ∙ e in
@@ -127,24 +136,24 @@ marker_walked stands text kind marking no_end s col e = walked_then (Premises s.
       stand,
       record { is = three; start = refl; end = refl; goes_on = goes },
     ) in (
-      documented s t (record { core = d; actions = up_to_here t.core.cursor.mark kind d ∷ [] }) c (λ n. n)
+      λ after. documented s t (record { core = d; actions = up_to_here t.core.cursor.mark kind d ∷ [] }) c (λ n. n)
           (spelled t.core d c.no_key kind text three (let k = marking.count in omega (arith, k))
           (let k = marking.count in omega (arith, k)) marking.quiet marking.keeps marking.no_node no_end marking.unbound
+          marking.plain
           (refl, refl, (λ n. n), refl) (λ i _ _. inl (let left = c.indent i in omega (arith, left)))
-          (λ b. marking.is (surroundings b t.core) _ t.core.cursor d.cursor token)),
+          (λ b. marking.is (surroundings b t.core) _ t.core.cursor d.cursor token after)),
       ap (pass 3) c.cursor,
     ))
 
-pub start_walked : (stands : List ℕ → Bool) (text : List ℕ) (kind : Kind) → Marking stands text kind → IsNoEnd kind
-    → (s : State) → s.core.cursor.mark.col ≡ 0 → stands s.core.cursor.rest ≡ true
-    → Walked (Premises s.core) (Documented s) s.core.cursor (document.state_behind_marker kind s)
-start_walked stands text kind marking no_end s col e =
-    weaker (document.state_behind_marker kind s) (marker_walked stands text kind marking no_end s col e)
+pub start_walked : (s : State) → s.core.cursor.mark.col ≡ 0 → is_document_start s.core.cursor.rest ≡ true
+    → Walked (Premises s.core) (Documented s) s.core.cursor (document.state_behind_marker tokens.DocumentStart s)
+start_walked s col e = weaker (document.state_behind_marker tokens.DocumentStart s)
+    (marker_walked is_document_start (codes "---") tokens.DocumentStart (λ _. Unit {0}) start_marking
+    (λ i. absurd (cc)) s col e)
   where
-    weaker : (r : Result State Refusal)
-        → Walked (Premises s.core) (λ (t : State). Documented s t × (t.core.cursor ≡ pass 3 s.core.cursor))
-        s.core.cursor r → Walked (Premises s.core) (Documented s) s.core.cursor r
-    weaker (Ok t) h = h.0
+    weaker : (r : Result State Refusal) → Walked (Premises s.core) (Marked (λ _. Unit {0}) s) s.core.cursor r
+        → Walked (Premises s.core) (Documented s) s.core.cursor r
+    weaker (Ok t) h = h.0 tt
     weaker (Err x) h = h
 
 three_reached : (x : ℕ) (s : Cursor) → (0 == x) ≡ false → is_break x ≡ false → next_3_are s.rest x x x ≡ true
@@ -162,9 +171,9 @@ pub end_marker_walked : (s : State) → s.core.cursor.mark.col ≡ 0 → is_docu
 unfolding document.state_behind_document_end document.end_line
 end_marker_walked s col e =
     let here = s.core.cursor in
-    walked_then (Premises s.core) (λ (t : State). Documented s t × (t.core.cursor ≡ pass 3 here)) (Documented s) here
+    walked_then (Premises s.core) (Marked EndsLine s) (Documented s) here
     (document.state_behind_marker tokens.DocumentEnd s) _
-    (marker_walked is_document_end (codes "...") tokens.DocumentEnd end_marking (λ i. absurd (cc)) s col e)
+    (marker_walked is_document_end (codes "...") tokens.DocumentEnd EndsLine end_marking (λ i. absurd (cc)) s col e)
     (λ t g. by t g.0 (there t g.1) (separate t.core) (separate_walked s.core here t.core (λ _. there t g.1)))
   where
     there : (t : State) → t.core.cursor ≡ pass 3 s.core.cursor → Reaches s.core.cursor t.core.cursor
@@ -174,19 +183,26 @@ end_marker_walked s col e =
         (and_parts (next_3_are s.core.cursor.rest 46 46 46) (is_blank_or_breakz (slice_index s.core.cursor.rest 3))
         e).0)
 
-    by : (t : State) → Documented s t → Reaches s.core.cursor t.core.cursor → (r : Result (SkipTabs × Core) Refusal)
+    by : (t : State) → (EndsLine t.core.cursor.rest → Documented s t) → Reaches s.core.cursor t.core.cursor
+        → (r : Result (SkipTabs × Core) Refusal)
         → Walked (Premises s.core)
         (λ (x : SkipTabs × Core). Same t.core x.1 × OnLine t.core.cursor x.1.cursor
         × (x.1.key_allowed ≡ t.core.key_allowed)) s.core.cursor r
         → Walked (Premises s.core) (Documented s) s.core.cursor (on_core_with r t >>= document.end_line)
-    by t d a (Ok x) h =
+    by t put a (Ok x) h =
         let c = t.core.cursor in
         let u = x.1.cursor in
         let later = apart_later c.mark c.rest u.mark u.rest h.1.apart in
         let f : Does (Unit {0}) None 0 0 t.core x.1 [] = further t.core x.1 h.0 h.1.apart
-        (λ _. ((λ a. inl (sym h.2 ∙ a)), tail_right t.core x.1 h.0 h.1 h.2)) in
+        (λ _. (
+          (λ a. inl (sym h.2 ∙ a)),
+          tail_right t.core x.1 h.0 h.1 h.2,
+          entry_same t.core x.1 h.0.0 (λ a. h.2 ∙ a) h.1.apart,
+        )) in
         by_test (is_breakz (slice_index u.rest 0)) _ _ (Walked (Premises s.core) (Documented s) s.core.cursor)
-        (λ _. record {
+        (λ e. let line = h.1.on_line in
+        let d = put (line.0, line.1, line.2, line.3, subst (λ l. is_breakz (slice_index l 0) ≡ true) h.1.behind e) in
+        record {
           advances = advances_advances 1 0 s t _ d.advances
               (on_core_fetches t (Ok x.1) (
                 record { later = later.index; counted = later.counted },
@@ -197,7 +213,7 @@ end_marker_walked s col e =
         })
         (λ _ _. at_reach s.core.cursor u (reaches_reaches s.core.cursor c u a (apart_reached c.mark c.rest u.mark u.rest
         h.1.apart)))
-    by t d a (Err x) h = h
+    by t put a (Err x) h = h
 
 -- ## Byte order marks
 
@@ -220,7 +236,7 @@ mark_walked s e =
     documented s t (record { core = d; actions = up_to_here here.mark tokens.ByteOrderMark d ∷ [] }) c (λ n. n)
     (subst P c.cursor (spelled t.core d c.no_key tokens.ByteOrderMark (byte_order_mark ∷ []) is (omega arith)
     (omega arith) refl
-    (λ p. neutral _ p refl) (λ p. refl) (λ i. absurd (cc)) (λ p. refl) (refl, refl, (λ n. n), refl)
+    (λ p. neutral _ p refl) (λ p. refl) (λ i. absurd (cc)) (λ p. refl) refl (refl, refl, (λ n. n), refl)
     (λ _ f. absurd (cc))
     (λ _. record { is = is; at_start = col; start = refl; end = refl; goes_on = refl })))))
   where
@@ -257,14 +273,10 @@ directive_reading c x col f e = record {
         mid,
         (λ b _. directive_is_token x.0 (surroundings b c) (record { start = s.mark; end = x.1 }) s mid (
           text,
-          tail,
-          behind,
           col,
           r.4,
           record { is = r.3; start = refl; end = r.7; goes_on = refl },
-          r.5,
-          refl,
-          r.6,
+          (tail, behind, r.5, refl, r.6),
         )),
         subst P (sym r.8) (apart_apart mid.mark mid.rest there.mark there.rest (pass_break there).mark
             (pass_break there).rest second (break_apart there)),
@@ -300,13 +312,13 @@ directive_walked s col f =
         let kind = document.directive_kind x.0 in
         documented s t (record { core = d; actions = from_to t.core.cursor.mark x.1 kind ∷ [] }) c (λ n. n)
         (at_most (omega arith) (and_then (λ n. n)
-        (quiet 1 t.core (record { span = record { start = t.core.cursor.mark; end = x.1 }; kind = kind }) x.2
+        (quiet 1 t.core (record { span = record { start = t.core.cursor.mark; end = x.1 }; kind = kind }) x.2 false
         (quiet_directive x.0) (directive_keeps x.0 (record { start = t.core.cursor.mark; end = x.1 }))
         (no_node_directive x.0 (record { start = t.core.cursor.mark; end = x.1 })) c.no_key
         (directive_is_no_end x.0) (unbound_directive x.0 (record { start = t.core.cursor.mark; end = x.1 }))
+        (plain_directive x.0) (λ _ i _ _. inl (let left = c.indent i in omega (arith, left)))
         (directive_reading t.core x col first e))
-        (still (freed (with_cursor x.2 t.core)) d (refl, refl, (λ n. n), refl) refl
-        (λ _. ((λ _. inl refl), λ _ i _ _. inl (let left = c.indent i in omega (arith, left)))))))
+        (still d d (refl, refl, (λ n. n), refl) refl (λ _. ((λ a. inl a), (λ h. h), λ front h. h)))))
     by t c (Err e) col first h = h
 
 -- ## What follows

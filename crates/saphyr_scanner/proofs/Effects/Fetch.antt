@@ -26,12 +26,11 @@ use Rattle.saphyr_scanner.proofs.Effects.Values.{value_does, flow_value_does}
 use Rattle.saphyr_scanner.proofs.Effects.Blocks.{block_entry_does, key_does}
 use Rattle.saphyr_scanner.proofs.Effects.Scalars.{plain_start, plain_does, block_does}
 use Rattle.saphyr_scanner.proofs.Effects.QuotedScalars.{quoted_does}
-use Rattle.saphyr_scanner.proofs.Effects.Properties.{an_alias, an_anchor, name_does, tag_does}
+use Rattle.saphyr_scanner.proofs.Effects.Properties.{an_alias, an_anchor, alias_keeps, anchor_keeps, name_does, tag_does}
 use Rattle.saphyr_scanner.proofs.Taken.Keys.{IsDeep}
 use Rattle.saphyr_scanner.proofs.Taken.Places.{at_here}
 use Rattle.saphyr_scanner.proofs.Effects.States.{FetchesTokens, advances_advances, on_core_fetches, after_step_fetches, same_index, unroll_advances}
 use Rattle.saphyr_scanner.proofs.Effects.Documents.{start_walked, end_marker_walked, mark_walked, directive_walked, documents_advance}
-use Rattle.saphyr_scanner.proofs.Taken.Documents.{start_marking}
 
 -- ## What begins at a place
 
@@ -82,8 +81,8 @@ step_does first second n c h f g deep =
             λ _. beside_parts second c g w.1,
           ));
       quoted = λ quote e. does _ (quoted_does quote n c (f ∙ e));
-      alias = λ e. does _ (name_does tokens.Alias 42 an_alias n c h (f ∙ e));
-      anchor = λ e. does _ (name_does tokens.Anchor 38 an_anchor n c h (f ∙ e));
+      alias = λ e. does _ (name_does tokens.Alias 42 an_alias alias_keeps n c h (f ∙ e));
+      anchor = λ e. does _ (name_does tokens.Anchor 38 an_anchor anchor_keeps n c h (f ∙ e));
       tag = λ e. does _ (tag_does n c (f ∙ e));
       literal = λ e b. block_does block_style.Literal n c b h (f ∙ e);
       folded = λ e b. block_does block_style.Folded n c b h (f ∙ e);
@@ -168,8 +167,7 @@ here_fetched s going =
     (eqb-true (slice_index t 0) 37 w.1))))
     (λ _. by_test ((s.core.cursor.mark.col == 0) && is_document_start t) _ _ P
     (λ e. let w = and_parts (s.core.cursor.mark.col == 0) (is_document_start t) e in
-    of_advances s _ going (documents_advance s _ (start_walked is_document_start (codes "---") tokens.DocumentStart
-    start_marking (λ i. absurd (cc)) s (eqb-true s.core.cursor.mark.col 0 w.0) w.1)))
+    of_advances s _ going (documents_advance s _ (start_walked s (eqb-true s.core.cursor.mark.col 0 w.0) w.1)))
     (λ _. by_test ((s.core.cursor.mark.col == 0) && is_document_end t) _ _ P
     (λ e. let w = and_parts (s.core.cursor.mark.col == 0) (is_document_end t) e in
     of_advances s _ going (documents_advance s _ (end_marker_walked s (eqb-true s.core.cursor.mark.col 0 w.0) w.1)))

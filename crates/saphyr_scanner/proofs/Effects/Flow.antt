@@ -1,5 +1,6 @@
 -- What each step of flow collections does.
-use Rattle.saphyr_scanner.proofs.Common.{◌≡◌, ℕ, ◌+◌, ◌-◌, ◌≤◌, ◌<◌, Bool, true, false, List, [], ◌∷◌, length, suc, ◌∙◌, Some, None, refl, sym, ap, arith, subst, inl, inr, IsTrue, ◌&&◌, ◌==◌, slice_index, nat_le, if◌then◌else◌, colon, comma, is_break, Marker, Span, Cursor, ◌>>=◌, pass, Context, Piece, by_test, lt-ltb}
+use Rattle.saphyr_scanner.proofs.Common.{◌≡◌, ℕ, ◌+◌, ◌-◌, ◌≤◌, ◌<◌, Bool, true, false, List, [], ◌∷◌, length, suc, ◌∙◌, Some, None, refl, sym, ap, arith, subst, inl, inr, IsTrue, ◌&&◌, ◌==◌, slice_index, nat_le, codes, if◌then◌else◌, colon, comma, is_break, Marker, Span, Cursor, ◌>>=◌, pass, Context, Piece, by_test, lt-ltb}
+use Rattle.saphyr_input.specs.Classes.{is_one_of}
 use Rattle.saphyr_scanner.specs.declared.engine.level.Context.TheVariants as context
 use Rattle.saphyr_scanner.specs.Grammar.Tokens as tokens
 use Rattle.saphyr_scanner.specs.Grammar.Tokens.{Kind}
@@ -21,6 +22,7 @@ use Rattle.saphyr_scanner.proofs.Effects.Walked.{separate_walked}
 use Rattle.saphyr_scanner.proofs.LineTails.{OnLine}
 use Rattle.saphyr_scanner.proofs.Taken.Cores.{by_bool, surroundings, forget_requires}
 use Rattle.saphyr_scanner.proofs.Taken.SavedKeys.{apart_same}
+use Rattle.saphyr_scanner.proofs.Taken.Bare.{BeginsOther, other_begins, entry_same, entry_other, KeepsFronts, is_plain, plain_fronts, entry_fronts, brace_fronts}
 use Rattle.saphyr_scanner.proofs.Taken.Indented.{other_than_colon}
 use Rattle.saphyr_scanner.proofs.Taken.Keys.{IsArrival}
 use Rattle.saphyr_scanner.proofs.Taken.Held.{begins_block, is_unbound, enclosure_of, outside_of, enclosures_of, Adjoins, FitsWithin}
@@ -34,6 +36,8 @@ use Rattle.saphyr_scanner.proofs.Taken.Places.{Reaches, at_here}
 pub record Bracket (x : ℕ) (kind : Kind) : Type 0 where
   pub some : (x == 0) ≡ false
   pub other : (x == colon) ≡ false
+  pub apart : is_one_of (codes ":&!") x ≡ false
+  pub begins : begins_text x ≡ true
   pub unbroken : is_break x ≡ false
   pub quiet : is_quiet kind ≡ true
   pub no_end : IsNoEnd kind
@@ -67,6 +71,7 @@ pub record Enters (kind : Kind) (x : Context) (span : Span) : Type 0 where
   pub of_node : IsTrue (is_of_flow_node kind span)
   pub unbound : is_unbound kind span ≡ true
   pub fits : (e : Enclosure) (columns : List ℕ) → IsTrue (fits e columns kind span)
+  pub fronts : (c d : Core) → d.key_allowed ≡ true → KeepsFronts (record { span = span; kind = kind }) c d
 
 abbrev pub EntersAll : Kind → Context → Type 0
 EntersAll kind x = (span : Span) → span.start.index < span.end.index → Enters kind x span
@@ -78,10 +83,18 @@ sequence_enters span l = record {
   of_node = refl;
   unbound = refl;
   fits = λ e columns. refl;
+  fronts = λ c d allowed. entry_fronts tokens.FlowSequenceStart span c d refl allowed;
 }
 
 pub mapping_enters : EntersAll tokens.FlowMappingStart context.FlowMapping
-mapping_enters span l = grind arith
+mapping_enters span l = let some = has_some span l in record {
+  encloses = λ all. rw some refl;
+  depth = λ d. rw some refl;
+  of_node = some;
+  unbound = refl;
+  fits = λ e columns. rw some refl;
+  fronts = λ c d _. brace_fronts span c d some;
+}
 
 -- what encloses the tokens after one that closes
 pub record Leaves (kind : Kind) (span : Span) : Type 0 where
@@ -90,6 +103,7 @@ pub record Leaves (kind : Kind) (span : Span) : Type 0 where
   pub depth : (d : ℕ) → deeper kind span (suc d) ≡ d
   pub ends_json : (b : Bool) → ends_json_behind kind span b ≡ true
   pub no_node : is_of_flow_node kind span ≡ false
+  pub plain : is_plain kind ≡ true
 
 abbrev pub LeavesAll : Kind → Type 0
 LeavesAll kind = (span : Span) → span.start.index < span.end.index → Leaves kind span
@@ -104,6 +118,7 @@ sequence_leaves span l = record {
   depth = λ d. omega arith;
   ends_json = λ b. refl;
   no_node = refl;
+  plain = refl;
 }
 
 pub mapping_leaves : LeavesAll tokens.FlowMappingEnd
@@ -113,6 +128,7 @@ mapping_leaves span l =
       depth = λ d. rw some (omega arith);
       ends_json = λ b. rw some refl;
       no_node = refl;
+      plain = refl;
     }
 
 -- a single pair may have ended before
@@ -146,27 +162,36 @@ mapping_may_close _ span l outside e = let some = has_some span l in rw some ref
 abbrev pub BeginsPiece : Kind → Type 0
 BeginsPiece kind = (span : Span) → span.start.index < span.end.index → Begins (record { span = span; kind = kind })
 
-bracket : {x : ℕ} {kind : Kind} → (x == 0) ≡ false → (x == colon) ≡ false → is_break x ≡ false → is_quiet kind ≡ true
-    → IsNoEnd kind → begins_block kind ≡ false
+bracket : {x : ℕ} {kind : Kind} → (x == 0) ≡ false → (x == colon) ≡ false → is_one_of (codes ":&!") x ≡ false
+    → begins_text x ≡ true → is_break x ≡ false → is_quiet kind ≡ true → IsNoEnd kind → begins_block kind ≡ false
     → ((i : Surroundings) (span : Span) (s t : Cursor) → IsFlowIndicator x span s t → IsToken i kind span s t)
     → Bracket x kind
-bracket a b c d e f g =
-    record { some = a; other = b; unbroken = c; quiet = d; no_end = e; other_kind = f; is = g }
+bracket a b h i c d e f g = record {
+  some = a;
+  other = b;
+  apart = h;
+  begins = i;
+  unbroken = c;
+  quiet = d;
+  no_end = e;
+  other_kind = f;
+  is = g;
+}
 
 pub open_sequence : Bracket 91 tokens.FlowSequenceStart
-open_sequence = bracket refl refl refl refl (λ i. absurd (cc)) refl (λ i span s t h. h)
+open_sequence = bracket refl refl refl refl refl refl (λ i. absurd (cc)) refl (λ i span s t h. h)
 
 pub open_mapping : Bracket 123 tokens.FlowMappingStart
-open_mapping = bracket refl refl refl refl (λ i. absurd (cc)) refl (λ i span s t h. inl h)
+open_mapping = bracket refl refl refl refl refl refl (λ i. absurd (cc)) refl (λ i span s t h. inl h)
 
 pub close_sequence : Bracket 93 tokens.FlowSequenceEnd
-close_sequence = bracket refl refl refl refl (λ i. absurd (cc)) refl (λ i span s t h. h)
+close_sequence = bracket refl refl refl refl refl refl (λ i. absurd (cc)) refl (λ i span s t h. h)
 
 pub close_mapping : Bracket 125 tokens.FlowMappingEnd
-close_mapping = bracket refl refl refl refl (λ i. absurd (cc)) refl (λ i span s t h. inl h)
+close_mapping = bracket refl refl refl refl refl refl (λ i. absurd (cc)) refl (λ i span s t h. inl h)
 
 comma_is_bracket : Bracket 44 tokens.FlowEntry
-comma_is_bracket = bracket refl refl refl refl (λ i. absurd (cc)) refl (λ i span s t h. h)
+comma_is_bracket = bracket refl refl refl refl refl refl (λ i. absurd (cc)) refl (λ i span s t h. h)
 
 pub sequence_starts : BeginsPiece tokens.FlowSequenceStart
 sequence_starts span l i s u h = (h.1, ap (λ t. begins_text (slice_index t 0)) h.0.0)
@@ -210,11 +235,13 @@ start_does i kind x b starts counts enters flows n c f =
     let some : c.cursor.mark.index < u.mark.index = omega (arith, later.index) in
     let into = enters span some in
     and_then (λ n. n) (entered n x c behind (bracket_piece kind c u) flows s refl (λ n. n) b.quiet (counts span some)
-    into.encloses into.depth into.of_node into.fits b.no_end into.unbound (starts span some) refl
+    into.encloses into.depth into.of_node into.fits b.no_end into.unbound
+    (into.fronts c (flow.enter x behind) refl) (starts span some) refl
     (other_than_colon i c.cursor.rest b.other f) (bracket_read i kind c u b f g.1))
     (further (flow.enter x behind) e.1 g.0 (taken.nothing u.mark u.rest)
-    (λ _. allows_right (flow.enter x behind) e.1 (λ _. inl refl)
-    (λ no. absurd (let same = ap (λ (l : Level). is_block l.context) g.0.0 in cc)))))))
+    (λ _. allows_right (flow.enter x behind) e.1 (λ _. refl)
+    (λ no. absurd (let same = ap (λ (l : Level). is_block l.context) g.0.0 in cc))
+    (entry_same (flow.enter x behind) e.1 g.0.0 (λ a. g.2 ∙ a) (taken.nothing u.mark u.rest)))))))
 
 -- ## The end of a collection or an entry
 
@@ -244,6 +271,7 @@ bracket_walked : (x : ℕ) (kind : Kind) → Bracket x kind → (c d : Core) (en
     (flow.behind_pair ends c.cursor.mark (up_to_here c.cursor.mark kind e.1))
     (f e.1))
 bracket_walked x kind bracket c d ends first free there silent may f alike put =
+    let other = other_begins x c.cursor first bracket.begins bracket.apart in
     let on : (pass_on 1 d).cursor ≡ pass 1 c.cursor = ap (pass 1) there in
     let R : Cursor → Type 0 = λ v. Reaches c.cursor v in
     let b : Core = with_key None c in
@@ -262,35 +290,37 @@ bracket_walked x kind bracket c d ends first free there silent may f alike put =
     (λ _. let allowed = k.allows_behind ∙ g.2 ∙ sym k.allows in (
       (λ a. inl (sym allowed ∙ a)),
       same_right (f r) (f e.1) k.same (k.behind ∙ sym k.before) allowed,
+      entry_same (f r) (f e.1) k.same.0 (λ a. allowed ∙ a)
+          (apart_same (f r).cursor (f e.1).cursor (k.behind ∙ sym k.before)),
     ))) in
     let forgets : Does (IsArrival c) None 0 0 c b [] =
     lesser (enclosures_of c) c b (record { block = refl; key = inr refl }) refl (λ n. n)
-    (taken.nothing c.cursor.mark c.cursor.rest) (λ _. ((λ a. inl a), λ h. h))
+    (taken.nothing c.cursor.mark c.cursor.rest) (λ _. ((λ a. inl a), (λ h. h), entry_other c b other))
     (record { required = refl; key = λ e r. absurd (cc) }) in
     by_bool ends
     (λ b2. EndsPair b2 c.level.context → DoesWithin (IsArrival c) (ended b2 (enclosures_of c)) (enclosures_of (f e.1))
     None 1 1 b (f e.1) (up_to_here c.cursor.mark kind e.1 ∷ []) → Does (IsArrival c) None 1 5 c (f e.1)
     (flow.behind_pair b2 c.cursor.mark (up_to_here c.cursor.mark kind e.1)))
-    (λ _ pair last. at_most (omega arith) (and_then (λ n. n) forgets (and_then (λ n. n) (pair_end c (pair refl)) last)))
+    (λ _ pair last. at_most (omega arith) (and_then (λ n. n) forgets (and_then (λ n. n) (pair_end c (pair refl) other) last)))
     (λ _ _ last. at_most (omega arith) (and_then (λ n. n) forgets last)) may token)
   where
     pair_flows : (x : Context) → IsTrue (may_end_pair (enclosure_of x)) → is_block x ≡ false
     pair_flows x e = grind arith
 
-    pair_end : (c : Core) → IsTrue (may_end_pair (enclosure_of c.level.context))
+    pair_end : (c : Core) → IsTrue (may_end_pair (enclosure_of c.level.context)) → BeginsOther c.cursor
         → DoesWithin (IsArrival c) (enclosures_of c) (place.turned_to place.Sequence (enclosures_of c)) None 0 1
         (with_key None c) (with_key None c) (at_mark c.cursor.mark tokens.FlowMappingEnd ∷ [])
-    pair_end c may =
+    pair_end c may other =
         let b : Core = with_key None c in
         let t = empty_piece c.cursor.mark tokens.FlowMappingEnd in
         let no = no_text c.cursor.mark.index in
-        and_then (λ n. n) (encloses (rw no refl) (quiet_within (enclosures_of c) 0 b t c.cursor refl
-        (λ y. ap (λ (z : Collections). z.brackets) (pair_ends c.cursor.mark y)) (λ d. rw no refl) refl refl
-        (λ _. rw no may) (λ i. absurd (cc)) (rw no refl)
+        and_then (λ n. n) (encloses (rw no refl) (quiet_within (enclosures_of c) 0 b t c.cursor b.level true refl
+        refl refl (λ y. ap (λ (z : Collections). z.brackets) (pair_ends c.cursor.mark y)) (λ d. rw no refl) refl refl
+        (λ _. rw no may) (λ i. absurd (cc)) (rw no refl) (plain_fronts t b (freed b) refl) (λ _ _ f. absurd (cc))
         (empty_reading b tokens.FlowMappingEnd (λ _. inr (refl, inl refl, refl)))))
         (still_within (place.turned_to place.Sequence (enclosures_of c)) (freed b) b (same b) refl
-        (λ _. allows_right (freed b) b (λ _. inl refl)
-        (λ e. absurd (let no = pair_flows c.level.context may in cc))))
+        (λ _. allows_right (freed b) b (λ _. refl) (λ e. absurd (let no = pair_flows c.level.context may in cc))
+        (entry_other (freed b) b other)))
 
 least_reached : (deeper : Bool) (i m : ℕ) → (if deeper then i else i - 1) ≤ m → i ≤ m + 1
 least_reached true i m l = omega (arith, l)
@@ -322,7 +352,7 @@ end_does i kind b counts leaves ends c may close first =
     encloses (m.encloses (outside_of c).columns ∙ sym (left_ended ends (enclosures_of c)) ∙ sym (out.encloses within))
     (left within (with_key None c) l ls t u n j
     (record { above = m.above; keys = m.keys; root = m.root; fewer = m.fewer; encloses = m.encloses }) b.quiet
-    (counts span some) out.depth (close span some (outside_of c) inside) b.no_end b.other_kind out.no_node inside
+    (counts span some) out.depth (close span some (outside_of c) inside) b.no_end b.other_kind out.plain out.no_node inside
     (λ a. let i = least_reached c.deeper c.indent c.cursor.mark.col a.3 in omega (arith, i, right)) r) in
     by_test (is_block l.context) _ _ Closes (λ _. closes c.adjacent (inl refl))
     (λ _. closes u.mark.index (inr (refl, out.ends_json))))))
@@ -351,6 +381,8 @@ entry_does c first =
     let d : Core = with_context (behind_entry x) (record (forget_key c) { key_allowed = true }) in
     let b : Core = with_key None c in
     let within = ended (ends_pair x) (enclosures_of c) in
+    let turned : Cursor → Core = λ u.
+    record b { cursor = u; level = record { context = behind_entry x; key = None }; key_allowed = true } in
     by_test (in_block c && c.required) _ _
     (λ r. Walked (Premises c) (Doing None c) c.cursor (r >>= flow.next_flow_entry)) (λ _ _. at_here c.cursor)
     (λ free. bracket_walked 44 tokens.FlowEntry comma_is_bracket c d (ends_pair x) first free refl (λ n. n)
@@ -363,9 +395,15 @@ entry_does c first =
       allows_behind = refl;
     })
     (λ u some _ r. encloses (entry_encloses x (outside_of c) (bracket_piece tokens.FlowEntry c u).span)
-    (and_then (λ n. n) (quiet_within within 1 b (bracket_piece tokens.FlowEntry c u) u refl (λ y. refl) (λ e. refl) refl
-    refl (λ _. entry_fits x (outside_of c) (bracket_piece tokens.FlowEntry c u).span) (λ i. absurd (cc)) refl r)
+    (and_then (λ n. n) (quiet_within within 1 b (bracket_piece tokens.FlowEntry c u) u
+    (record { context = behind_entry x; key = None }) true (entry_block x) refl refl (λ y. refl) (λ e. refl) refl
+    refl (λ _. entry_fits x (outside_of c) (bracket_piece tokens.FlowEntry c u).span) (λ i. absurd (cc)) refl
+    (entry_fronts tokens.FlowEntry (bracket_piece tokens.FlowEntry c u).span b (turned u) refl refl) (λ _ _ f. absurd (cc)) r)
     (lesser (enclosures_behind tokens.FlowEntry (bracket_piece tokens.FlowEntry c u).span within)
-    (freed (with_cursor u b)) (with_cursor u d) (record { block = entry_block x; key = inr refl }) refl
-    (λ n. n) (taken.nothing u.mark u.rest) (λ _. ((λ _. inl refl), λ _ _ f. absurd (cc)))
+    (turned u) (with_cursor u d) (record { block = refl; key = inr refl }) refl
+    (λ n. n) (taken.nothing u.mark u.rest) (λ _. (
+      (λ _. inl refl),
+      (λ _ _ f. absurd (cc)),
+      entry_same (turned u) (with_cursor u d) refl (λ _. refl) (taken.nothing u.mark u.rest),
+    ))
     (record { required = (forget_requires c free).required; key = λ _ _. refl })))))

@@ -14,6 +14,7 @@ use Rattle.saphyr_scanner.proofs.Counted.{Ahead, ahead_ahead}
 use Rattle.saphyr_scanner.proofs.Effects.Readers.{Readers, ReaderEnds, TextLaws}
 use Rattle.saphyr_scanner.proofs.Ordered.Queue.{PutsInOrder}
 use Rattle.saphyr_scalar.proofs.Plain.Behind.{IsNoted}
+use Rattle.saphyr_scanner.proofs.Taken.Bare.{KeepsEntry}
 use Rattle.saphyr_scanner.proofs.Taken.Candidates.{KeyAbove, LevelsAbove, Above, ActionsAbove}
 use Rattle.saphyr_scanner.proofs.Taken.Cores.{HoldsWithin, Lesser, Requires, holds_lesser}
 use Rattle.saphyr_scanner.proofs.Taken.Indented.{IsRight, root_key}
@@ -182,13 +183,18 @@ further_within within c d s p allows = lesser within c d
     p allows (record { required = s.3; key = λ _ _. ap (λ (l : Level). l.key) s.0 })
 
 -- where a key may begin it is not asked how far right the text goes on
-pub allows_right : (c d : Core) → ((d.key_allowed ≡ true → (c.key_allowed ≡ true)
-    ⊎ (c.cursor.mark.line < d.cursor.mark.line))) → (in_block d ≡ true → d.key_allowed ≡ true) → AllowsKey c d
-allows_right c d begins free = (begins, λ _ b f. absurd (let e = free b in cc))
+pub allows_right : (c d : Core) → (d.key_allowed ≡ true → c.key_allowed ≡ true)
+    → (in_block d ≡ true → d.key_allowed ≡ true) → KeepsEntry c d → AllowsKey c d
+allows_right c d begins free entry = ((λ a. inl (begins a)), (λ _ b f. absurd (let e = free b in cc)), entry)
 
 -- the text goes on at the same place
 pub same_right : (c d : Core) → Same c d → d.cursor ≡ c.cursor → d.key_allowed ≡ c.key_allowed → IsRight c → IsRight d
 same_right c d s e k h b f l = grind arith
+
+-- it is known of a place what is of the one that is reached
+pub right_before : (c d : Core) (u : Cursor) → Same c d → d.cursor ≡ u → IsRight d
+    → IsRight (record c { cursor = u; key_allowed = d.key_allowed })
+right_before c d u s e h b f l = grind arith
 
 pub same_around : (c d : Core) → Same c d → enclosures_of d ≡ enclosures_of c
 same_around c d s = grind arith

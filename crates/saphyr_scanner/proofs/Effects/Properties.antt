@@ -1,5 +1,6 @@
 -- What each step of anchors, aliases and tags does, by the laws of the readers.
-use Rattle.saphyr_scanner.proofs.Common.{◌≡◌, ℕ, ◌+◌, ◌<◌, Bool, true, false, List, ◌∷◌, ◌++◌, length, Some, refl, sym, ap, ◌∙◌, arith, subst, inl, inr, IsTrue, ◌==◌, slice_index, not, colon, exclamation_mark, Span, IsHandleText, IsTagText, EndsTag, Cursor, along}
+use Rattle.saphyr_scanner.proofs.Common.{◌≡◌, ℕ, ◌+◌, ◌<◌, Bool, true, false, List, ◌∷◌, ◌++◌, length, Some, refl, sym, ap, ◌∙◌, arith, subst, inl, inr, IsTrue, ◌==◌, slice_index, not, codes, colon, exclamation_mark, Span, IsHandleText, IsTagText, EndsTag, Cursor, along}
+use Rattle.saphyr_input.specs.Classes.{is_one_of}
 use Rattle.saphyr_scalar.specs.Steps.Anchor as anchors
 use Rattle.saphyr_scalar.specs.Steps.Tag as tags
 use Rattle.saphyr_scalar.proofs.TakingMore.{tag_some}
@@ -14,10 +15,11 @@ use Rattle.saphyr_scanner.specs.TokensTaken.{Surroundings, IsToken, begins_text}
 use Rattle.saphyr_scanner.specs.TokensInPlace.{is_of_flow_node}
 use Rattle.saphyr_scanner.proofs.Added.Queue.{IsNoEnd}
 use Rattle.saphyr_scanner.proofs.Counted.{Ahead}
-use Rattle.saphyr_scanner.proofs.Effects.Puts.{saving, saved, same_block, same_flow, Reading}
+use Rattle.saphyr_scanner.proofs.Effects.Puts.{saving, saved, saved_free, same_block, same_flow, Reading}
 use Rattle.saphyr_scanner.proofs.Effects.Walked.{Premises, Walked, walked_then, Doing, read_walked}
 use Rattle.saphyr_scanner.proofs.Effects.QuotedScalars.{Starts}
 use Rattle.saphyr_scanner.proofs.Effects.Readers.{Readers, ReaderEnds, Less, TextLaws}
+use Rattle.saphyr_scanner.proofs.Taken.Bare.{HasFreeEntry, KeepsFronts, plain_fronts, property_fronts}
 use Rattle.saphyr_scanner.proofs.Taken.Cores.{surroundings}
 use Rattle.saphyr_scanner.proofs.Taken.Indented.{other_than_colon}
 use Rattle.saphyr_scanner.proofs.Taken.Neutral.{Neutral, neutral}
@@ -63,13 +65,27 @@ tag_begins text behind handle suffix (inr (inr h)) = ap (λ t. slice_index (t ++
     by : IsHandleText handle → slice_index ((handle ++ h.0) ++ behind) 0 ≡ exclamation_mark
     by h = grind arith
 
+-- what a name's token leaves known of an entry of brackets
+abbrev pub NameKeeps : (List ℕ → Kind) → ℕ → Type 0
+NameKeeps token_of x = (name : List ℕ) (span : Span) (c d : Core)
+    → (HasFreeEntry d → HasFreeEntry c × (c.key_allowed ≡ false)) → slice_index c.cursor.rest 0 ≡ x
+    → KeepsFronts (record { span = span; kind = token_of name }) c d
+
+pub alias_keeps : NameKeeps tokens.Alias 42
+alias_keeps name span c d free first = plain_fronts (record { span = span; kind = tokens.Alias name }) c d refl
+
+pub anchor_keeps : NameKeeps tokens.Anchor 38
+anchor_keeps name span c d free first =
+    property_fronts (tokens.Anchor name) span c d refl free (ap (is_one_of (codes ":&!")) first)
+
 -- An anchor or an alias puts its token, which may begin a key (`saved`). All that has to be known of the token comes
 -- from the law on names that were read: how long it is, where it ends, and how it is spelled.
-pub name_does : (token_of : List ℕ → Kind) (x : ℕ) → Named token_of x → (n : ℕ) (c : Core) → 0 < length c.cursor.rest
+pub name_does : (token_of : List ℕ → Kind) (x : ℕ) → Named token_of x → NameKeeps token_of x → (n : ℕ) (c : Core)
+    → 0 < length c.cursor.rest
     → slice_index c.cursor.rest 0 ≡ x
     → Walked (Premises c) (Doing (Some n) c) c.cursor (property.name_steps token_of n c)
 unfolding property.name_steps property.read_name
-name_does token_of x named n c some f =
+name_does token_of x named keeps n c some f =
     let here = c.cursor in
     let Q = Doing (Some n) c in
     saving n c (λ d. Walked (Premises c) Q here (property.read_name token_of (scalar.disallow_key d))) (λ l r s.
@@ -82,6 +98,7 @@ name_does token_of x named n c some f =
     let kind : Kind = token_of y.0 in
     saved n c (with_cursor y.1 d) (record { span = span; kind = kind }) s refl (inl refl) (λ m. inl m) (named.quiet y.0)
     (named.keeps y.0 span) (named.of_node y.0 span) (named.no_end y.0) (λ _ _ no. absurd (cc))
+    (keeps y.0 span c (with_cursor y.1 d) (saved_free n c l r s) f)
     (λ i. named.of i y.0 span) refl (other_than_colon x here.rest named.other f) (λ a laws e _ _.
     let place = ap (λ (u : Cursor). u.mark.col) (laws.name here y.1 y.0 some e0).5 in
     let deep = a.0 (sym (same_block n c l r s) ∙ e) in inl (omega (arith, place, deep))) (λ _ _ _ allowed. absurd (cc))
@@ -110,6 +127,8 @@ tag_does n c first =
     let span : Span = record { start = here.mark; end = y.2.mark } in
     saved n c (with_cursor y.2 d) (record { span = span; kind = tokens.Tag y.0 y.1 }) s refl (inl refl) (λ m. inl m)
     refl (neutral _ span refl) refl (λ i. absurd (cc)) (λ _ _ no. absurd (cc))
+    (property_fronts (tokens.Tag y.0 y.1) span c (with_cursor y.2 d) refl (saved_free n c l r s)
+    (ap (is_one_of (codes ":&!")) first))
     (λ i a b k. (
       k.6.start,
       ap (λ t. begins_text (slice_index t 0)) k.6.is ∙ ap begins_text (tag_begins k.0 b.rest k.1 k.2 k.3),

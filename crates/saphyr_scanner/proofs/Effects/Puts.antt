@@ -5,7 +5,7 @@ use Rattle.saphyr_scanner.specs.declared.queue.Opening.TheVariants as opening
 use Rattle.saphyr_scanner.specs.Grammar.Tokens.{Kind}
 use Rattle.saphyr_scanner.specs.Steps.Queue.{Queue, is_empty_list, next, with_piece, with_opening, empty_piece}
 use Rattle.saphyr_scanner.specs.Steps.Core.{Core, Put, Open, at_mark}
-use Rattle.saphyr_scanner.specs.Steps.Level.{Candidate, Level, is_block}
+use Rattle.saphyr_scanner.specs.Steps.Level.{Candidate, Level, is_block, begins_pair}
 use Rattle.saphyr_scanner.specs.Steps.Core.{in_block, save_key, forget_key, with_key, enter_block}
 use Rattle.saphyr_scanner.specs.Steps.Flow as flow
 use Rattle.saphyr_scanner.specs.Steps.Passing.{with_cursor}
@@ -15,6 +15,7 @@ use Rattle.saphyr_scanner.proofs.Added.Queue.{IsNoEnd, at_most_one, one_at_most,
 use Rattle.saphyr_scanner.proofs.Effects.Readers.{Readers, ReaderEnds, ReadsSpan, TextLaws}
 use Rattle.saphyr_scanner.proofs.Effects.Moves.{Around, DoesWithin, Does, encloses, IsBeforePlace, IsNextPlace, Left, NoComment, around}
 use Rattle.saphyr_scalar.proofs.Plain.Behind.{IsNoted}
+use Rattle.saphyr_scanner.proofs.Taken.Bare.{HasFreeEntry, KeepsFronts, is_plain, plain_fronts}
 use Rattle.saphyr_scanner.proofs.Taken.Candidates.{KeyAbove, LevelsAbove, Above}
 use Rattle.saphyr_scanner.proofs.Taken.Cores.{HoldsWithin, surroundings, IsTokenThere, outermost, holds_put, next_put, quiet_opens, quiet_put, loud_put}
 use Rattle.saphyr_scanner.proofs.Taken.SavedKeys.{IsSaved, Saved, saved_indented}
@@ -101,32 +102,47 @@ freed c = record c { key_allowed = true }
 
 -- one that doesn't change which block collections and brackets are open
 pub quiet_within : {A : Type 0} (within : Enclosures) (k : ℕ) (c : Core) (t : Piece) (u : Cursor)
+    → (l : Level) (allowed : Bool) → is_block l.context ≡ in_block c → l.key ≡ None
     → is_quiet t.kind ≡ true → KeepsBrackets t → KeepsDepth t → is_of_flow_node t.kind t.span ≡ false
     → c.level.key ≡ None → (A → FitsWithin within t) → IsNoEnd t.kind → is_unbound t.kind t.span ≡ true
-    → Reading k c t u
-    → DoesWithin A within (enclosures_behind t.kind t.span within) None k 1 c (freed (with_cursor u c)) (Put t ∷ [])
-quiet_within within k c t u q b depth other none fit e unbound r =
-    let d : Core = freed (with_cursor u c) in
+    → KeepsFronts t c (record c { cursor = u; level = l; key_allowed = allowed })
+    → (A → IsRight (record c { cursor = u; level = l; key_allowed = allowed })) → Reading k c t u
+    → DoesWithin A within (enclosures_behind t.kind t.span within) None k 1 c
+    (record c { cursor = u; level = l; key_allowed = allowed }) (Put t ∷ [])
+quiet_within within k c t u l allowed block free q b depth other none fit e unbound fronts right r =
+    let d : Core = record c { cursor = u; level = l; key_allowed = allowed } in
     encloses (sym (unbound_calm t.kind t.span within unbound))
     (putting within (calm (enclosures_behind t.kind t.span within)) None k 0 c d t r e refl refl (λ m. inl m)
-    (omega arith) (λ h _ a. a) (λ premise laws opened from p _ h.
+    (omega arith) (λ h _ a. (let P : Option Candidate → Type 0 = λ y. KeyAbove h y in subst P (sym free) tt, a.1))
+    (λ premise laws opened from p _ h.
     let w = r.token laws in
     quiet_put within opened from c d p t c.cursor w.0 q b depth other none (fit premise)
-    (unbound_parted t c d unbound) (λ _ f. absurd (cc)) (taken.nothing c.cursor.mark c.cursor.rest) w.1 w.2
-    (record { level = refl; outer = refl; indent = refl; outer_indents = refl; adjacent = refl; required = refl }) h))
+    (unbound_parted t c d unbound fronts) (right premise) (taken.nothing c.cursor.mark c.cursor.rest) w.1 w.2
+    (record {
+      block = block;
+      key = free ∙ sym none;
+      outer = refl;
+      indent = refl;
+      outer_indents = refl;
+      adjacent = refl;
+      required = refl;
+    }) h))
 
 -- one that changes nothing
-pub quiet : {A : Type 0} (k : ℕ) (c : Core) (t : Piece) (u : Cursor) → is_quiet t.kind ≡ true → Neutral t
-    → is_of_flow_node t.kind t.span ≡ false → c.level.key ≡ None → IsNoEnd t.kind → is_unbound t.kind t.span ≡ true
-    → Reading k c t u → Does A None k 1 c (freed (with_cursor u c)) (Put t ∷ [])
-quiet k c t u q b other none e unbound r = encloses (sym (b.encloses (enclosure_of c.level.context) (outside_of c))
+pub quiet : {A : Type 0} (k : ℕ) (c : Core) (t : Piece) (u : Cursor) (allowed : Bool) → is_quiet t.kind ≡ true
+    → Neutral t → is_of_flow_node t.kind t.span ≡ false → c.level.key ≡ None → IsNoEnd t.kind
+    → is_unbound t.kind t.span ≡ true → is_plain t.kind ≡ true
+    → (A → IsRight (record c { cursor = u; key_allowed = allowed })) → Reading k c t u
+    → Does A None k 1 c (record c { cursor = u; key_allowed = allowed }) (Put t ∷ [])
+quiet k c t u allowed q b other none e unbound plain right r =
+    encloses (sym (b.encloses (enclosure_of c.level.context) (outside_of c))
     ∙ unbound_calm t.kind t.span (enclosures_of c) unbound)
-    (quiet_within (enclosures_of c) k c t u q b.brackets b.depth other none
-    (λ _. b.fits (enclosure_of c.level.context) (outside_of c).columns) e unbound r)
+    (quiet_within (enclosures_of c) k c t u c.level allowed refl none q b.brackets b.depth other none
+    (λ _. b.fits (enclosure_of c.level.context) (outside_of c).columns) e unbound (plain_fronts t c _ plain) right r)
 
 -- a block collection begins, where no token may be a key any more, nor has to be
 pub block_begins : {A : Type 0} (e : Enclosure) (c : Core) (r : Bool) (kind : Kind) (g : Begun) → IsNoEnd kind
-    → ((span : Span) → closes_keys kind span ≡ false) → calmed g ≡ g → c.key_allowed ≡ true
+    → ((span : Span) → closes_keys kind span ≡ false) → is_plain kind ≡ true → calmed g ≡ g → c.key_allowed ≡ true
     → (A → c.cursor.mark.line < top) → (c.required ≡ true → c.level.key ≡ None)
     → (r ≡ true → c.required ≡ true) → ((span : Span) → is_of_flow_node kind span ≡ false)
     → ((i : Surroundings) (span : Span) (s t : Cursor) → IsBlockStart i.indent span s t → IsToken i kind span s t)
@@ -137,7 +153,7 @@ pub block_begins : {A : Type 0} (e : Enclosure) (c : Core) (r : Bool) (kind : Ki
     → DoesWithin A (free e (outside_of c))
     (with_begun g (free e (outside_of (enter_block c.cursor.mark.col c)))) None 0 3 c
     (record (with_key None (enter_block c.cursor.mark.col c)) { required = r }) (at_mark c.cursor.mark kind ∷ [])
-block_begins e c r kind g n other same allowed small unasked required node is opens begins fit b right first =
+block_begins e c r kind g n other plain same allowed small unasked required node is opens begins fit b right first =
     let d : Core = record (with_key None (enter_block c.cursor.mark.col c)) { required = r } in
     let within = free e (outside_of c) in
     let none : AreApart c.cursor c.cursor = taken.nothing c.cursor.mark c.cursor.rest in
@@ -154,7 +170,8 @@ block_begins e c r kind g n other same allowed small unasked required node is op
     (λ premise _ opened from q _ h.
     loud_put within opened from c d q t c.cursor c.cursor none (λ i _. token i) none
     (λ x k. rw (opens (record { start = c.cursor.mark; end = c.cursor.mark }) x) ((refl, k.0), k.1)) refl
-    (fit t.span within.columns) ((λ _. (allowed, refl, small premise)), open_keys t d (other t.span))
+    (fit t.span within.columns)
+    ((λ _. (allowed, refl, small premise)), open_keys t d (other t.span), plain_fronts t c d plain)
     (λ _ f. absurd (let a = allowed in cc))
     (node t.span) b unasked required refl (outermost within opened from c q h b) b h))
 
@@ -186,6 +203,13 @@ pub same_block : (n : ℕ) (c : Core) (l : Level) (r : Bool) → IsSaved n c l r
 same_block n c l r (inl e) = ap (λ (x : Level). is_block x.context) e.0
 same_block n c l r (inr e) = ap (λ (x : Level). is_block x.context) e.0
 
+-- where none was saved another is a candidate, or none may be
+pub saved_free : (n : ℕ) (c : Core) (l : Level) (r : Bool) → IsSaved n c l r
+    → (begins_pair l.context ≡ true) × (l.key ≡ None) → HasFreeEntry c × (c.key_allowed ≡ false)
+saved_free n c l r (inl e) g =
+    ((ap (λ (x : Level). begins_pair x.context) (sym e.0) ∙ g.0, ap (λ (x : Level). x.key) (sym e.0) ∙ g.1), e.1)
+saved_free n c l r (inr e) g = absurd (let some = ap (λ (x : Level). x.key) e.0 in let none = g.1 in cc)
+
 pub same_flow : (n : ℕ) (c : Core) (l : Level) (r : Bool) → IsSaved n c l r
     → not (is_block l.context) ≡ not (in_block c)
 same_flow n c l r s = ap not (same_block n c l r s)
@@ -206,10 +230,11 @@ saved_around n c d s a = grind arith
 pub saved : (n : ℕ) (c d : Core) (t : Piece) → IsSaved n c d.level d.required → Stays c d → Adjoins t c d
     → (c.comment ≡ None → IsNoted d.comment d.cursor) → is_quiet t.kind ≡ true → Neutral t
     → IsTrue (is_of_flow_node t.kind t.span) → IsNoEnd t.kind → (IsArrival c → TextLaws → ClosesKeys t d)
-    → Begins t → t.span.start ≡ c.cursor.mark → HasNoColon c.cursor.rest → (IsArrival c → TextLaws → IsRight d)
+    → KeepsFronts t c d → Begins t → t.span.start ≡ c.cursor.mark → HasNoColon c.cursor.rest
+    → (IsArrival c → TextLaws → IsRight d)
     → (IsArrival c → TextLaws → IsPastLine c.cursor.mark.line d) → Reading 1 c t d.cursor
     → Does (IsArrival c) (Some n) 1 5 c d (Put t ∷ [])
-saved n c d t s a j m q b node e closes begins start some right past h =
+saved n c d t s a j m q b node e closes fronts begins start some right past h =
     let outer = ap (λ (x : Around). x.outer) a in
     let indent = ap (λ (x : Around). x.indent) a in
     let indents = ap (λ (x : Around). x.outer_indents) a in
@@ -227,8 +252,8 @@ saved n c d t s a j m q b node e closes begins start some right past h =
     record {
       taken = holds_put within opened from c d p t c.cursor w.0 (taken.nothing c.cursor.mark c.cursor.rest) w.1 w.2
           (quiet_opens t c d q indent indents (λ x z. b.brackets x ∙ z ∙ sym (ap length outer))) j
-          (b.fits (enclosure_of c.level.context) within.columns) (node_parted t c d node (closes arrival laws))
-          (right arrival laws)
+          (b.fits (enclosure_of c.level.context) within.columns)
+          (node_parted t c d node (closes arrival laws) fronts) (right arrival laws)
           (saved_indented opened from c (with_cursor c.cursor d) d p t key refl refl arrival (λ _. (start, some))
           (past arrival laws) k) k;
       keys = saved_keys opened.enclosures 0 c p t (with_cursor c.cursor d) q node (b.depth 0)
@@ -245,10 +270,10 @@ pub entered : (n : ℕ) (x : Context) (c d : Core) (t : Piece) → is_block x �
     → ((all : Enclosures) → enclosures_behind t.kind t.span all ≡ place.entered (enclosure_of x) all)
     → ((e : ℕ) → deeper t.kind t.span e ≡ suc e) → IsTrue (is_of_flow_node t.kind t.span)
     → ((e : Enclosure) (columns : List ℕ) → IsTrue (fits e columns t.kind t.span))
-    → IsNoEnd t.kind → is_unbound t.kind t.span ≡ true → Begins t → t.span.start ≡ c.cursor.mark
-    → HasNoColon c.cursor.rest → Reading 1 c t d.cursor
+    → IsNoEnd t.kind → is_unbound t.kind t.span ≡ true → KeepsFronts t c (flow.enter x d) → Begins t
+    → t.span.start ≡ c.cursor.mark → HasNoColon c.cursor.rest → Reading 1 c t d.cursor
     → Does (IsArrival c) (Some n) 1 5 c (flow.enter x d) (Put t ∷ [])
-entered n x c d t flows s a m q b enters depth node fit e unbound begins start some h =
+entered n x c d t flows s a m q b enters depth node fit e unbound fronts begins start some h =
     let r : Core = flow.enter x d in
     let outer = ap (λ (x : Around). x.outer) a in
     let indent = ap (λ (x : Around). x.indent) a in
@@ -272,7 +297,7 @@ entered n x c d t flows s a m q b enters depth node fit e unbound begins start s
       taken = holds_put within opened from c r p t c.cursor w.0 (taken.nothing c.cursor.mark c.cursor.rest) w.1 w.2
           (quiet_opens t c r q indent indents (λ y z. b y ∙ (let l = ap length outer in omega (arith, z, l))))
           (inl (ap (λ (x : Around). x.adjacent) a))
-          (fit (enclosure_of c.level.context) within.columns) (unbound_parted t c r unbound)
+          (fit (enclosure_of c.level.context) within.columns) (unbound_parted t c r unbound fronts)
           (λ no. absurd (cc))
           (saved_indented opened from c (with_cursor c.cursor d) r p t key refl refl arrival (λ _. (start, some))
           (λ no. absurd (cc)) k) k;
@@ -291,11 +316,12 @@ pub left : {A : Type 0} (within : Enclosures) (c : Core) (l : Level) (ls : List 
     → Left c l ls → is_quiet t.kind ≡ true
     → ((opened : Collections) → (open_behind t.kind t.span opened).brackets ≡ opened.brackets - 1)
     → ((e : ℕ) → deeper t.kind t.span (suc e) ≡ e) → FitsWithin within t
-    → IsNoEnd t.kind → begins_block t.kind ≡ false → is_of_flow_node t.kind t.span ≡ false → in_block c ≡ false
+    → IsNoEnd t.kind → begins_block t.kind ≡ false → is_plain t.kind ≡ true → is_of_flow_node t.kind t.span ≡ false
+    → in_block c ≡ false
     → (A → c.indent ≤ u.mark.col) → Reading 1 c t u
     → DoesWithin A within (calm (enclosures_behind t.kind t.span within)) None 1 1 c
     (record c { cursor = u; level = l; outer = ls; key_allowed = false; adjacent = n }) (Put t ∷ [])
-left within c l ls t u n j z q b depth fit e other node flows right h =
+left within c l ls t u n j z q b depth fit e other plain node flows right h =
     let d : Core = record c { cursor = u; level = l; outer = ls; key_allowed = false; adjacent = n } in
     putting within (calm (enclosures_behind t.kind t.span within)) None 1 0 c d t h e refl refl (λ m. inl m)
     (omega arith) (λ i _ a. z.above i a.1) (λ premise laws opened from p _ k.
@@ -310,7 +336,8 @@ left within c l ls t u n j z q b depth fit e other node flows right h =
     record {
       taken = holds_put within opened from c d p t c.cursor w.0 (taken.nothing c.cursor.mark c.cursor.rest) w.1 w.2
           (quiet_opens t c d q refl refl (λ y v. b y ∙ ap (λ i. i - 1) v ∙ sym z.fewer)) j fit
-          ((λ yes. absurd (cc)), λ no. absurd (cc)) (λ _ _ _. inl (right premise)) (λ line y. record {
+          ((λ yes. absurd (cc)), (λ no. absurd (cc)), plain_fronts t c d plain) (λ _ _ _. inl (right premise))
+          (λ line y. record {
             free = λ no. indented_then all p t fits (y.free no);
             waits = λ yes. waits_then all c d p t (z.root some ∙ sym (root_inner c.level c.outer some)) line
                 (y.waits yes) (λ _ allowed. absurd (cc));
@@ -349,11 +376,12 @@ opens within behind v c d k o e key none outer s f m few holds =
 
 -- a key alone, or in flow with its mapping
 pub key_opens : {A : Type 0} (e : Enclosure) (outside : Outside) (c : Core) (k : Candidate) (o : Opening)
-    → opens_block o ≡ false → MayOpen o e → (in_block c ≡ true → k.mark.col < c.indent) → c.level.key ≡ Some k
+    → opens_block o ≡ false → (o ≡ opening.FlowMappingAndKey → in_block c ≡ false) → MayOpen o e
+    → (in_block c ≡ true → k.mark.col < c.indent) → c.level.key ≡ Some k
     → DoesWithin A (free e outside) (awaited o k.mark (free e outside)) None 0 2 c (forget_key c) (Open k.place o ∷ [])
-key_opens e outside c k o n m left is =
+key_opens e outside c k o n flows m left is =
     opens (free e outside) (awaited o k.mark (free e outside)) 0 c (forget_key c) k o refl is refl refl refl refl
-    (λ i. i) (omega arith) (λ _ opened from q h. open_quiet e outside opened from c q k o n m left is h)
+    (λ i. i) (omega arith) (λ _ opened from q h. open_quiet e outside opened from c q k o n flows m left is h)
 
 -- a block mapping and a key
 pub mapping_opens : {A : Type 0} (e : Enclosure) (c : Core) (k : Candidate) → in_block c ≡ true

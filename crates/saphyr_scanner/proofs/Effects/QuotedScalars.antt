@@ -18,6 +18,7 @@ use Rattle.saphyr_scanner.proofs.LineTails.{OnLine}
 use Rattle.saphyr_scanner.proofs.LessIndented.{less_indented}
 use Rattle.saphyr_scanner.proofs.Reached.{apart_reached, passed_reached}
 use Rattle.saphyr_scanner.proofs.Taken.Cores.{surroundings}
+use Rattle.saphyr_scanner.proofs.Taken.Bare.{is_plain, plain_fronts}
 use Rattle.saphyr_scanner.proofs.Taken.InPlace.{begun_by}
 use Rattle.saphyr_scanner.proofs.Taken.KeysInPlace.{IsPast}
 use Rattle.saphyr_scanner.proofs.Taken.SavedKeys.{IsSaved}
@@ -36,6 +37,9 @@ Starts span s = (span.start ≡ s.mark) × IsTrue (begins_text (slice_index s.re
 
 -- ## Quoted scalars
 
+plain_quote : (quote : Quote) (value : List ℕ) → is_plain (quote_kind quote value) ≡ true
+plain_quote quote value = grind arith
+
 -- what is so of both quotes
 record Quoting (quote : Quote) : Type 0 where
   other : (mark quote == colon) ≡ false
@@ -47,7 +51,8 @@ record Quoting (quote : Quote) : Type 0 where
       → IsToken i (quote_kind quote value) span s t
   of : (i : Surroundings) (value : List ℕ) (span : Span) (s t : Cursor) → IsToken i (quote_kind quote value) span s t
       → Starts span s
-  past : (value : List ℕ) (span : Span) (n : ℕ) → span.end.line < n → IsPast (begun_by (quote_kind quote value) span) n
+  past : (value : List ℕ) (span : Span) (block : Bool) (n : ℕ) → span.end.line < n
+      → IsPast (begun_by (quote_kind quote value) span) block n
 
 quoting : (quote : Quote) → Quoting quote
 quoting Double = record {
@@ -58,7 +63,7 @@ quoting Double = record {
   ends_json = λ v p b. refl;
   is = λ i v p s t k. k;
   of = λ i v p s t k. (k.4, ap (λ l. begins_text (slice_index l 0)) k.1.1);
-  past = λ v p n l. l;
+  past = λ v p b n l. l;
 }
 quoting Single = record {
   other = refl;
@@ -68,7 +73,7 @@ quoting Single = record {
   ends_json = λ v p b. refl;
   is = λ i v p s t k. k;
   of = λ i v p s t k. (k.4, ap (λ l. begins_text (slice_index l 0)) k.1.1);
-  past = λ v p n l. l;
+  past = λ v p b n l. l;
 }
 
 -- later lines of quoted scalars have to reach the column of the innermost block collection at least
@@ -153,8 +158,9 @@ quotes_do quote n c first l r s =
     let line = on_line_same x.1 u g.1 in
     elim (k.3.begins allowed) [
       | inl before ↦ absurd (let same = g.2 in cc)
-      | inr later ↦ (quoting quote).past x.0 t.span v.mark.line (later (omega (arith, p.0, line)) small)
+      | inr later ↦ (quoting quote).past x.0 t.span _ v.mark.line (later.1 (omega (arith, p.0, line)) small)
     ])
+    (plain_fronts t c (scalar.adjacent_here f) (plain_quote quote x.0))
     (λ i. (quoting quote).of i x.0 t.span) refl (other_than_colon (mark quote) here.rest (quoting quote).other first)
     (λ arrival laws i allowed small.
     let p = past arrival laws in
@@ -172,7 +178,7 @@ quotes_do quote n c first l r s =
     let line = on_line_same x.1 u g.1 in
     elim (k.3.begins allowed) [
       | inl before ↦ absurd (let same = g.2 in cc)
-      | inr later ↦ inl (let z = later (omega (arith, p.0, line)) small in omega (arith, p.1, line, z))
+      | inr later ↦ inl (let z = later.1 (omega (arith, p.0, line)) small in omega (arith, p.1, line, z))
     ])
     (record {
       less = λ laws. let z = laws.quoted_scalar quote low here x.1 x.0 first e in

@@ -12,6 +12,7 @@ use Rattle.saphyr_scanner.proofs.Effects.Puts.{saving, saved_above, saved, same_
 use Rattle.saphyr_scanner.proofs.Effects.Walked.{Premises, Walked, walked_then, Doing, Stepped, at_inside, read_walked}
 use Rattle.saphyr_scalar.proofs.Plain.Behind.{EndsPlain, plain_ends}
 use Rattle.saphyr_scanner.proofs.Steps.Choice.{NoIndicator}
+use Rattle.saphyr_scanner.proofs.Taken.Bare.{plain_fronts}
 use Rattle.saphyr_scanner.proofs.Taken.SavedKeys.{IsSaved}
 use Rattle.saphyr_scanner.proofs.Taken.Neutral.{neutral}
 use Rattle.saphyr_scanner.proofs.Taken.Places.{at_here}
@@ -83,6 +84,7 @@ plain_does n c starts =
     let t : Piece = record { span = record { start = here.mark; end = x.1 }; kind = tokens.Scalar Plain x.0 } in
     saved n c (scalar.behind_plain x.2 x.3 d) t s refl (inl refl) (λ _. ends.0) refl (neutral _ t.span refl) refl
     (λ i. absurd (cc)) (λ _ _ allowed small. ends.5 allowed small)
+    (plain_fronts t c (scalar.behind_plain x.2 x.3 d) refl)
     (λ i a b k. (k.start, plain_begins (slice_index a.rest 0) k.begins k.is_non_space)) refl
     (λ colon blank. absurd (let no = starts.no_indicator (ap (λ x. is_one_of (codes "-?:") x) colon) in cc))
     (λ arrival _ i allowed _. inl (ends.2 (rw i refl) (arrival.0 (sym (same_block n c l r s) ∙ i)) allowed))

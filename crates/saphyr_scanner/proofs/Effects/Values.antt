@@ -14,8 +14,8 @@ use Rattle.saphyr_scanner.specs.TokensTaken as taken
 use Rattle.saphyr_scanner.specs.TokensTaken.{AreApart, Collections, parts_colon}
 use Rattle.saphyr_scanner.specs.TokensInPlace as place
 use Rattle.saphyr_scanner.specs.TokensInPlace.{Enclosure, Enclosures, turned_to, behind_pair_colon, may_begin_pair, may_begin_key, with_begun, is_in_brackets, is_at_column, is_near}
-use Rattle.saphyr_scanner.proofs.Effects.Moves.{DoesWithin, encloses, and_then, Around, Same, same, same_around, lesser, still_within, allows_right}
-use Rattle.saphyr_scanner.proofs.Effects.Puts.{empty_reading, IndicatorStands, passes, indicated, freed, quiet_within, block_begins, key_opens}
+use Rattle.saphyr_scanner.proofs.Effects.Moves.{DoesWithin, encloses, and_then, Around, Same, same, same_around, lesser, still_within, right_before}
+use Rattle.saphyr_scanner.proofs.Effects.Puts.{empty_reading, IndicatorStands, passes, indicated, quiet_within, block_begins, key_opens}
 use Rattle.saphyr_scanner.proofs.Effects.Puts.{mapping_opens}
 use Rattle.saphyr_scanner.proofs.Effects.Blocks.{allowed_in}
 use Rattle.saphyr_scanner.proofs.Effects.Walked.{Premises, Walked, walked_then, walked_map, at_most, Doing, at_reach}
@@ -24,6 +24,8 @@ use Rattle.saphyr_scanner.proofs.Reached.{apart_reached}
 use Rattle.saphyr_scanner.proofs.Taken.Cores.{by_bool}
 use Rattle.saphyr_scanner.proofs.Taken.SavedKeys.{further_block}
 use Rattle.saphyr_scanner.proofs.Taken.Keys.{IsDeep, IsBehindKey, IsArrival}
+use Rattle.saphyr_scanner.proofs.Taken.Bare.{plain_fronts, pair_fronts, entry_same, entry_turned, colon_pair}
+use Rattle.saphyr_scanner.proofs.Taken.SavedKeys.{apart_same}
 use Rattle.saphyr_scanner.proofs.Taken.Indented.{IsRight}
 use Rattle.saphyr_scanner.proofs.Taken.Held.{enclosure_of, columns_of, outside_of, enclosures_of, FitsWithin}
 use Rattle.saphyr_scanner.proofs.Taken.KeysInPlace.{no_text, Outside, free, in_key}
@@ -93,7 +95,9 @@ colon_does : {A : Type 0} (within : Enclosures) (e d : Core) (u : Cursor) → sl
 colon_does within e d u first parted a s there none right fit =
     let later = apart_later (pass 1 e.cursor).mark (pass 1 e.cursor).rest u.mark u.rest a in
     let t = empty_piece e.cursor.mark tokens.Value in
-    and_then (λ n. n) (quiet_within within 1 e t u refl (λ x. refl) (λ x. refl) refl none fit (λ i. absurd (cc)) refl
+    let r : Core = record e { cursor = u; key_allowed = d.key_allowed } in
+    and_then (λ n. n) (quiet_within within 1 e t u e.level d.key_allowed refl none refl (λ x. refl) (λ x. refl) refl
+    none fit (λ i. absurd (cc)) refl (plain_fronts t e r refl) (λ p. right_before e d u s there (right p))
     (indicated 58 e u t (record { some = refl; unbroken = refl; is = first }) a
     (omega arith) (omega arith) (omega (arith, later.index)) (λ t b given. (
       t,
@@ -106,7 +110,11 @@ colon_does within e d u first parted a s there none right fit =
             | inr parts ↦ inr (ap parts_colon (second_is e.cursor.rest) ∙ parts)
           ],
     ))))
-    (still_within (behind_value within) (freed (with_cursor u e)) d s there (λ p. ((λ _. inl refl), λ _. right p)))
+    (still_within (behind_value within) r d s there (λ p. (
+      (λ a. inl a),
+      (λ _. right p),
+      entry_same r d s.0 (λ a. a) (apart_same u d.cursor there),
+    )))
 
 -- where a key is open the colon is near it
 near_colon : (x : Context) (k : Candidate) (m : Marker) → (is_block x && is_too_far (Some k) m) ≡ false
@@ -223,12 +231,13 @@ key_does b c d x k t is =
     by_test begins opening.FlowMappingAndKey opening.Key (From false)
     (λ e. encloses (turned_encloses b x c d place.PairValue t (behind_pair x e))
     (at_most (omega arith) (and_then (λ n. n)
-    (key_opens own outside c k opening.FlowMappingAndKey refl (pair_may_begin x e) left known)
+    (key_opens own outside c k opening.FlowMappingAndKey refl
+    (λ _. ap (λ (l : Level). is_block l.context) (sym g.0.0) ∙ t.flows e) (pair_may_begin x e) left known)
     (colon_does (in_key k.mark (free place.PairKey outside)) (forget_key c) (Into false) u t.first t.parted g.1
     (same_forgotten c d g.0) refl refl right (λ _. pair_near begins k.mark s.mark line e)))))
     (λ e. encloses (turned_encloses b x c d (behind_pair_colon own) t (behind_alone x e))
     (at_most (omega arith) (and_then (λ n. n)
-    (key_opens own outside c k opening.Key refl (alone_may_begin x e) left known)
+    (key_opens own outside c k opening.Key refl (λ i. absurd (cc)) (alone_may_begin x e) left known)
     (colon_does (in_key k.mark (free own outside)) (forget_key c) (Into false) u t.first t.parted g.1
     (same_forgotten c d g.0) refl refl right (near e)))))))
 
@@ -277,8 +286,9 @@ alone_does b c d x t none =
     (λ f. let r = same_blocks column c d g.0 in
     let allowed = sym g.2 ∙ allowed_in (in_block d) d.key_allowed w (further_block column d f) in
     encloses (turned_in_block b x c d (behind_pair_colon e) column t same) (and_then (λ n. n)
-    (block_begins e c c.required tokens.BlockMappingStart place.BlockMapping (λ i. absurd (cc)) (λ p. refl) refl allowed
-    t.small (λ _. free_key) (λ r. r) (λ p. refl) (λ i p v t h. h) (λ x y. refl) (λ p all. refl) (λ p columns. refl)
+    (block_begins e c c.required tokens.BlockMappingStart place.BlockMapping (λ i. absurd (cc)) (λ p. refl) refl refl
+    allowed t.small (λ _. free_key) (λ r. r) (λ p. refl) (λ i p v t h. h) (λ x y. refl) (λ p all. refl)
+    (λ p columns. refl)
     (block_same c d g.0 (further_block column d f)) (right_same column c d g.0 f) (ap taken.begins_text t.first))
     (colon_does (with_begun place.BlockMapping (free e (outside_of (enter_block column c))))
     (with_key None (enter_block column c)) (Into true) u t.first t.parted g.1 (
@@ -298,22 +308,22 @@ alone_does b c d x t none =
     ((if f then at_mark s.mark tokens.FlowMappingStart ∷ [] else []) ++ Starts further))
     (λ e. and_then (λ n. n)
     (pair_begins own outside c free_key (ap (λ (l : Level). is_block l.context) (sym g.0.0) ∙ t.flows e)
-    (pair_may_begin x e)) (value w place.PairKey (behind_pair x e) (λ _. refl)))
+    (pair_may_begin x e) (ap begins_pair t.context ∙ colon_pair x ∙ e) t.first) (value w place.PairKey (behind_pair x e) (λ _. refl)))
     (λ e. at_most (omega arith) (value w own (behind_alone x e) (flow_brackets x))))
   where
     pair_begins : (e : Enclosure) (outside : Outside) (c : Core) → c.level.key ≡ None → in_block c ≡ false
-        → IsTrue (may_begin_pair e)
+        → IsTrue (may_begin_pair e) → begins_pair c.level.context ≡ true → slice_index c.cursor.rest 0 ≡ colon
         → DoesWithin (IsArrival b) (free e outside) (free place.PairKey outside) None 0 1 c c
         (at_mark c.cursor.mark tokens.FlowMappingStart ∷ [])
-    pair_begins e outside c none flows may =
+    pair_begins e outside c none flows may pair first =
         let t = empty_piece c.cursor.mark tokens.FlowMappingStart in
         let no = no_text c.cursor.mark.index in
-        and_then (λ n. n) (encloses (rw no refl) (quiet_within (free e outside) 0 c t c.cursor refl
+        and_then (λ n. n) (encloses (rw no refl) (quiet_within (free e outside) 0 c t c.cursor c.level c.key_allowed refl
+        none refl
         (λ x. ap (λ (y : Collections). y.brackets) (pair_starts c.cursor.mark x)) (λ x. rw no refl) no none
-        (λ _. rw no may) (λ i. absurd (cc)) refl
-        (empty_reading c tokens.FlowMappingStart (λ _. inr (refl, inl refl, refl)))))
-        (still_within (free place.PairKey outside) (freed c) c (same c) refl
-        (λ _. allows_right (freed c) c (λ _. inl refl) (λ b. absurd (cc))))
+        (λ _. rw no may) (λ i. absurd (cc)) refl (pair_fronts t.span c c (pair, none) first)
+        (λ _ b. absurd (let no = flows in cc)) (empty_reading c tokens.FlowMappingStart (λ _. inr (refl, inl refl, refl)))))
+        (still_within (free place.PairKey outside) c c (same c) refl (λ _. ((λ a. inl a), (λ h. h), λ front h. h)))
 
 either_does : (b c d : Core) (x : Context) (o : Option Candidate) → d.level.key ≡ o → Turned b x c d
     → Walked (Premises b) (Valued b x c) c.cursor (value.behind_key o (begins_pair x) c.cursor.mark d)
@@ -336,7 +346,11 @@ value_does c first parted =
     walked_map (Premises c) (Valued c x v) (Doing None c) c.cursor _
     (λ y k. and_then (λ n. n)
     (lesser (enclosures_of c) c v (record { block = colon_block x; key = inl refl }) refl (λ n. n)
-    (taken.nothing c.cursor.mark c.cursor.rest) (λ _. ((λ a. inl a), λ h b. h (sym (colon_block x) ∙ b)))
+    (taken.nothing c.cursor.mark c.cursor.rest) (λ _. (
+      (λ a. inl a),
+      (λ h b. h (sym (colon_block x) ∙ b)),
+      entry_turned c v (λ b. sym (colon_pair x) ∙ b) refl (λ a. a) (taken.nothing c.cursor.mark c.cursor.rest),
+    ))
     (record { required = refl; key = λ _ _. refl })) k)
     (either_does c v d x d.level.key refl (record {
       first = first;

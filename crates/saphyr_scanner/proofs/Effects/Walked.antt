@@ -168,7 +168,7 @@ gap_walked b s c a none =
           (g.0.0, g.0.1, (λ _. refl), g.0.3),
           g.1,
           g.2,
-          record { begins = g.3.begins; ends = g.3.ends },
+          record { begins = g.3.begins; keeps = g.3.keeps; ends = g.3.ends },
         ))
 
     by : (r : Result gaps.GapEnd Refusal) → Given (λ (p : gaps.GapEnd). AreApart c.cursor p.cursor) r

@@ -19,7 +19,7 @@ use Rattle.saphyr_scanner.proofs.Blocks.{unrolled_cursor, unrolled_comment}
 use Rattle.saphyr_scanner.proofs.Effects.Documents.{Documented, start_walked, end_marker_walked, mark_walked, directive_walked}
 use Rattle.saphyr_scanner.proofs.Effects.Walked.{Premises, Walked}
 use Rattle.saphyr_scanner.proofs.Effects.Fetch.{some_character_left, deep_here, step_does}
-use Rattle.saphyr_scanner.proofs.Taken.Documents.{start_marking, end_place, no_length}
+use Rattle.saphyr_scanner.proofs.Taken.Documents.{end_place, no_length}
 use Rattle.saphyr_scanner.proofs.Effects.Readers.{TextLaws, RefusalLaws}
 use Rattle.saphyr_scanner.proofs.Taken.Places.{at_here, at_further}
 use Rattle.saphyr_scanner.proofs.Refusing.Refusals.{HoldsOrRefuses, walked_holds, holds_then, holds_further, Goes, Noted, NotedStep, Still, goes_still, drop_still, gap_holds}
@@ -79,9 +79,7 @@ here_holds texts laws s n =
     (λ e. let w = at (slice_index t 0 == 37) e in
     known _ (directive_walked s w.0 (eqb-true (slice_index t 0) 37 w.1)))
     (λ _. by_test ((s.core.cursor.mark.col == 0) && is_document_start t) _ _ P
-    (λ e. let w = at (is_document_start t) e in
-    known _ (start_walked is_document_start (codes "---") tokens.DocumentStart start_marking (λ i. absurd (cc)) s w.0
-    w.1))
+    (λ e. let w = at (is_document_start t) e in known _ (start_walked s w.0 w.1))
     (λ _. by_test ((s.core.cursor.mark.col == 0) && is_document_end t) _ _ P
     (λ e. let w = at (is_document_end t) e in known _ (end_marker_walked s w.0 w.1))
     (λ _. by_test (nat_lt s.core.cursor.mark.col (least_column s.core)) _ _ P (λ _. at_here s.core.cursor)

@@ -1,5 +1,5 @@
 -- What is passed up to where the next token begins is separation, or the text's end.
-use Rattle.saphyr_scanner.proofs.Common.{◌≡◌, ℕ, ◌+◌, ◌-◌, ◌^◌, ◌≤◌, ◌<◌, ◌⊎◌, true, false, List, ◌∷◌, length, Option, Some, None, Result, Ok, Err, refl, sym, ap, ◌∙◌, arith, subst, inl, inr, IsTrue, ◌&&◌, slice_index, not, is_z, Refusal, Cursor, start_cursor, ◌>>=◌, by_test, and_false, Given, not-true, le-ltb}
+use Rattle.saphyr_scanner.proofs.Common.{◌≡◌, ℕ, ◌+◌, ◌-◌, ◌^◌, ◌≤◌, ◌<◌, ◌⊎◌, Bool, true, false, List, ◌∷◌, length, Option, Some, None, Result, Ok, Err, refl, sym, ap, ◌∙◌, arith, subst, inl, inr, IsTrue, ◌&&◌, slice_index, not, is_z, Refusal, Cursor, start_cursor, ◌>>=◌, by_test, and_false, Given, not-true, le-ltb}
 use Rattle.saphyr_scanner.specs.Steps.Queue.{Queue, next}
 use Rattle.saphyr_scanner.specs.Steps.Core.{Core, in_block, is_too_far, forget_key, drop_far_key}
 use Rattle.saphyr_scanner.specs.Steps.Level.{Candidate, Level, is_block}
@@ -8,11 +8,13 @@ use Rattle.saphyr_scanner.specs.Steps.Passing.{pass_gap, check_comment, behind_g
 use Rattle.saphyr_scanner.specs.Steps.State.{State, on_core, with_core}
 use Rattle.saphyr_scanner.specs.Steps.Unrolling.{unroll, end_blocks, is_right_of, go_less_deep}
 use Rattle.saphyr_scanner.specs.Steps.Fetch.{arrive}
+use Rattle.saphyr_scanner.specs.TokensTaken as taken
 use Rattle.saphyr_scanner.specs.TokensTaken.{AreApart, begins_text}
 use Rattle.saphyr_scanner.specs.TokensInPlace.{Enclosures}
 use Rattle.saphyr_scanner.proofs.Blocks.{none_ends, unrolled_cursor, blocks_cursor, go_less_deep_cursor}
 use Rattle.saphyr_scanner.proofs.Taken.Separated.{gap_apart, gap_begins, Breaks, gap_breaks}
 use Rattle.saphyr_scanner.proofs.Taken.Later.{top, LaterThan, later_later, apart_later}
+use Rattle.saphyr_scanner.proofs.Taken.Bare.{entry_same, entry_closed, block_no_pair}
 use Rattle.saphyr_scanner.proofs.Taken.Held.{enclosures_of, Setting, Taken, taken_within, AllowsKey, taken_further}
 use Rattle.saphyr_scanner.proofs.Taken.Indented.{BeginsNoNode, stays_no_node, IsRight, root_key}
 use Rattle.saphyr_scanner.proofs.Taken.Keys.{Keys}
@@ -26,8 +28,9 @@ use Rattle.saphyr_scanner.proofs.Taken.States.{line_small, taken_later, key_stan
 
 -- A key may begin only where one might before, or after a break, which ends a line. Where none may no line has ended.
 pub record AllowsBehind (c d : Core) : Type 0 where
-  pub begins : d.key_allowed ≡ true → (c.key_allowed ≡ true)
-      ⊎ (c.cursor.mark.line ≤ top → d.cursor.mark.line < top → c.cursor.mark.line < d.cursor.mark.line)
+  pub begins : d.key_allowed ≡ true → (c.key_allowed ≡ true) ⊎ ((in_block d ≡ true)
+      × (c.cursor.mark.line ≤ top → d.cursor.mark.line < top → c.cursor.mark.line < d.cursor.mark.line))
+  pub keeps : c.key_allowed ≡ true → d.key_allowed ≡ true
   pub ends : in_block d ≡ true → d.key_allowed ≡ false → c.cursor.mark.line ≤ top
       → (c.key_allowed ≡ false) × (d.cursor.mark.line ≡ c.cursor.mark.line)
 
@@ -68,9 +71,19 @@ forgotten_live all c q h nz =
     keys_lesser all (next q) q c.indent c.level (forget_key c).level c.outer (record { block = refl; key = inr refl })
     (h nz)
 
+-- outside flow a candidate is too far
+pub far_block : (block far : Bool) → not (block && far) ≡ false → block ≡ true
+far_block block far e = grind arith
+
 pub forgotten_taken : (opened : Setting) (from : Cursor) (c : Core) (q : Queue) → c.required ≡ false
-    → Taken opened from c q → Taken opened from (forget_key c) q
-forgotten_taken opened from c q free h = grind arith
+    → in_block c ≡ true → Taken opened from c q → Taken opened from (forget_key c) q
+forgotten_taken opened from c q free block h =
+    taken_further (enclosures_of c) opened from c (forget_key c) q (taken.nothing _ _) refl refl refl refl
+    ((λ a. inl a), (λ r. r), entry_closed c (forget_key c) (block_no_pair c.level.context block)) (record {
+      required = rw free (and_false (not (in_block c)));
+      root = λ yes. absurd (let no = free in cc);
+      block = refl;
+    }) h
 
 dropped_near : (opened : Setting) (from : Cursor) (q : Queue) (c : Core)
     → IsTrue (begins_text (slice_index c.cursor.rest 0)) → Taken opened from c q
@@ -84,9 +97,10 @@ dropped_near opened from q c b h l =
       near = not-true (in_block c && is_too_far c.level.key c.cursor.mark) e;
       begins = b;
     })
-    (λ _. by_test c.required _ _ (Given (Near opened from q)) (λ _. tt)
+    (λ far. by_test c.required _ _ (Given (Near opened from q)) (λ _. tt)
     (λ free. record {
-      taken = forgotten_taken opened from c q free h;
+      taken = forgotten_taken opened from c q free
+          (far_block (in_block c) (is_too_far c.level.key c.cursor.mark) far) h;
       live = forgotten_live opened.enclosures c q l;
       near = and_false (in_block c);
       begins = b;
@@ -106,9 +120,10 @@ gapped text small opened from q c l h k =
     let lines : AllowsKey c d = (
       (λ e. elim (allows.begins e) [
         | inl f ↦ inl f
-        | inr f ↦ inr (f (omega (arith, low)) (line_small text d.cursor small there))
+        | inr f ↦ inr (f.0, f.1 (omega (arith, low)) (line_small text d.cursor small there))
       ]),
       behind_right c d p a.indent block allows (omega (arith, low)),
+      entry_same c d a.level allows.keeps p,
     ) in
     dropped_near opened from q d b
     (taken_within (enclosures_of c) (enclosures_of d) opened from d q (alike_enclosures c d a)

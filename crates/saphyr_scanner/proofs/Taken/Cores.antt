@@ -9,6 +9,7 @@ use Rattle.saphyr_scanner.specs.TokensInPlace.{Enclosures, enclosures_behind, is
 use Rattle.saphyr_scanner.proofs.Taken.KeysInPlace.{calm}
 use Rattle.saphyr_scanner.proofs.Taken.Parts.{is_quiet}
 use Rattle.saphyr_scanner.proofs.Taken.Held.{enclosures_of, Setting, TakenWithin, taken_further, Opens, FitsWithin, PutsIndented, taken_put, Adjoins, AllowsKey, IsParted}
+use Rattle.saphyr_scanner.proofs.Taken.Bare.{BeginsOther, entry_other}
 use Rattle.saphyr_scanner.proofs.Taken.Indented.{IsRight, root_key, own_root, KeepsRequired, no_node_fits, indented_put, indented_alone}
 use Rattle.saphyr_scanner.proofs.Taken.Neutral.{KeepsBrackets}
 use Rattle.saphyr_scanner.proofs.Taken.Keys.{Keys, keys_weaken, KeepsDepth, keeps_depth, keys_put}
@@ -99,10 +100,10 @@ holds_lesser within opened from c d q l o i s e p allows r h = record {
 }
 
 pub holds_forgotten : (opened : Setting) (from : Cursor) (c : Core) (q : Queue) → (in_block c && c.required) ≡ false
-    → HoldsTaken opened from c q → HoldsTaken opened from (forget_key c) q
-holds_forgotten opened from c q e h =
+    → BeginsOther c.cursor → HoldsTaken opened from c q → HoldsTaken opened from (forget_key c) q
+holds_forgotten opened from c q e other h =
     holds_lesser (enclosures_of c) opened from c (forget_key c) q (record { block = refl; key = inr refl }) refl refl
-    refl refl (taken.nothing _ _) ((λ a. inl a), λ k. k) (forget_requires c e) h
+    refl refl (taken.nothing _ _) ((λ a. inl a), (λ k. k), entry_other c (forget_key c) other) (forget_requires c e) h
 
 -- inside flow a level encloses the innermost, as many as brackets are open
 open_outside : (ls : List Level) → nat_lt 0 (length ls) ≡ not (is_empty_list ls)
@@ -161,13 +162,30 @@ none_own : (within : Enclosures) (opened : Setting) (from : Cursor) (c : Core) (
     → HoldsWithin within opened from c q → c.level.key ≡ None → in_block c ≡ true → own_root c ≡ None
 none_own within opened from c q h none b = own_key c (outermost within opened from c q h b) ∙ none
 
+-- the same block collections and brackets are open, and as much may be a key
+pub record Nearly (c d : Core) : Type 0 where
+  pub block : in_block d ≡ in_block c
+  pub key : d.level.key ≡ c.level.key
+  pub outer : d.outer ≡ c.outer
+  pub indent : d.indent ≡ c.indent
+  pub outer_indents : d.outer_indents ≡ c.outer_indents
+  pub adjacent : d.adjacent ≡ c.adjacent
+  pub required : d.required ≡ c.required
+
+same_root : (l m : Level) (ls ms : List Level) → m.key ≡ l.key → ms ≡ ls → root_key (m ∷ ms) ≡ root_key (l ∷ ls)
+same_root l m ls ms k e = ap (λ x. root_key (m ∷ x)) e ∙ own ls
+  where
+    own : (xs : List Level) → root_key (m ∷ xs) ≡ root_key (l ∷ xs)
+    own [] = k
+    own (x ∷ xs) = refl
+
 -- a quiet token from here to after, and separation to the place that is reached
 pub quiet_put : (within : Enclosures) (opened : Setting) (from : Cursor) (c d : Core) (q : Queue) (t : Piece)
     (here behind : Cursor)
     → is_quiet t.kind ≡ true → KeepsBrackets t → KeepsDepth t → is_of_flow_node t.kind t.span ≡ false
     → c.level.key ≡ None → FitsWithin within t → IsParted t c d → IsRight d → AreApart c.cursor here
     → IsTokenThere c t here behind → AreApart behind d.cursor
-    → Alike c d → HoldsWithin within opened from c q
+    → Nearly c d → HoldsWithin within opened from c q
     → HoldsWithin (calm (enclosures_behind t.kind t.span within)) opened from d (with_piece t q)
 quiet_put within opened from c d q t here behind e f depth other none fit parted right a is b l h = record {
   taken = holds_put within opened from c d q t here behind a is b
@@ -175,16 +193,17 @@ quiet_put within opened from c d q t here behind e f depth other none fit parted
       parted right (λ line k. indented_put opened.enclosures c d q t (no_node_fits opened.enclosures q t other)
       (record {
         required = l.required;
-        root = λ _. ap (λ m. root_key (m ∷ d.outer)) l.level ∙ ap (λ ls. root_key (c.level ∷ ls)) l.outer;
-        block = ap (λ (m : Level). is_block m.context) l.level;
-      }) (λ w e _ _. absurd (let b = ap (λ (m : Level). is_block m.context) (sym l.level) ∙ e in
+        root = λ _. same_root c.level d.level c.outer d.outer l.key l.outer;
+        block = l.block;
+      }) (λ w e _ _. absurd (let b = sym l.block ∙ e in
       let own = none_own within opened from c q h none b in let is = w.is in cc)) line k) h;
   keys =
       let all = opened.enclosures in
-      keys_of all (next (with_piece t q)) (with_piece t q) c.indent d.indent c.level d.level c.outer d.outer l.indent
-      l.level l.outer (keys_weaken all 0 (next q) (next (with_piece t q)) (with_piece t q) c.indent (c.level ∷ c.outer)
+      keys_of all (next (with_piece t q)) (with_piece t q) c.indent d.indent d.level d.level c.outer d.outer l.indent
+      refl l.outer (keys_lesser all (next (with_piece t q)) (with_piece t q) c.indent c.level d.level c.outer
+      (record { block = l.block; key = inl l.key }) (keys_weaken all 0 (next q) (next (with_piece t q)) (with_piece t q) c.indent (c.level ∷ c.outer)
       (omega (arith, next_put t q)) (keys_put all 0 0 (next q) q c.indent (c.level ∷ c.outer) t e
-      (keeps_depth t c.level c.outer (inl none) depth) h.keys));
+      (keeps_depth t c.level c.outer (inl none) depth) h.keys)));
 }
 
 -- a token of no flow node, where none has to be a key, and after which none is a candidate

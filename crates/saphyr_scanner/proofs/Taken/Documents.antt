@@ -1,6 +1,7 @@
 -- What is held after a document's content and at the stream's end, and which texts are tokens of markers and
 -- directives.
 use Rattle.saphyr_scanner.proofs.Common.{◌≡◌, ℕ, Bool, true, false, List, [], ◌∷◌, ◌++◌, length, drop, None, refl, ap, ◌∙◌, arith, inl, inr, IsTrue, ◌&&◌, ◌==◌, nat_lt, slice_index, codes, nat_tests, is_break, is_z, is_document_start, is_document_end, is_document_indicator, next_2_are, next_3_are, Marker, Span, Cursor, pass_break, ReadDirective, break_len, eqb-true, and_parts, by_test, Given}
+use Rattle.saphyr_input.specs.Classes.{is_one_of}
 use Rattle.saphyr_scanner.specs.Grammar.Tokens as tokens
 use Rattle.saphyr_scanner.specs.Grammar.Tokens.{Kind}
 use Rattle.saphyr_scanner.specs.Steps.Queue.{next, empty_piece}
@@ -14,6 +15,7 @@ use Rattle.saphyr_scanner.specs.TokensTaken as taken
 use Rattle.saphyr_scanner.specs.TokensTaken.{Surroundings, AreApart, IsToken, IsPlaceOrEnd, begins_text, BeginsNoContent, IsContentEnd}
 use Rattle.saphyr_scanner.proofs.Blocks.{unrolled_cursor}
 use Rattle.saphyr_scanner.proofs.Taken.Parts.{is_quiet}
+use Rattle.saphyr_scanner.proofs.Taken.Bare.{BeginsOther, other_begins, entry_closed, block_no_pair, is_plain, plain_fronts}
 use Rattle.saphyr_scanner.proofs.Taken.Held.{enclosures_of, Setting, taken_further, is_unbound, unbound_parted, taken_put}
 use Rattle.saphyr_scanner.proofs.Taken.Cores.{HoldsTaken, holds_forgotten, forget_requires, no_keys, outermost}
 use Rattle.saphyr_scanner.proofs.Taken.Indented.{no_node_fits, indented_put}
@@ -30,6 +32,14 @@ no_content_begins xs u0 = grind arith
 pub content_ends : (s : Cursor) → IsContentEnd s → BlocksEnd None s.mark s
 content_ends s (inl e) = (inl refl, ap (λ l. begins_text (slice_index l 0)) e, inl e)
 content_ends s (inr e) = (inl refl, no_content_begins s.rest e.1, inr e)
+
+no_content_other : (xs : List ℕ) → BeginsNoContent xs → is_one_of (codes ":&!") (slice_index xs 0) ≡ false
+no_content_other xs u0 = grind arith
+
+content_other : (s : Cursor) → IsContentEnd s → BeginsOther s
+content_other s (inl e) = other_begins 0 s (ap (λ l. slice_index l 0) e) refl refl
+content_other s (inr e) =
+    other_begins (slice_index s.rest 0) s refl (no_content_begins s.rest e.1) (no_content_other s.rest e.1)
 
 -- all block collections end
 pub unrolled_indent : (m : Marker) (s : State) → in_block (unroll None m s).core ≡ true
@@ -64,7 +74,12 @@ forgotten_unrolled opened from s end free h =
     let l = blocks_levels None m s.core.outer_indents (with_core (go_less_deep None s.core) s) in
     record {
       taken = taken_further (enclosures_of t.core) opened from t.core (forget_key t.core) t.queue (taken.nothing _ _)
-          refl refl refl refl ((λ a. inl a), λ r. r) (record {
+          refl refl refl refl (
+            (λ a. inl a),
+            (λ r. r),
+            entry_closed t.core (forget_key t.core) (block_no_pair
+                t.core.level.context (ap (λ (y : Level). is_block y.context) l.level ∙ e)),
+          ) (record {
             required = (forget_requires t.core f).required;
             root = λ r. absurd (let b = ap (λ (y : Level). is_block y.context) l.level ∙ e in cc);
             block = refl;
@@ -73,7 +88,7 @@ forgotten_unrolled opened from s end free h =
           (l.outer ∙ outermost (enclosures_of s.core) opened from s.core s.queue h e)
           (ap (λ (y : Level). is_block y.context) l.level ∙ e);
     })
-    (λ _ f k. holds_forgotten opened from s.core s.queue f h) free
+    (λ _ f k. holds_forgotten opened from s.core s.queue f (content_other s.core.cursor end) h) free
     (unroll_taken opened from None m s (content_ends s.core.cursor end) h.taken)
 
 -- ## Markers
@@ -81,22 +96,23 @@ forgotten_unrolled opened from s end free h =
 pub three_at : (x : ℕ) (xs : List ℕ) → (0 == x) ≡ false → next_3_are xs x x x ≡ true → xs ≡ x ∷ x ∷ x ∷ drop 3 xs
 three_at x xs z e = grind arith
 
--- a document marker's token
-pub record Marking (stands : List ℕ → Bool) (text : List ℕ) (kind : Kind) : Type 0 where
+-- a document marker's token, with what has to come after it
+pub record Marking (stands : List ℕ → Bool) (text : List ℕ) (kind : Kind) (Behind : List ℕ → Type 0) : Type 0 where
   pub quiet : is_quiet kind ≡ true
   pub keeps : (span : Span) → Neutral (record { span = span; kind = kind })
-  pub is : (i : Surroundings) (span : Span) (s t : Cursor) → taken.IsMarker stands text span s t
+  pub is : (i : Surroundings) (span : Span) (s t : Cursor) → taken.IsMarker stands text span s t → Behind t.rest
       → IsToken i kind span s t
   pub three : (xs : List ℕ) → stands xs ≡ true → xs ≡ text ++ drop 3 xs
   pub ends : (xs : List ℕ) → stands xs ≡ true → is_document_indicator xs ≡ true
   pub count : length text ≡ 3
   pub no_node : (span : Span) → is_of_flow_node kind span ≡ false
   pub unbound : (span : Span) → is_unbound kind span ≡ true
+  pub plain : is_plain kind ≡ true
 
-pub start_marking : Marking is_document_start (codes "---") tokens.DocumentStart
+pub start_marking : Marking is_document_start (codes "---") tokens.DocumentStart (λ _. Unit {0})
 start_marking = grind arith
 
-pub end_marking : Marking is_document_end (codes "...") tokens.DocumentEnd
+pub end_marking : Marking is_document_end (codes "...") tokens.DocumentEnd taken.EndsLine
 end_marking = grind arith
 
 -- ## Directives
@@ -119,6 +135,9 @@ quiet_directive d = grind arith
 
 pub unbound_directive : (d : ReadDirective) (span : Span) → is_unbound (document.directive_kind d) span ≡ true
 unbound_directive d span = grind arith
+
+pub plain_directive : (d : ReadDirective) → is_plain (document.directive_kind d) ≡ true
+plain_directive d = grind arith
 
 pub no_node_directive : (d : ReadDirective) (span : Span) → is_of_flow_node (document.directive_kind d) span ≡ false
 no_node_directive d span = grind arith
@@ -156,7 +175,8 @@ end_fetched opened from s h =
           (empty_piece m tokens.StreamEnd) t.core.cursor t.core.cursor (taken.nothing _ _) (λ _ _.
           (ap (λ (c : Cursor). c.rest) same ∙ empty, (refl, there, refl))) (taken.nothing _ _)
           (λ cs k. k) (inl refl) refl
-          (unbound_parted (empty_piece m tokens.StreamEnd) t.core (document.core_at_end t.core) refl)
+          (unbound_parted (empty_piece m tokens.StreamEnd) t.core (document.core_at_end t.core) refl
+          (plain_fronts (empty_piece m tokens.StreamEnd) t.core (document.core_at_end t.core) refl))
           (λ _ _ _. inr (inl over)) (indented_put opened.enclosures t.core (document.core_at_end t.core) t.queue
           (empty_piece m tokens.StreamEnd)
           (no_node_fits opened.enclosures t.queue (empty_piece m tokens.StreamEnd) refl)

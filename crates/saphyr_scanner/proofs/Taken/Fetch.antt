@@ -14,15 +14,16 @@ use Rattle.saphyr_scanner.proofs.Effects.States.{FetchesTokens, after_step_fetch
 use Rattle.saphyr_scanner.proofs.Effects.Fetch.{some_character_left, deep_here, step_does, step_effect, arrive_advances}
 use Rattle.saphyr_scanner.proofs.Taken.Later.{LaterThan, later_later}
 use Rattle.saphyr_scanner.proofs.Taken.Parts.{tokens_part}
+use Rattle.saphyr_scanner.proofs.Taken.Bare.{plain_fronts}
 use Rattle.saphyr_scanner.proofs.Taken.Held.{enclosures_of, Setting, unbound_parted, taken_put}
 use Rattle.saphyr_scanner.proofs.Taken.Indented.{no_node_fits, indented_put}
 use Rattle.saphyr_scanner.proofs.Taken.Cores.{no_keys, quiet_put}
 use Rattle.saphyr_scanner.proofs.Effects.Walked.{Premises, Walked, walked_given, Stepped}
 use Rattle.saphyr_scanner.proofs.Effects.Documents.{Documented, start_walked, end_marker_walked, mark_walked, directive_walked, documents_advance, documents_hold}
 use Rattle.saphyr_scanner.proofs.Taken.States.{line_small, taken_later, unrolled_required, Live, Fetched, holds_fetched, FetchedStep, TakenState}
-use Rattle.saphyr_scanner.proofs.Taken.Documents.{HoldsState, start_marking, end_fetched}
+use Rattle.saphyr_scanner.proofs.Taken.Documents.{HoldsState, end_fetched}
 use Rattle.saphyr_scanner.proofs.Queues.{flat_append}
-use Rattle.saphyr_scanner.proofs.Taken.Arrivals.{key_column, forgotten_live, forgotten_taken, Arrived, arrived}
+use Rattle.saphyr_scanner.proofs.Taken.Arrivals.{key_column, far_block, forgotten_live, forgotten_taken, Arrived, arrived}
 
 -- ## The end of the stream is the last token
 
@@ -96,8 +97,7 @@ here_read laws text small opened from s l going begun a =
     (λ _. by_test ((s.core.cursor.mark.col == 0) && is_document_start t) _ _ P
     (λ e. let w = and_parts (s.core.cursor.mark.col == 0) (is_document_start t) e in
     behind (document.state_behind_marker tokens.DocumentStart s)
-    (start_walked is_document_start (codes "---") tokens.DocumentStart start_marking (λ i. absurd (cc)) s
-    (eqb-true s.core.cursor.mark.col 0 w.0) w.1))
+    (start_walked s (eqb-true s.core.cursor.mark.col 0 w.0) w.1))
     (λ _. by_test ((s.core.cursor.mark.col == 0) && is_document_end t) _ _ P
     (λ e. let w = and_parts (s.core.cursor.mark.col == 0) (is_document_end t) e in
     behind (document.state_behind_document_end s) (end_marker_walked s (eqb-true s.core.cursor.mark.col 0 w.0) w.1))
@@ -129,9 +129,18 @@ begin_live opened from s none at h l nz =
     (quiet_put (enclosures_of s.core) opened from s.core (record s.core { started = true }) s.queue
     (empty_piece s.core.cursor.mark tokens.StreamStart) s.core.cursor s.core.cursor refl (λ x. refl)
     (λ d. refl) refl none refl
-    (unbound_parted (empty_piece s.core.cursor.mark tokens.StreamStart) s.core (record s.core { started = true }) refl)
+    (unbound_parted (empty_piece s.core.cursor.mark tokens.StreamStart) s.core (record s.core { started = true }) refl
+    (plain_fronts _ s.core (record s.core { started = true }) refl))
     h.right (taken.nothing _ _) (λ _ _. (at, (refl, inl refl, refl))) (taken.nothing _ _)
-    (record { level = refl; outer = refl; indent = refl; outer_indents = refl; adjacent = refl; required = refl })
+    (record {
+      block = refl;
+      key = refl;
+      outer = refl;
+      indent = refl;
+      outer_indents = refl;
+      adjacent = refl;
+      required = refl;
+    })
     (record { taken = h; keys = l nz })).keys
 
 begin_read : (opened : Setting) (from : Cursor) (s : State) → s.core.ended ≡ false → s.core.level.key ≡ None
@@ -142,7 +151,7 @@ begin_read opened from s going none at h l = record {
         (empty_piece s.core.cursor.mark tokens.StreamStart) s.core.cursor s.core.cursor (taken.nothing _ _)
         (λ _ _. (at, (refl, inl refl, refl))) (taken.nothing _ _) (λ cs k. (k.0, k.1)) (inl refl) refl
         (unbound_parted (empty_piece s.core.cursor.mark tokens.StreamStart) s.core (record s.core { started = true })
-        refl) h.right (indented_put opened.enclosures s.core (record s.core { started = true }) s.queue
+        refl (plain_fronts _ s.core (record s.core { started = true }) refl)) h.right (indented_put opened.enclosures s.core (record s.core { started = true }) s.queue
         (empty_piece s.core.cursor.mark tokens.StreamStart)
         (no_node_fits opened.enclosures s.queue (empty_piece s.core.cursor.mark tokens.StreamStart) refl)
         (record { required = refl; root = λ _. refl; block = refl }) (λ w. w.past)) h;
@@ -190,9 +199,10 @@ settled_ready opened from s h =
       settled = h.settled;
       fresh = h.fresh;
     })
-    (λ _. by_test c.required _ _ (λ r. Given (Ready opened from) (on_core r s.queue)) (λ _. tt)
+    (λ far. by_test c.required _ _ (λ r. Given (Ready opened from) (on_core r s.queue)) (λ _. tt)
     (λ free. record {
-      taken = forgotten_taken opened from c s.queue free h.fetched.taken;
+      taken = forgotten_taken opened from c s.queue free
+          (far_block (in_block c) (is_too_far c.level.key c.cursor.mark) far) h.fetched.taken;
       live = λ g. elim (h.fetched.live g) [
         | inl k ↦ forgotten_live opened.enclosures c s.queue k
         | inr w ↦

@@ -4,15 +4,16 @@ use Rattle.saphyr_scalar.specs.declared.scalar.style.ScalarStyle.TheVariants as 
 use Rattle.saphyr_scanner.specs.Grammar.Tokens as tokens
 use Rattle.saphyr_scanner.specs.Grammar.Tokens.{Kind}
 use Rattle.saphyr_scanner.specs.Steps.Queue.{Queue, bare_place, with_piece}
-use Rattle.saphyr_scanner.specs.Steps.Core.{Core, enter_block}
+use Rattle.saphyr_scanner.specs.Steps.Core.{Core, in_block, enter_block}
 use Rattle.saphyr_scanner.specs.Steps.Level.{Level}
 use Rattle.saphyr_scanner.specs.declared.engine.level.Context.TheVariants as context
 use Rattle.saphyr_scanner.specs.TokensInPlace as place
-use Rattle.saphyr_scanner.specs.TokensInPlace.{Enclosure, Enclosed, Begun, Enclosures, with_begun, begun_at, enclosures_behind, may_stand, AreInPlace, is_of_flow_node, fits_at, may_follow}
+use Rattle.saphyr_scanner.specs.TokensInPlace.{Enclosure, Enclosed, Begun, Enclosures, with_begun, begun_at, enclosures_behind, may_stand, AreInPlace, is_of_flow_node, fits_at, may_follow, EntryFront, front_behind, AreBare}
 use Rattle.saphyr_scanner.specs.TokensTaken.{Collections, Surroundings, AreApart, LiesOnLine, IsToken, AreTokens, open_behind, least_column_in, surroundings_in, ends_json_behind}
 use Rattle.saphyr_scanner.proofs.Leads.{flat}
 use Rattle.saphyr_scanner.proofs.Taken.InPlace.{all_behind, behind_append, each_append, begun_by, begun_behind}
 use Rattle.saphyr_scanner.proofs.Taken.KeysInPlace.{Outside, free, calmed, calm, IsPast, EndsOn, past_later, past_end, no_text}
+use Rattle.saphyr_scanner.proofs.Taken.Bare.{fronts, fronts_append, bare_append, Agrees, IsEntry, KeepsEntry, KeepsFronts}
 use Rattle.saphyr_scanner.proofs.Taken.Indented.{IsRight, Indented, KeepsRequired, indented_further}
 use Rattle.saphyr_scanner.proofs.Taken.Later.{Later, top, apart_later, piece_later, end_stays}
 use Rattle.saphyr_scanner.proofs.Taken.Separated.{apart_apart}
@@ -110,10 +111,14 @@ keeps_put i c d t here behind opened a is b flows before after adjoins k = grind
 pub record Setting : Type 0 where
   pub collections : Collections
   pub enclosures : Enclosures
+  pub front : EntryFront
 
 abbrev pub setting_behind : List Piece → Setting → Setting
-setting_behind ps opened =
-    record { collections = open_all ps opened.collections; enclosures = all_behind ps opened.enclosures }
+setting_behind ps opened = record {
+  collections = open_all ps opened.collections;
+  enclosures = all_behind ps opened.enclosures;
+  front = fronts ps opened.front;
+}
 
 -- The tokens are taken from the text, and what encloses the next token is known. Where properties or content are last no
 -- key may begin on their line.
@@ -127,7 +132,10 @@ pub record TakenWithin (within : Enclosures) (opened : Setting) (from : Cursor) 
   pub small : from.mark.line ≤ top
   pub ends : EndsOn (all_behind (flat q.places) opened.enclosures).begun last.mark.line
   pub past : c.key_allowed ≡ true → c.cursor.mark.line < top
-      → IsPast (all_behind (flat q.places) opened.enclosures).begun c.cursor.mark.line
+      → IsPast (all_behind (flat q.places) opened.enclosures).begun (in_block c) c.cursor.mark.line
+  pub bare : AreBare opened.front (flat q.places)
+  pub agrees : Agrees opened.front opened.enclosures.begun
+  pub entry : IsEntry (fronts (flat q.places) opened.front) c
   pub indented : Indented opened.enclosures c q
   pub right : IsRight c
   pub place : KeepsPlace (open_all (flat q.places) opened.collections).ends_json c
@@ -139,10 +147,11 @@ pub taken_within : (v w : Enclosures) (opened : Setting) (from : Cursor) (c : Co
     → TakenWithin v opened from c q → TakenWithin w opened from c q
 taken_within v w opened from c q e h = rw e h
 
--- A key may begin only where one might before, or on a later line. Where none may the text goes on as far right.
+-- A key may begin only where one might before, or outside flow on a later line. Where none may the text goes on as
+-- far right.
 abbrev pub AllowsKey : Core → Core → Type 0
-AllowsKey c d = (d.key_allowed ≡ true → (c.key_allowed ≡ true) ⊎ (c.cursor.mark.line < d.cursor.mark.line))
-    × (IsRight c → IsRight d)
+AllowsKey c d = (d.key_allowed ≡ true → (c.key_allowed ≡ true)
+    ⊎ ((in_block d ≡ true) × (c.cursor.mark.line < d.cursor.mark.line))) × (IsRight c → IsRight d) × KeepsEntry c d
 
 -- the text goes on after separation
 pub taken_further : (within : Enclosures) (opened : Setting) (from : Cursor) (c d : Core) (q : Queue)
@@ -164,12 +173,17 @@ taken_further within opened from c d q a i o n e allows kept h =
       small = h.small;
       ends = h.ends;
       past = λ g small. elim (allows.0 g) [
-        | inl f ↦ past_later now.begun c.cursor.mark.line d.cursor.mark.line there.0
-            (h.past f (omega (arith, there.0, small)))
-        | inr l ↦ past_end now.begun h.last.mark.line d.cursor.mark.line (omega (arith, here.0, l)) h.ends
+        | inl f ↦ subst (λ b. IsPast now.begun b d.cursor.mark.line) (sym kept.block)
+            (past_later now.begun (in_block c) c.cursor.mark.line d.cursor.mark.line there.0
+            (h.past f (omega (arith, there.0, small))))
+        | inr l ↦ subst (λ b. IsPast now.begun b d.cursor.mark.line) (sym l.0)
+            (past_end now.begun h.last.mark.line d.cursor.mark.line (omega (arith, here.0, l.1)) h.ends)
       ];
-      indented = indented_further opened.enclosures c d q kept there.0 allows.0 (end_stays c.cursor d.cursor a)
-          h.indented;
+      bare = h.bare;
+      agrees = h.agrees;
+      entry = allows.2 (fronts (flat q.places) opened.front) h.entry;
+      indented = indented_further opened.enclosures c d q kept there.0
+          (λ g. elim (allows.0 g) [ inl f ↦ inl f | inr l ↦ inr l.1 ]) (end_stays c.cursor d.cursor a) h.indented;
       right = allows.1 h.right;
       place = keeps_further (open_all (flat q.places) opened.collections).ends_json c d
           (apart_later c.cursor.mark c.cursor.rest d.cursor.mark d.cursor.rest a).index e n h.place;
@@ -207,7 +221,8 @@ closes_keys _ span = false
 
 -- behind a token a key may begin only on a later line
 abbrev pub ClosesKeys : Piece → Core → Type 0
-ClosesKeys t d = d.key_allowed ≡ true → d.cursor.mark.line < top → IsPast (begun_by t.kind t.span) d.cursor.mark.line
+ClosesKeys t d =
+    d.key_allowed ≡ true → d.cursor.mark.line < top → IsPast (begun_by t.kind t.span) (in_block d) d.cursor.mark.line
 
 -- where a block collection or an entry begins
 abbrev pub MayBegin : Piece → Core → Type 0
@@ -215,7 +230,7 @@ MayBegin t c = (c.key_allowed ≡ true) × (t.span.start.line ≡ c.cursor.mark.
 
 -- a block collection and an entry begin where a key may, and after properties or content no key may begin
 abbrev pub IsParted : Piece → Core → Core → Type 0
-IsParted t c d = (begins_block t.kind ≡ true → MayBegin t c) × ClosesKeys t d
+IsParted t c d = (begins_block t.kind ≡ true → MayBegin t c) × ClosesKeys t d × KeepsFronts t c d
 
 -- a token that is neither
 abbrev pub is_unbound : Kind → Span → Bool
@@ -224,8 +239,12 @@ is_unbound kind span = not (begins_block kind) && not (closes_keys kind span)
 pub open_keys : (t : Piece) (d : Core) → closes_keys t.kind t.span ≡ false → ClosesKeys t d
 open_keys t d e = grind arith
 
-pub unbound_parted : (t : Piece) (c d : Core) → is_unbound t.kind t.span ≡ true → IsParted t c d
-unbound_parted t c d e = grind arith
+unbound_apart : (t : Piece) (c d : Core) → is_unbound t.kind t.span ≡ true
+    → (begins_block t.kind ≡ true → MayBegin t c) × ClosesKeys t d
+unbound_apart t c d e = grind arith
+
+pub unbound_parted : (t : Piece) (c d : Core) → is_unbound t.kind t.span ≡ true → KeepsFronts t c d → IsParted t c d
+unbound_parted t c d e fronts = let r = unbound_apart t c d e in (r.0, r.1, fronts)
 
 pub same_calm : (kind : Kind) (span : Span) (all : Enclosures) → closes_keys kind span ≡ false
     → calm (enclosures_behind kind span all) ≡ enclosures_behind kind span all
@@ -235,16 +254,19 @@ pub unbound_calm : (kind : Kind) (span : Span) (all : Enclosures) → is_unbound
     → calm (enclosures_behind kind span all) ≡ enclosures_behind kind span all
 unbound_calm kind span all e = grind arith
 
--- a node's token begins no block collection
-pub node_parted : (t : Piece) (c d : Core) → IsTrue (is_of_flow_node t.kind t.span) → ClosesKeys t d → IsParted t c d
-node_parted t c d node closes = (λ b. absurd (no t.kind t.span node b), closes)
-  where
-    no : (kind : Kind) (span : Span) → IsTrue (is_of_flow_node kind span) → begins_block kind ≡ true → ⊥
-    no kind span n b = grind arith
+node_begins_none : (kind : Kind) (span : Span) → IsTrue (is_of_flow_node kind span) → begins_block kind ≡ false
+node_begins_none kind span node = grind arith
 
-calmed_fits : (g : Begun) (kind : Kind) (span : Span) (fit : Bool) → (may_follow (calmed g) kind span && fit) ≡ true
-    → (begins_block kind ≡ true → IsPast g span.start.line) → (may_follow g kind span && fit) ≡ true
-calmed_fits g kind span fit h past = grind arith
+-- a node's token begins no block collection
+pub node_parted : (t : Piece) (c d : Core) → IsTrue (is_of_flow_node t.kind t.span) → ClosesKeys t d
+    → KeepsFronts t c d → IsParted t c d
+node_parted t c d node closes fronts =
+    ((λ b. absurd (let no = node_begins_none t.kind t.span node in cc)), closes, fronts)
+
+calmed_fits : (g : Begun) (block : Bool) (kind : Kind) (span : Span) (fit : Bool)
+    → (may_follow (calmed g) kind span && fit) ≡ true → (begins_block kind ≡ true → IsPast g block span.start.line)
+    → (may_follow g kind span && fit) ≡ true
+calmed_fits g block kind span fit h past = grind arith
 
 -- what encloses the token after does not rest on what has begun in front
 behind_begun : (kind : Kind) (span : Span) (g : Begun) (all : Enclosures)
@@ -314,6 +336,10 @@ taken_put within opened from c d q t here behind a known b o adjoins f parted ri
     let then : all_behind (flat (with_piece t q).places) opened.enclosures ≡ enclosures_behind t.kind t.span now =
     cc (flat_put t q, behind_append (flat q.places) (t ∷ []) opened.enclosures) in
     let begun = ap (λ (x : Enclosures). x.begun) then ∙ begun_behind t.kind t.span now in
+    let fit = parted.2 (fronts (flat q.places) opened.front) h.entry in
+    let front : fronts (flat (with_piece t q).places) opened.front
+    ≡ front_behind t.kind (fronts (flat q.places) opened.front) =
+    ap (λ l. fronts l opened.front) (flat_put t q) ∙ fronts_append (flat q.places) (t ∷ []) opened.front in
     let first = (tokens_later opened.collections (flat q.places) from h.last h.tokens).lines h.small in
     let last = (apart_later h.last.mark h.last.rest here.mark here.rest apart).lines first.1 in
     let own = (apart_later c.cursor.mark c.cursor.rest here.mark here.rest a).lines
@@ -331,6 +357,10 @@ taken_put within opened from c d q t here behind a known b o adjoins f parted ri
       small = h.small;
       ends = rw begun (begun_ends around t.kind t.span here behind last.1 is);
       past = λ e small. rw begun (parted.1 e small);
+      bare = subst (AreBare opened.front) same
+          (bare_append (flat q.places) (t ∷ []) opened.front h.bare (fit.0, tt));
+      agrees = h.agrees;
+      entry = subst (λ f. IsEntry f d) (sym front) fit.1;
       indented = puts (omega (arith, own.0, token.0, ends.0)) h.indented;
       right = right;
       place = rw open_then (keeps_put around c d t here behind open_now a is b refl h.stands.1 stands_then.1 adjoins
@@ -339,9 +369,10 @@ taken_put within opened from c d q t here behind a known b o adjoins f parted ri
   where
     put_fits : (within now : Enclosures) (t : Piece) (c d : Core) → calm now ≡ within → FitsWithin within t
         → IsParted t c d
-        → (c.key_allowed ≡ true → c.cursor.mark.line < top → IsPast now.begun c.cursor.mark.line) → FitsWithin now t
+        → (c.key_allowed ≡ true → c.cursor.mark.line < top → IsPast now.begun (in_block c) c.cursor.mark.line)
+        → FitsWithin now t
     put_fits within now t c d e f parted past =
         let P : Enclosures → Type 0 = λ x. FitsWithin x t in
-        let Q : ℕ → Type 0 = λ m. IsPast now.begun m in
-        calmed_fits now.begun t.kind t.span (fits_at now.inner.enclosure now.inner.key now.columns t.kind t.span)
+        let Q : ℕ → Type 0 = λ m. IsPast now.begun (in_block c) m in
+        calmed_fits now.begun (in_block c) t.kind t.span (fits_at now.inner.enclosure now.inner.key now.columns t.kind t.span)
         (subst P (sym e) f) (λ b. let w = parted.0 b in subst Q (sym w.1) (past w.0 w.2))

@@ -27,7 +27,7 @@ pub record Key (all : Enclosures) (d b : ℕ) (q : Queue) (block : Bool) (i : �
   pub quiet : AreQuiet (token ∷ flat back)
   pub deep : block ≡ true → i ≤ k.mark.col + 1
   pub inside : AreInside 0 (token ∷ flat back) d
-  pub past : IsPast (all_behind (flat front) all).begun k.mark.line
+  pub past : IsPast (all_behind (flat front) all).begun block k.mark.line
 
 abbrev pub KeyOf : Enclosures → ℕ → ℕ → Queue → Bool → ℕ → Option Candidate → Type 0
 KeyOf all d b q block i None = Unit {0}

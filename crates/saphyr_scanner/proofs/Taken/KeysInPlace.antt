@@ -1,5 +1,5 @@
 -- Tokens stay in their places where a candidate turns out to be a key.
-use Rattle.saphyr_scanner.proofs.Common.{◌≡◌, ℕ, true, false, List, ◌∷◌, ◌++◌, None, refl, arith, IsTrue, ◌≤◌, ◌<◌, nat_lt, nat_tests, or-true, Marker, Span, Opening, Piece}
+use Rattle.saphyr_scanner.proofs.Common.{◌≡◌, ℕ, Bool, true, false, List, ◌∷◌, ◌++◌, None, refl, arith, IsTrue, ◌≤◌, ◌<◌, nat_lt, nat_tests, or-true, Marker, Span, Opening, Piece}
 use Rattle.saphyr_scanner.specs.declared.queue.Opening.TheVariants as opening
 use Rattle.saphyr_scanner.specs.Grammar.Tokens as tokens
 use Rattle.saphyr_scanner.specs.Steps.Queue.{empty_piece}
@@ -19,11 +19,12 @@ calmed g = g
 abbrev pub calm : Enclosures → Enclosures
 calm all = with_begun (calmed all.begun) all
 
--- properties or content that come right before end before a line
-abbrev pub IsPast : Begun → ℕ → Type 0
-IsPast (place.Property line) n = line < n
-IsPast (place.Content line) n = line < n
-IsPast _ n = Unit {0}
+-- properties or content that come right before end before a line, and inside flow no properties come
+abbrev pub IsPast : Begun → Bool → ℕ → Type 0
+IsPast (place.Property line) true n = line < n
+IsPast (place.Property line) false n = ⊥
+IsPast (place.Content line) block n = line < n
+IsPast _ block n = Unit {0}
 
 -- properties end on a line, and content on it or before
 abbrev pub EndsOn : Begun → ℕ → Type 0
@@ -31,13 +32,13 @@ EndsOn (place.Property line) n = line ≡ n
 EndsOn (place.Content line) n = line ≤ n
 EndsOn _ n = Unit {0}
 
-pub past_later : (g : Begun) (m n : ℕ) → m ≤ n → IsPast g m → IsPast g n
-past_later g m n l h = grind arith
+pub past_later : (g : Begun) (block : Bool) (m n : ℕ) → m ≤ n → IsPast g block m → IsPast g block n
+past_later g block m n l h = grind arith
 
-pub past_end : (g : Begun) (m n : ℕ) → m < n → EndsOn g m → IsPast g n
+pub past_end : (g : Begun) (m n : ℕ) → m < n → EndsOn g m → IsPast g true n
 past_end g m n l e = grind arith
 
-past_follows : (g : Begun) (span : Span) → takes_node g ≡ true → IsPast g span.start.line
+past_follows : (g : Begun) (span : Span) → takes_node g ≡ true → IsPast g true span.start.line
     → may_follow g tokens.BlockMappingStart span ≡ true
 past_follows g span h l = grind arith
 
@@ -84,7 +85,8 @@ pub record Opened (o : Opening) (t : Piece) (back : List Piece) (g : Begun) (all
   pub behind : all_behind (place_pieces o t ++ back) (with_begun g all) ≡ with_begun last (awaited o t.span.start all)
 
 pub opened_in_place : (o : Opening) (t : Piece) (back : List Piece) (g : Begun) (e : Enclosure) (outside : Outside)
-    → MayOpen o e → takes_node g ≡ true → IsPast g t.span.start.line → AreQuiet (t ∷ back) → AreInside 0 (t ∷ back) 0
+    → MayOpen o e → takes_node g ≡ true → (o ≡ opening.BlockMappingAndKey → IsPast g true t.span.start.line)
+    → AreQuiet (t ∷ back) → AreInside 0 (t ∷ back) 0
     → AreInPlace (with_begun g (free e outside)) (t ∷ back) → Opened o t back g (free e outside)
 opened_in_place opening.Nothing t back g e outside m f l q h k = absurd m
 opened_in_place opening.Key t back g e outside m f l q h k =
@@ -103,7 +105,7 @@ opened_in_place opening.BlockMappingAndKey t back g e outside m f l q h k =
     let all = awaiting_colon t.span.start (begun_at place.BlockMapping t.span.start.col (free e outside)) in
     let r = node_carried t back g all.begun (free e outside) all refl q h k in
     let no = no_text t.span.start.index in
-    let start = past_follows g (empty_piece t.span.start tokens.BlockMappingStart).span f l in
+    let start = past_follows g (empty_piece t.span.start tokens.BlockMappingStart).span f (l refl) in
     record {
       last = r.last;
       before = r.before;

@@ -1,14 +1,16 @@
 -- Candidates stay so where something comes before a token.
 use Rattle.saphyr_scanner.proofs.Common.{◌≡◌, ℕ, zero, suc, ◌+◌, ◌-◌, ◌≤◌, ◌<◌, Bool, true, false, List, [], ◌∷◌, ◌++◌, length, drop, Option, Some, None, refl, sym, ap, ◌∙◌, arith, subst, nat_lt, Marker, Cursor, Opening, Piece, ltb-false}
+use Rattle.saphyr_scanner.specs.declared.queue.Opening.TheVariants as opening
 use Rattle.saphyr_scanner.specs.Steps.Queue.{Place, Queue, bare_place, places_with_opening, with_opening}
-use Rattle.saphyr_scanner.specs.Steps.Core.{Core}
+use Rattle.saphyr_scanner.specs.Steps.Core.{Core, in_block}
 use Rattle.saphyr_scanner.specs.Steps.Level.{Candidate, Level, is_block}
-use Rattle.saphyr_scanner.specs.TokensInPlace.{Enclosure, Enclosures, may_stand, AreInPlace, is_indented, AreIndented, Begun, with_begun}
+use Rattle.saphyr_scanner.specs.TokensInPlace.{Enclosure, Enclosures, may_stand, AreInPlace, is_indented, AreIndented, Begun, with_begun, OtherFront, AreBare}
 use Rattle.saphyr_scanner.specs.TokensTaken.{Collections, AreApart, AreTokens, least_column_in, IsAtColumn}
 use Rattle.saphyr_scanner.proofs.Leads.{flat, place_pieces}
 use Rattle.saphyr_scanner.proofs.Taken.InPlace.{all_behind, behind_append, each_append, each_parts, AreInside, inside_append, inside_parts, inside_shift, node_carried, node_taken}
 use Rattle.saphyr_scanner.proofs.Taken.KeysInPlace.{awaited, MayOpen, Outside, free, opened_in_place, calm, IsPast, EndsOn}
 use Rattle.saphyr_scanner.proofs.Taken.Indented.{IsRight, root_key, OpensKey, indented_open}
+use Rattle.saphyr_scanner.proofs.Taken.Bare.{fronts, fronts_append, bare_append, bare_parts, bare_opened, agrees_all, IsEntry}
 use Rattle.saphyr_scanner.proofs.Taken.Later.{top, apart_later}
 use Rattle.saphyr_scanner.proofs.Taken.Parts.{open_all, open_append, AreQuiet, quiet_columns, same_brackets, with_opening_there, with_opening_behind, opens_block, column_of, place_tokens, place_open, EndsOnLine}
 use Rattle.saphyr_scanner.proofs.Queues.{flat_append, place_with_front}
@@ -129,7 +131,8 @@ calm_awaited : (o : Opening) (m : Marker) (e : Enclosure) (outside : Outside) (l
 calm_awaited o m e outside last h = grind arith
 
 place_in_place : (e : Enclosure) (outside : Outside) (all : Enclosures) (o : Opening) (front : List Place)
-    (t : Piece) (back : List Place) → MayOpen o e → IsPast (all_behind (flat front) all).begun t.span.start.line
+    (t : Piece) (back : List Place) → MayOpen o e
+    → (o ≡ opening.BlockMappingAndKey → IsPast (all_behind (flat front) all).begun true t.span.start.line)
     → AreQuiet (t ∷ flat back) → AreInside 0 (t ∷ flat back) 0 → AreInPlace all (flat (front ++ bare_place t ∷ back))
     → calm (all_behind (flat (front ++ bare_place t ∷ back)) all) ≡ free e outside
     → InPlaceOpened e outside all o front t back
@@ -163,6 +166,9 @@ place_in_place e outside all o front t back m past quiet inside h i =
           (subst (λ x. AreIndented x (place_pieces o t ++ flat back)) (sym here) now.indented));
     }
 
+no_nothing : (o : Opening) (e : Enclosure) → o ≡ opening.Nothing → MayOpen o e → ⊥
+no_nothing o e g m = grind arith
+
 column_ends_json : (o : Opening) (column : ℕ) (opened : Collections)
     → (column_of o column opened).ends_json ≡ opened.ends_json
 column_ends_json o column opened = grind arith
@@ -171,6 +177,7 @@ column_ends_json o column opened = grind arith
 pub taken_open : (e : Enclosure) (outside : Outside) (opened : Setting) (from : Cursor) (c d : Core) (q : Queue)
     (b : ℕ) (block : Bool) (k : Candidate)
     (o : Opening) → Key opened.enclosures 0 b q block c.indent k → (opens_block o ≡ true → block ≡ true)
+    → (o ≡ opening.FlowMappingAndKey → block ≡ false) → in_block c ≡ block → in_block d ≡ block
     → (opens_block o ≡ true → EndsOnLine k.mark c.cursor)
     → (opens_block o ≡ true → c.indent ≤ k.mark.col) → (opens_block o ≡ false → block ≡ true → k.mark.col < c.indent)
     → (block ≡ false → 0 < length c.outer) → MayOpen o e → d.cursor ≡ c.cursor → d.key_allowed ≡ c.key_allowed
@@ -178,7 +185,7 @@ pub taken_open : (e : Enclosure) (outside : Outside) (opened : Setting) (from : 
     → ((open_now : Collections) → Stands open_now c → Stands (column_of o k.mark.col open_now) d)
     → (IsRight c → IsRight d) → OpensKey c d k → TakenWithin (free e outside) opened from c q
     → TakenWithin (awaited o k.mark (free e outside)) opened from d (with_opening k.place o q)
-taken_open e outside opened from c d q b block k o x f near right left outer m there allowed levels stays s on opens h =
+taken_open e outside opened from c d q b block k o x f flow before behind near right left outer m there allowed levels stays s on opens h =
     let n : k.place - q.handed ≡ length x.front = omega (arith, x.at) in
     let now : (with_opening k.place o q).places ≡ x.front ++ place_with_front o x.token ∷ x.back =
     cc (with_opening_there o x.front (bare_place x.token) x.back) in
@@ -224,9 +231,22 @@ taken_open e outside opened from c d q b block k o x f near right left outer m t
     ≡ column_of o k.mark.col (open_all (flat (x.front ++ bare_place x.token ∷ x.back)) opened.collections) =
     place_open opened.collections o x.front x.token x.back quiet
     ∙ ap (λ j. column_of o j (open_all (flat (x.front ++ bare_place x.token ∷ x.back)) opened.collections)) column in
-    let past = subst (λ (j : Marker). IsPast (all_behind (flat x.front) opened.enclosures).begun j.line) (sym x.marked)
-    x.past in
-    let places = place_in_place e outside opened.enclosures o x.front x.token x.back m past x.quiet x.inside
+    let now_begun = (all_behind (flat x.front) opened.enclosures).begun in
+    let past : (y : Bool) → block ≡ y → IsPast now_begun y x.token.span.start.line = λ y g.
+    subst (λ z. IsPast now_begun z x.token.span.start.line) g
+    (subst (λ (j : Marker). IsPast now_begun block j.line) (sym x.marked) x.past) in
+    let bare_before = bare_parts (flat x.front) (x.token ∷ flat x.back) opened.front
+    (subst (AreBare opened.front) (ap flat x.places ∙ flat_append x.front (bare_place x.token ∷ x.back)) h.bare) in
+    let bare_now = bare_opened o x.token (flat x.back) (fronts (flat x.front) opened.front) now_begun
+    x.token.span.start.line (λ g. no_nothing o e g m) (λ g. past false (flow g))
+    (agrees_all (flat x.front) opened.front opened.enclosures h.agrees) x.inside bare_before.1 in
+    let pieces : flat (with_opening k.place o q).places ≡ flat x.front ++ (place_pieces o x.token ++ flat x.back) =
+    ap flat now ∙ flat_append x.front (place_with_front o x.token ∷ x.back) in
+    let front : fronts (flat (with_opening k.place o q).places) opened.front ≡ OtherFront =
+    ap (λ l. fronts l opened.front) pieces
+    ∙ fronts_append (flat x.front) (place_pieces o x.token ++ flat x.back) opened.front ∙ bare_now.ends in
+    let places = place_in_place e outside opened.enclosures o x.front x.token x.back m
+    (λ g. past true (f (ap opens_block g))) x.quiet x.inside
     (subst (λ l. AreInPlace opened.enclosures (flat l)) x.places h.in_place)
     (ap (λ l. calm (all_behind (flat l) opened.enclosures)) (sym x.places) ∙ h.encloses) in
     let begun : (all_behind (flat (with_opening k.place o q).places) opened.enclosures).begun
@@ -255,7 +275,14 @@ taken_open e outside opened from c d q b block k o x f near right left outer m t
           (let line = ap (λ (u : Cursor). u.mark.line) there in omega (arith, line)) opens h.indented;
       right = on h.right;
       ends = subst (λ g. EndsOn g h.last.mark.line) (sym begun) h.ends;
-      past = λ i small. subst (λ g. IsPast g d.cursor.mark.line) (sym begun) (subst
-          (λ (u : Cursor). IsPast (all_behind (flat q.places) opened.enclosures).begun u.mark.line) (sym there)
-          (h.past (sym allowed ∙ i) (subst (λ (u : Cursor). u.mark.line < top) there small)));
+      past = λ i small. subst (λ g. IsPast g (in_block d) d.cursor.mark.line) (sym begun) (subst
+          (λ (u : Cursor). IsPast (all_behind (flat q.places) opened.enclosures).begun (in_block d) u.mark.line)
+          (sym there) (subst
+          (λ z. IsPast (all_behind (flat q.places) opened.enclosures).begun z c.cursor.mark.line)
+          (before ∙ sym behind)
+          (h.past (sym allowed ∙ i) (subst (λ (u : Cursor). u.mark.line < top) there small))));
+      bare = subst (AreBare opened.front) (sym pieces) (bare_append (flat x.front)
+          (place_pieces o x.token ++ flat x.back) opened.front bare_before.0 bare_now.bare);
+      agrees = h.agrees;
+      entry = subst (λ y. IsEntry y d) (sym front) tt;
     }

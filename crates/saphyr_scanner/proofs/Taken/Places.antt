@@ -144,15 +144,15 @@ token_takes : (i : Surroundings) (kind : Kind) (span : Span) (s t : Cursor) → 
 token_takes i tokens.StreamStart span s t h = nothing span s t (λ e. ((λ x. refl), λ b. rw e refl)) h.1
 token_takes i tokens.StreamEnd span s t h = nothing span s t (λ e. ((λ x. refl), λ b. rw e refl)) h.1
 token_takes i (tokens.VersionDirective major minor) span s t h = line h.0 span s t
-    (directive_no_break (version major minor) h.0 h.4) (λ e. ((λ x. refl), λ b. rw e refl)) h.5
+    (directive_no_break (version major minor) h.0 h.2) (λ e. ((λ x. refl), λ b. rw e refl)) h.3
 token_takes i (tokens.TagDirective handle prefix) span s t h = line h.0 span s t
-    (directive_no_break (tag_prefix handle prefix) h.0 h.4) (λ e. ((λ x. refl), λ b. rw e refl)) h.5
+    (directive_no_break (tag_prefix handle prefix) h.0 h.2) (λ e. ((λ x. refl), λ b. rw e refl)) h.3
 token_takes i (tokens.ReservedDirective name) span s t h = line h.0 span s t
-    (directive_no_break (reserved name) h.0 h.4) (λ e. ((λ x. refl), λ b. rw e refl)) h.5
+    (directive_no_break (reserved name) h.0 h.2) (λ e. ((λ x. refl), λ b. rw e refl)) h.3
 token_takes i tokens.DocumentStart span s t h =
     line _ span s t (refl, (refl, (refl, tt))) (λ e. ((λ x. refl), λ b. rw e refl)) h.2
 token_takes i tokens.DocumentEnd span s t h =
-    line _ span s t (refl, (refl, (refl, tt))) (λ e. ((λ x. refl), λ b. rw e refl)) h.2
+    line _ span s t (refl, (refl, (refl, tt))) (λ e. ((λ x. refl), λ b. rw e refl)) h.0.2
 token_takes i tokens.ByteOrderMark span s t h = mark span s t h
 token_takes i tokens.BlockSequenceStart span s t h =
     nothing span s t (λ e. ((λ x. refl), λ b. rw e refl)) (h.0, inl h.1, h.2)

@@ -14,11 +14,12 @@ use Rattle.saphyr_scanner.proofs.Leads.{flat, place_pieces}
 use Rattle.saphyr_scanner.proofs.Effects.Readers.{Readers, TextLaws, RefusalLaws}
 use Rattle.saphyr_scanner.proofs.Taken.Later.{LaterThan, later_here, later_later}
 use Rattle.saphyr_scanner.proofs.Taken.Parts.{open_append, tokens_append, tokens_part}
+use Rattle.saphyr_scanner.proofs.Taken.Bare.{bare_parts, fronts_append, agrees_all, IsEntry}
 use Rattle.saphyr_scanner.proofs.Taken.Held.{Setting, setting_behind}
 use Rattle.saphyr_scanner.proofs.Taken.Keys.{Key, KeyOf, lower, KeysFrom, keys_weaken}
 use Rattle.saphyr_scanner.proofs.Taken.InPlace.{all_behind, behind_append, each_parts}
 use Rattle.saphyr_scanner.proofs.Taken.KeysInPlace.{calm, IsPast}
-use Rattle.saphyr_scanner.specs.TokensInPlace.{Enclosures, may_stand, not_enclosed, AreInPlace, AreIndented}
+use Rattle.saphyr_scanner.specs.TokensInPlace.{Enclosures, may_stand, not_enclosed, AreInPlace, AreIndented, OtherFront, AreBare}
 use Rattle.saphyr_scanner.proofs.Taken.Indented.{root_key, indented_handed}
 use Rattle.saphyr_scanner.proofs.Taken.Fetch.{Read, Ready, settled_ready, read_ready}
 use Rattle.saphyr_scanner.proofs.Taken.Places.{Reaches, reaches_reaches, place_of, tokens_reached, tokens_later}
@@ -38,7 +39,7 @@ key_handed all d b n p ps block i (Some k) e x = by x.front x.places x.at x.past
     first w ws front f = sym (ap (λ l. elim l [ [] ↦ p | y ∷ ys ↦ y ]) f)
 
     by : (front : List Place) → p ∷ ps ≡ front ++ bare_place x.token ∷ x.back → k.place ≡ n + length front
-        → IsPast (all_behind (flat front) all).begun k.mark.line
+        → IsPast (all_behind (flat front) all).begun block k.mark.line
         → Key (all_behind (place_pieces p.opening p.piece) all) d b (record { places = ps; handed = n + 1 }) block i k
     by [] f at past =
         let same : k.place ≡ n = omega (arith, at) in
@@ -56,7 +57,7 @@ key_handed all d b n p ps block i (Some k) e x = by x.front x.places x.at x.past
       deep = x.deep;
       inside = x.inside;
       past =
-          let P : Enclosures → Type 0 = λ y. IsPast y.begun k.mark.line in
+          let P : Enclosures → Type 0 = λ y. IsPast y.begun block k.mark.line in
           rw (first w ws (bare_place x.token ∷ x.back) f) at (subst P
           (behind_append (place_pieces w.opening w.piece) (flat ws) all) past);
     }
@@ -99,6 +100,7 @@ record Left (text : List ℕ) (opened : Setting) (from : Cursor) (c : Core) (p :
   tokens : AreTokens opened.collections (place_pieces p.opening p.piece) from between
   in_place : AreInPlace opened.enclosures (place_pieces p.opening p.piece)
   indented : AreIndented opened.enclosures (place_pieces p.opening p.piece)
+  bare : AreBare opened.front (place_pieces p.opening p.piece)
   later : From text between
   ready : Ready (setting_behind (place_pieces p.opening p.piece) opened) between (holding c ps (n + 1))
 
@@ -109,6 +111,7 @@ one_left text opened from c p ps n l h e =
     let ts = place_pieces p.opening p.piece in
     let r = tokens_part opened.collections ts (flat ps) from h.taken.last h.taken.tokens in
     let w = each_parts may_stand ts (flat ps) opened.enclosures h.taken.in_place in
+    let b = bare_parts ts (flat ps) opened.front h.taken.bare in
     let further = tokens_later opened.collections ts from r.between r.front in
     let same = behind_append ts (flat ps) opened.enclosures in
     let reached = tokens_reached opened.collections ts from r.between r.front in
@@ -119,6 +122,7 @@ one_left text opened from c p ps n l h e =
       tokens = r.front;
       in_place = w.0;
       indented = i.0;
+      bare = b.0;
       later = (
         later_later (start_cursor text).mark text from.mark from.rest r.between.mark r.between.rest l.0 further,
         reaches_reaches (start_cursor text) from r.between l.1 reached,
@@ -134,6 +138,9 @@ one_left text opened from c p ps n l h e =
           small = (further.lines h.taken.small).1;
           ends = rw same at h.taken.ends;
           past = λ a small. rw same at (h.taken.past a small);
+          bare = b.1;
+          agrees = agrees_all ts opened.front opened.enclosures h.taken.agrees;
+          entry = subst (λ f. IsEntry f c) (fronts_append ts (flat ps) opened.front) h.taken.entry;
           indented = i.1;
           right = h.taken.right;
           place = rw (open_append ts (flat ps) opened.collections) at h.taken.place;
@@ -154,15 +161,15 @@ one_left text opened from c p ps n l h e =
 abbrev FollowsTaken : List ℕ → Setting → Cursor → Remaining → Type 0
 FollowsTaken text opened from r =
     (end : Cursor) × AreTokens opened.collections r.pieces from end × AreInPlace opened.enclosures r.pieces
-    × AreIndented opened.enclosures r.pieces
+    × AreIndented opened.enclosures r.pieces × AreBare opened.front r.pieces
     × (r.refusal ≡ None → end.rest ≡ []) × ((e : Refusal) → r.refusal ≡ Some e → IsPlaceOf text e.mark)
 
 place_follows : (text : List ℕ) (opened : Setting) (from between : Cursor) (o : Opening) (t : Piece) (r : Remaining)
     → AreTokens opened.collections (place_pieces o t) from between → AreInPlace opened.enclosures (place_pieces o t)
-    → AreIndented opened.enclosures (place_pieces o t)
+    → AreIndented opened.enclosures (place_pieces o t) → AreBare opened.front (place_pieces o t)
     → FollowsTaken text (setting_behind (place_pieces o t) opened) between r
     → FollowsTaken text opened from (before_place o t r)
-place_follows text opened from between o t r h i j k = grind arith
+place_follows text opened from between u0 t r h i j b k = grind arith
 
 handed_follow : (text : List ℕ) (go : State → Remaining) (c : Core)
     → ((opened : Setting) (from : Cursor) (n : ℕ) (ps : List Place) → From text from → (c.ended ≡ true → ps ≡ [])
@@ -174,7 +181,7 @@ handed_follow text go c others opened from n (p ∷ ps) l h =
     by_test (needs_token (holding c (p ∷ ps) n)) _ _ (FollowsTaken text opened from)
     (λ e. others opened from n (p ∷ ps) l (λ f. absurd (let g = going c.ended _ e in cc)) h) (λ e.
     let w = one_left text opened from c p ps n l h e in
-    place_follows text opened from w.between p.opening p.piece _ w.tokens w.in_place w.indented
+    place_follows text opened from w.between p.opening p.piece _ w.tokens w.in_place w.indented w.bare
     (handed_follow text go c others (setting_behind (place_pieces p.opening p.piece) opened) w.between (n + 1) ps
     w.later w.ready))
 
@@ -183,7 +190,7 @@ delivers_taken : (text : List ℕ) (opened : Setting) (from : Cursor) (r : Resul
     → ((e : Refusal) → r ≡ Err e → IsPlaceOf text e.mark) → FollowsTaken text opened from (remaining_after r go)
 delivers_taken text opened from (Ok t) go h k = h t refl
 delivers_taken text opened from (Err e) go h k =
-    (from, refl, tt, tt, (λ i. absurd (cc)), (λ f i. k f (let same : e ≡ f = cc in ap (λ (x : Refusal). Err x) same)))
+    (from, refl, tt, tt, tt, (λ i. absurd (cc)), (λ f i. k f (let same : e ≡ f = cc in ap (λ (x : Refusal). Err x) same)))
 
 -- the laws of the readers
 pub record AllLaws : Type 0 where
@@ -200,7 +207,7 @@ run_follows laws text small limit (suc fuel) opened from s l f h m = handed_foll
     let r = fetch_within limit t >>= without_far_key in
     by_test t.core.ended _ _ (FollowsTaken text cs u)
     (λ e. let P : List Place → Type 0 = λ qs. AreTokens cs.collections (flat qs) u u in
-    (u, refl, tt, tt, (λ _. w.over e u (subst P (sym (over e)) refl)), (λ f i. absurd (cc))))
+    (u, refl, tt, tt, tt, (λ _. w.over e u (subst P (sym (over e)) refl)), (λ f i. absurd (cc))))
     (λ e. let known = read_holds laws.texts laws.refusals text small limit cs u t k.0 k.1 e w m in
     delivers_taken text cs u r (run fuel limit)
     (λ v q. let less = (given_of (Fetched t) r v (read_fetched limit t e) q).smaller laws.readers in
@@ -212,7 +219,7 @@ run_follows laws text small limit (suc fuel) opened from s l f h m = handed_foll
 
 -- where a text begins
 abbrev outset : Setting
-outset = record { collections = no_collections; enclosures = not_enclosed }
+outset = record { collections = no_collections; enclosures = not_enclosed; front = OtherFront }
 
 start_read : (text : List ℕ) → Read outset (start_cursor text) (start text)
 start_read text = record {
@@ -227,6 +234,9 @@ start_read text = record {
       small = omega arith;
       ends = tt;
       past = λ _ _. tt;
+      bare = tt;
+      agrees = tt;
+      entry = tt;
       indented = record { free = λ _. tt; waits = λ e. absurd (cc) };
       right = λ _ e. absurd (cc);
       place = (omega arith, λ _ some. absurd (omega (arith, some)));
@@ -256,7 +266,7 @@ scan_follows laws limit text small =
 pub scan_taken : AllLaws → (limit : ℕ) (text : List ℕ) → length text < 2 ^ 63 → AreTakenFrom text (scan limit text)
 scan_taken laws limit text small =
     let h = scan_follows laws limit text small in
-    (h.0, h.1, h.2, h.3, by (scan limit text).refusal h.0 h.4 h.5)
+    (h.0, h.1, h.2, h.3, h.4, by (scan limit text).refusal h.0 h.5 h.6)
   where
     by : (o : Option Refusal) (end : Cursor) → (o ≡ None → end.rest ≡ [])
         → ((e : Refusal) → o ≡ Some e → IsPlaceOf text e.mark) → IsEndOf text o end

@@ -148,7 +148,8 @@ saved_indented opened from c d r q t s root same arrival starts past h line k = 
 pub saved_keys : (all : Enclosures) (e : ℕ) (c : Core) (q : Queue) (t : Piece) (d : Core) → is_quiet t.kind ≡ true
     → IsTrue (is_of_flow_node t.kind t.span) → deeper t.kind t.span 0 ≡ e → LeadsDeeper t (c.level ∷ c.outer) 0 e
     → Begins t → t.span.start ≡ c.cursor.mark → (in_block c ≡ true → c.indent ≤ c.cursor.mark.col + 1)
-    → Saved (next q) c d → (c.key_allowed ≡ true → IsPast (all_behind (flat q.places) all).begun c.cursor.mark.line)
+    → Saved (next q) c d → (c.key_allowed ≡ true
+    → IsPast (all_behind (flat q.places) all).begun (in_block c) c.cursor.mark.line)
     → Keys all (next q) q c.indent (c.level ∷ c.outer)
     → KeysFrom all e (next (with_piece t q)) (with_piece t q) d.indent (d.level ∷ d.outer)
 saved_keys all e c q t d quiet node depth leads b m deep s past h = by s.level
@@ -214,10 +215,11 @@ key_known all b q block i o k ls e x y = grind arith
 -- a key alone, or in flow with its mapping
 pub open_quiet : (e : Enclosure) (outside : Outside) (opened : Setting) (from : Cursor) (c : Core) (q : Queue)
     (k : Candidate) (o : Opening)
-    → opens_block o ≡ false → MayOpen o e → (in_block c ≡ true → k.mark.col < c.indent) → c.level.key ≡ Some k
+    → opens_block o ≡ false → (o ≡ opening.FlowMappingAndKey → in_block c ≡ false) → MayOpen o e
+    → (in_block c ≡ true → k.mark.col < c.indent) → c.level.key ≡ Some k
     → HoldsWithin (free e outside) opened from c q
     → HoldsWithin (awaited o k.mark (free e outside)) opened from (forget_key c) (with_opening k.place o q)
-open_quiet e outside opened from c q k o f m left is h =
+open_quiet e outside opened from c q k o f flow m left is h =
     let known = key_known opened.enclosures (next q) q (is_block c.level.context) c.indent c.level.key k c.outer is
     h.keys.1 h.keys.2 in
     let key = known.0 in
@@ -225,7 +227,7 @@ open_quiet e outside opened from c q k o f m left is h =
     let r = with_opening k.place o q in
     record {
       taken = taken_open e outside opened from c (forget_key c) q (next q) (is_block c.level.context) k o key
-          (λ g. absurd (cc)) (λ g. absurd (cc)) (λ g. absurd (cc)) (λ _ g. left g)
+          (λ g. absurd (cc)) flow refl refl (λ g. absurd (cc)) (λ g. absurd (cc)) (λ _ g. left g)
           (λ g. some_outer c.outer (sym h.keys.0 ∙ g)) m
           refl refl refl refl (λ l s. rw (quiet_column o k.mark.col l f) s) (λ right. right)
           (by (in_block c) refl known.1) h.taken;
@@ -270,7 +272,8 @@ open_loud e outside opened from c q k b may near right other is h =
     record {
       taken = taken_open e outside opened from c d q (next q) (is_block c.level.context) k opening.BlockMappingAndKey
           known.0
-          (λ f. b) (λ f. near) (λ f. right) (λ f. absurd (cc)) (λ f. absurd (cc)) may refl refl refl refl
+          (λ f. b) (λ f. absurd (cc)) refl refl (λ f. near) (λ f. right) (λ f. absurd (cc)) (λ f. absurd (cc)) may
+          refl refl refl refl
           (λ l s. ((refl, s.0), s.1)) (λ _ _ _ _. inr other)
           (inl (own_key c (outermost (free e outside) opened from c q h b) ∙ is, rw b refl)) h.taken;
       keys = no_keys opened.enclosures (next r) r d.indent d.level d.outer refl

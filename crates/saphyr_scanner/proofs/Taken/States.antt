@@ -20,6 +20,7 @@ use Rattle.saphyr_scanner.proofs.Leads.{flat}
 use Rattle.saphyr_scanner.proofs.Taken.Later.{top, Later, LaterThan, later_later, apart_later}
 use Rattle.saphyr_scanner.proofs.Taken.Places.{token_later, tokens_later}
 use Rattle.saphyr_scanner.proofs.Taken.Parts.{tokens_part}
+use Rattle.saphyr_scanner.proofs.Taken.Bare.{plain_fronts, entry_same}
 use Rattle.saphyr_scanner.proofs.Taken.Held.{Stack, stands_same, enclosures_of, Setting, Taken, taken_within, taken_further, unbound_parted, taken_put}
 use Rattle.saphyr_scanner.proofs.Taken.Indented.{IsRight, IsPastLine, KeepsRequired, no_node_fits, indented_put}
 use Rattle.saphyr_scanner.proofs.Taken.Keys.{Key, Keys, IsArrival}
@@ -182,7 +183,7 @@ block_fetched laws text small opened from q style c d l s stays allowed arrival 
           (taken_put (enclosures_of c) opened from c e2 q piece c.cursor x.2 (taken.nothing _ _)
           (λ i _. rw none (block_token style c.indent i x.0 x.1 c.cursor x.2 is)) (taken.nothing _ _)
           (λ cs k. stands_same cs c e2 s.indent s.outer_indents (ap length s.outer) k) (inl stays) refl
-          (unbound_parted piece c e2 (rw (no_flow_style style) refl)) (λ _ f. absurd (cc))
+          (unbound_parted piece c e2 (rw (no_flow_style style) refl) (plain_fronts piece c e2 refl)) (λ _ f. absurd (cc))
           (saved_indented opened from c d e2 q piece s refl refl arrival
           (λ n. absurd (let f = no_flow_style style in cc)) (λ _ _ _. p.line arrival.2) h) h.taken);
       live = λ _. elim (p.line arrival.2) [ inl less ↦ by d.level.key refl less | inr z ↦ inl (λ nz. absurd (cc)) ];
@@ -256,7 +257,8 @@ block_taken opened from column m s e p h =
       outer_indent_stack s.core.outer_indents x.columns s.core k.0,
       k.1 ∙ sym (ap length (outer_indent_levels s.core.outer_indents s.core).outer),
     )) (inl (outer_indent_stays s.core.outer_indents s.core)) refl
-    (unbound_parted (empty_piece m tokens.BlockEnd) s.core (end_block m s).core refl)
+    (unbound_parted (empty_piece m tokens.BlockEnd) s.core (end_block m s).core refl
+    (plain_fronts (empty_piece m tokens.BlockEnd) s.core (end_block m s).core refl))
     (block_ends_right column m s.core.outer_indents s.core e p h.right)
     (indented_put opened.enclosures s.core (end_block m s).core s.queue (empty_piece m tokens.BlockEnd)
     (no_node_fits opened.enclosures s.queue (empty_piece m tokens.BlockEnd) refl)
@@ -277,11 +279,19 @@ go_less_deep_taken : (opened : Setting) (from : Cursor) (column : Option ℕ) (s
     → TakenState opened from (with_core (go_less_deep column s.core) s)
 go_less_deep_taken opened from None s h =
     taken_further (enclosures_of s.core) opened from s.core (go_less_deep None s.core) s.queue
-    (taken.nothing _ _) refl refl refl refl ((λ a. inl a), λ k. k)
+    (taken.nothing _ _) refl refl refl refl (
+      (λ a. inl a),
+      (λ k. k),
+      entry_same s.core (go_less_deep None s.core) refl (λ a. a) (taken.nothing _ _),
+    )
     (record { required = refl; root = λ _. refl; block = refl }) h
 go_less_deep_taken opened from (Some column) s h =
     taken_further (enclosures_of s.core) opened from s.core (go_less_deep (Some column) s.core) s.queue
-    (taken.nothing _ _) refl refl refl refl ((λ a. inl a), λ k. k)
+    (taken.nothing _ _) refl refl refl refl (
+      (λ a. inl a),
+      (λ k. k),
+      entry_same s.core (go_less_deep (Some column) s.core) refl (λ a. a) (taken.nothing _ _),
+    )
     (record { required = refl; root = λ _. refl; block = refl }) h
 
 pub unroll_taken : (opened : Setting) (from : Cursor) (column : Option ℕ) (m : Marker) (s : State)

@@ -57,5 +57,5 @@ returns c =
       refusal = λ limit text small e is.
           let h = taken limit text small in
           let P : Option Refusal → Type 0 = λ o. IsEndOf text o h.0 in
-          subst P is h.4;
+          subst P is h.5;
     }
