@@ -762,8 +762,8 @@ class Search:
                     yield from self.closed(emitted + others, u, broken | more, "-DOC")
 
     def ends_document(self, place, parts, directives):
-        """Whether a document of these parts may end at a place: a token is behind it, and if the document is left out or
-        has properties alone, one that doesn't go on with its node."""
+        """Whether a document of these parts may end at a place: a token is behind it, and if the document is left out
+        or has properties alone, one that doesn't go on with its node."""
         root = parts[0] if len(parts) == 1 else None
         if isinstance(root, Leaf) and (root.style, root.value) == ("plain", ""):
             return self.is_unused(place, root, directives)

@@ -211,7 +211,8 @@ key_does c deep first second =
     (λ d g. at_most (omega arith) (and_then (λ n. n)
     (block_begins (enclosure_of c.level.context) c _ tokens.BlockMappingStart place.BlockMapping
     (λ i. absurd (cc)) (λ p. refl) refl (allowed_in (in_block c) c.key_allowed w (further_block s.mark.col c f))
-    (λ a. a.2) (λ yes. absurd (let no = same_free (in_block c) (in_block r) c.required (question_block c.level.context) g.3 in
+    (λ a. a.2)
+    (λ yes. absurd (let no = same_free (in_block c) (in_block r) c.required (question_block c.level.context) g.3 in
     let b = further_block s.mark.col c f in cc)) (λ yes. absurd (let b = further_block s.mark.col c f in cc))
     (λ p. refl) (λ i p u t h. h) (λ j y. refl) (λ p all. refl) (λ p columns. refl)
     (further_block s.mark.col c f) (further_right s.mark.col c f) (ap taken.begins_text first)) (and_then (λ n. n)

@@ -115,8 +115,8 @@ abbrev pub setting_behind : List Piece → Setting → Setting
 setting_behind ps opened =
     record { collections = open_all ps opened.collections; enclosures = all_behind ps opened.enclosures }
 
--- The tokens are taken from the text, and what encloses the next token is known. Where properties or content are last no
--- key may begin on their line.
+-- The tokens are taken from the text, and what encloses the next token is known. Where properties or content are last
+-- no key may begin on their line.
 pub record TakenWithin (within : Enclosures) (opened : Setting) (from : Cursor) (c : Core) (q : Queue) : Type 0 where
   pub last : Cursor
   pub tokens : AreTokens opened.collections (flat q.places) from last
