@@ -27,7 +27,8 @@ lists are counted under `of YAML`.
 
 A list that a fault ends may end anywhere, and differ from the parser's before. What matters most is counted: whole
 documents, from the text's start, that are given before a fault, and that the parser doesn't give. The definitions take
-some of them: the ends of its collections are in the text, but a scalar that is a key may be one.
+some of them: the ends of its collections are in the text, and a token behind it, but it may be a word of a longer plain
+scalar, or empty before a token that begins no node.
 
 With `--cases` what the files of test_cases store, or FILEs like them, is held against the definitions, for texts of up
 to 700 characters: each answer without a fault has to be taken from its text. One that a fault ends has to begin so, but
@@ -778,7 +779,7 @@ class Search:
         if is_free:
             for emitted, t in self.emit(place, Document("+DOC", False, ())):
                 for others, u, broken in self.node(t, IN_BLOCK, ROOT):
-                    if self.is_followed(u):
+                    if self.ends_document(u, others, ()):
                         yield from self.closed(emitted + others, u, broken, "-DOC")
         for directives, t, broken in self.directives(place) if is_free else [((), place, 0)]:
             if len({handle for handle, _ in directives}) == len(directives):
@@ -788,8 +789,16 @@ class Search:
     def explicit_document(self, place, directives, broken):
         for emitted, t in self.emit(place, Document("+DOC", True, directives)):
             for others, u, more in self.optional(t, IN_BLOCK, ROOT):
-                if self.is_unused(u, directives) if u.index == t.index else self.is_followed(u):
+                if self.ends_document(u, others, directives):
                     yield from self.closed(emitted + others, u, broken | more, "-DOC")
+
+    def ends_document(self, place, parts, directives):
+        """Whether a document of these parts may end at a place: a token is behind it, and if the document is left out
+        or has properties alone, one that doesn't go on with its node."""
+        root = parts[0] if len(parts) == 1 else None
+        if isinstance(root, Leaf) and (root.style, root.value) == ("plain", ""):
+            return self.is_unused(place, root, directives)
+        return self.is_followed(place)
 
     def is_without_content(self, here):
         """Whether the text ends here, or a marker or a byte order mark is here."""
@@ -808,12 +817,14 @@ class Search:
                   self.block_scalar_tokens(here, IN_BLOCK, ROOT) if c in "|>" else ())
         return (here.col > 0 or c != "%") and (begins_line or any(True for _ in itertools.chain(*tokens)))
 
-    def is_unused(self, place, directives):
-        """The same of a document without content. A forest with events has no other token there (BeginsEachForest)."""
+    def is_unused(self, place, root, directives):
+        """Whether the token behind such a document is none with which a forest that has events goes on
+        (BeginsEachForest)."""
         here = self.apart(place)
-        handles = {handle for (handle, _), _ in self.tag_tokens(here, IN_BLOCK)}
-        others = self.at(here.index) == "," or any(True for _ in self.name_tokens(here, "*"))
-        return self.is_without_content(here) or others or bool(handles - {"", "!", "!!", *dict(directives)})
+        known = () if root.tag else ("", "!", "!!", *dict(directives))
+        has_tag = any(handle not in known for (handle, _), _ in self.tag_tokens(here, IN_BLOCK))
+        names = [name for c in "*&"[:2 if root.anchor else 1] for name in self.name_tokens(here, c)]
+        return self.is_without_content(here) or self.at(here.index) == "," or has_tag or bool(names)
 
     @way
     def directives(self, place):

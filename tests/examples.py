@@ -207,7 +207,9 @@ WRONG = [
 ]
 
 # A document that may come first, before a fault: another token is behind it.
-FIRST = [("a\n: [", "=VAL :a"), ('"a" b', '=VAL "a'), ("|\n a\n: [", "=VAL |a\\n"), ("--- ,", "+DOC --- / =VAL : / -DOC")]
+FIRST = [
+    ("a\n: [", "=VAL :a"), ('"a" b', '=VAL "a'), ("|\n a\n: [", "=VAL |a\\n"), ("--- ,", "+DOC --- / =VAL : / -DOC"),
+]
 
 # One that may not.
 TOO_EARLY = [
@@ -257,8 +259,8 @@ def wrong_rows():
                 if not derived(text, recognizer.ALL - set(names.split(" "))))
     yield from (f"{text!r} is left out by an exception" for text in REFUSED if derived(text, frozenset()))
     yield from (f"{answer!r} is taken from {text!r}" for text, answer in WRONG + KEPT if is_taken(text, answer))
-    yield from (f"{answer!r} may not come first in {text!r}" for text, answer in FIRST if not may_come_first(text, answer))
-    yield from (f"{answer!r} may come first in {text!r}" for text, answer in TOO_EARLY if may_come_first(text, answer))
+    yield from (f"{answer!r} may not begin {text!r}" for text, answer in FIRST if not may_come_first(text, answer))
+    yield from (f"{answer!r} may begin {text!r}" for text, answer in TOO_EARLY if may_come_first(text, answer))
 
 
 def main():

@@ -95,7 +95,8 @@ elsewhere g (tokens.Anchor name) b span s t more on at col e blank h p =
     other_first 38 more _ (sym e ∙ h.3.is) (λ x. omega (arith, x))
 elsewhere g (tokens.Tag handle suffix) b span s t more on at col e blank h p =
     let x = ap (λ l. slice_index l 0) (sym e ∙ h.6.is) ∙ tag_first h.0 t.rest h.1 h.2 h.3 in omega (arith, x)
-elsewhere g (tokens.Scalar k value) b span s t more on at col e blank h p = scalar_elsewhere k b value span s t more e blank h
+elsewhere g (tokens.Scalar k value) b span s t more on at col e blank h p =
+    scalar_elsewhere k b value span s t more e blank h
 
 pub nothing_there : (g : Begun) (k : Kind) (span : Span) (b : Bool) (s t : Cursor) (more : List ℕ)
     → EndOn g s.mark.line → 0 < s.mark.index → 0 < s.mark.col → s.rest ≡ colon ∷ more

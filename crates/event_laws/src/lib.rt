@@ -162,8 +162,8 @@ pub fn takes_all_events()
     saphyr_scanner::law::places_taken_tokens();
 }
 
-/// Where no collection is open, no token is at a colon that parts a key from its value, on the line of the content or of
-/// the properties before it. So no document ends there, behind which another token comes.
+/// Where no collection is open, no token is at a colon that parts a key from its value, on the line of the content or
+/// of the properties before it. So no document ends there, behind which another token comes.
 pub fn stands_at_no_colon()
     ensures { (begun : Begun) (kind : Kind) (span : Span) (ends_json : Bool) (s t : Cursor)
         (more : List ℕ) → (begun ≡ Property s.mark.line) ⊎ (begun ≡ Content s.mark.line)

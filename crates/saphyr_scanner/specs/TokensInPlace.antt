@@ -1,7 +1,7 @@
 -- Which tokens may be where, told of the tokens alone: a single pair of a flow sequence has its start, its colon and
--- its end, an implicit key has its colon, a block collection has an entry, and its properties are on a line before it
--- (YAML 1.2.2, 7.4, 7.5 and 8.2). A colon without an implicit key is at its mapping's column, and the first line of a
--- flow node begins right of the column of the collection that it is in.
+-- its end, an implicit key has its colon, a block collection has an entry, and its properties, or other content, are on
+-- a line before it (YAML 1.2.2, 7.4, 7.5 and 8.2). A colon without an implicit key is at its mapping's column, and the
+-- first line of a flow node begins right of the column of the collection that it is in.
 use Rattle.std.specs.Prelude.{ℕ, ◌+◌, ◌==◌, Bool, true, false, not, nat_le, nat_lt, ◌||◌, ◌&&◌, if◌then◌else◌, List, [], ◌∷◌, Option, Some, None, IsTrue}
 use Rattle.saphyr_scalar.specs.declared.scalar.position.Marker.{Marker}
 use Rattle.saphyr_scalar.specs.declared.scalar.position.Span.{Span}

@@ -144,7 +144,8 @@ begin_live opened from s none at h l nz =
     (record { taken = h; keys = l nz })).keys
 
 begin_read : (opened : Setting) (from : Cursor) (s : State) → s.core.ended ≡ false → s.core.level.key ≡ None
-    → s.core.cursor.mark.index ≡ 0 → TakenState opened from s → Live opened.enclosures s.core s.queue → Read opened from (begin s)
+    → s.core.cursor.mark.index ≡ 0 → TakenState opened from s → Live opened.enclosures s.core s.queue
+    → Read opened from (begin s)
 begin_read opened from s going none at h l = record {
   fetched = record {
     taken = taken_put (enclosures_of s.core) opened from s.core (record s.core { started = true }) s.queue

@@ -120,8 +120,8 @@ setting_behind ps opened = record {
   front = fronts ps opened.front;
 }
 
--- The tokens are taken from the text, and what encloses the next token is known. Where properties or content are last no
--- key may begin on their line.
+-- The tokens are taken from the text, and what encloses the next token is known. Where properties or content are last
+-- no key may begin on their line.
 pub record TakenWithin (within : Enclosures) (opened : Setting) (from : Cursor) (c : Core) (q : Queue) : Type 0 where
   pub last : Cursor
   pub tokens : AreTokens opened.collections (flat q.places) from last
