@@ -152,18 +152,20 @@ pub hands_shown : (before after : Inner) (s : Status) (c : CEvent) (box : Box Co
     → before.source ≡ source.Pieces box → before.shown ≡ true
     → WritesKept (record before { source = source.Pieces box; shown = false }) s c after → HandsToC before s c after
 hands_shown before after s c box from shown written =
-    let old = box.value in
-    subst (λ (x : Source). HandsFrom x before s c after) (sym from) (
-      box,
-      written.others.0,
-      (refl, λ enough. enough),
-      as_hands before after s c old old written.writes (record {
-        gives = λ later here is. gives_same (handed before) (handed after) here (at_bytes old later) written.same
-            (subst (λ (b : Bool). IsAtFrom b old before later here) shown is);
-        again = λ was. (written.same, refl);
-        shown = written.others.1;
-        writes = written.writes;
-      }),
+    let old = box.value in (
+      subst (λ (x : Source). HandsFrom x before s c after) (sym from) (
+        box,
+        written.others.0,
+        (refl, λ enough. enough),
+        as_hands before after s c old old written.writes (record {
+          gives = λ later here is. gives_same (handed before) (handed after) here (at_bytes old later) written.same
+              (subst (λ (b : Bool). IsAtFrom b old before later here) shown is);
+          again = λ was. (written.same, refl);
+          shown = written.others.1;
+          writes = written.writes;
+        }),
+      ),
+      written.others.2,
     )
 
 -- what was shown is shown again
@@ -171,19 +173,22 @@ pub shows_shown : (before after : Inner) (s : Status) (c : CEvent) (box : Box Co
     → before.source ≡ source.Pieces box → before.shown ≡ true
     → WritesKept (record before { source = source.Pieces box }) s c after → ShowsToC before s c after
 shows_shown before after s c box from shown written =
-    let old = box.value in
-    subst (λ (x : Source). ShowsFrom x before s c after) (sym from) (
-      box,
-      written.others.0,
-      (refl, λ enough. enough),
-      as_shows before after s c old old written.writes (record {
-        place = λ later here is. subst (λ (b : Bool). IsAtFrom b old after later here) (sym (written.others.1 ∙ shown))
-            (gives_same (handed before) (handed after) here (at_bytes old later) written.same
-            (subst (λ (b : Bool). IsAtFrom b old before later here) shown is));
-        again = λ was. (written.same, refl);
-        shown = written.others.1 ∙ shown;
-        writes = written.writes;
-      }),
+    let old = box.value in (
+      subst (λ (x : Source). ShowsFrom x before s c after) (sym from) (
+        box,
+        written.others.0,
+        (refl, λ enough. enough),
+        as_shows before after s c old old written.writes (record {
+          place = λ later here is. subst (λ (b : Bool). IsAtFrom b old after later here)
+              (sym (written.others.1 ∙ shown))
+              (gives_same (handed before) (handed after) here (at_bytes old later) written.same
+              (subst (λ (b : Bool). IsAtFrom b old before later here) shown is));
+          again = λ was. (written.same, refl);
+          shown = written.others.1 ∙ shown;
+          writes = written.writes;
+        }),
+      ),
+      written.others.2,
     )
 
 module _ (before : Inner) (s : Status) (c : CEvent) (from_box to_box : Box Coming Global) (next : Event × Span)
@@ -211,35 +216,39 @@ module _ (before : Inner) (s : Status) (c : CEvent) (from_box to_box : Box Comin
   pub hands_next : (p : Progress) (after : Inner) → HandsOutOrWaits (Some p) next f old.parser new.parser
       → WritesKept (read p before.shown) s c after → HandsToC before s c after
   hands_next p after hands kept =
-      let written = subst (λ (b : Bool). WritesKept (read p b) s c after) shown kept in
-      subst (λ (x : Source). HandsFrom x before s c after) (sym from) (
-        to_box,
-        written.others.0,
-        same,
-        as_hands before after s c old new written.writes (record {
-          gives = behind p false after hands written;
-          again = λ was. absurd (true≢false (sym was ∙ shown));
-          shown = written.others.1;
-          writes = written.writes;
-        }),
+      let written = subst (λ (b : Bool). WritesKept (read p b) s c after) shown kept in (
+        subst (λ (x : Source). HandsFrom x before s c after) (sym from) (
+          to_box,
+          written.others.0,
+          same,
+          as_hands before after s c old new written.writes (record {
+            gives = behind p false after hands written;
+            again = λ was. absurd (true≢false (sym was ∙ shown));
+            shown = written.others.1;
+            writes = written.writes;
+          }),
+        ),
+        written.others.2,
       )
 
   -- what is read is shown
   pub shows_next : (p : Progress) (after : Inner) → HandsOutOrWaits (Some p) next f old.parser new.parser
       → WritesKept (read p true) s c after → ShowsToC before s c after
-  shows_next p after hands written =
-      subst (λ (x : Source). ShowsFrom x before s c after) (sym from) (
-        to_box,
-        written.others.0,
-        same,
-        as_shows before after s c old new written.writes (record {
-          place = λ later here is. subst (λ (b : Bool). IsAtFrom b new after later here) (sym written.others.1)
-              (behind p true after hands written later here is);
-          again = λ was. absurd (true≢false (sym was ∙ shown));
-          shown = written.others.1;
-          writes = written.writes;
-        }),
-      )
+  shows_next p after hands written = (
+    subst (λ (x : Source). ShowsFrom x before s c after) (sym from) (
+      to_box,
+      written.others.0,
+      same,
+      as_shows before after s c old new written.writes (record {
+        place = λ later here is. subst (λ (b : Bool). IsAtFrom b new after later here) (sym written.others.1)
+            (behind p true after hands written later here is);
+        again = λ was. absurd (true≢false (sym was ∙ shown));
+        shown = written.others.1;
+        writes = written.writes;
+      }),
+    ),
+    written.others.2,
+  )
 
   waiting : (why : Status) (after : Inner) → WritesWaiting why new
       → HandsOutOrWaits None next f old.parser new.parser
@@ -278,13 +287,17 @@ module _ (before : Inner) (s : Status) (c : CEvent) (from_box to_box : Box Comin
   pub hands_none : (why : Status) (after : Inner) → WritesWaiting why new
       → HandsOutOrWaits None next f old.parser new.parser
       → Waits (read before.progress before.shown) why s c after → HandsToC before s c after
-  hands_none why after written hands waits =
-      subst (λ (x : Source). HandsFrom x before s c after) (sym from)
-      (none_comes HandsOfComing why after written hands waits (waits_to_hand why old new before _ c written))
+  hands_none why after written hands waits = (
+    subst (λ (x : Source). HandsFrom x before s c after) (sym from)
+        (none_comes HandsOfComing why after written hands waits (waits_to_hand why old new before _ c written)),
+    ap (λ (a : Inner). a.table) waits.2,
+  )
 
   pub shows_none : (why : Status) (after : Inner) → WritesWaiting why new
       → HandsOutOrWaits None next f old.parser new.parser
       → Waits (read before.progress before.shown) why s c after → ShowsToC before s c after
-  shows_none why after written hands waits =
-      subst (λ (x : Source). ShowsFrom x before s c after) (sym from)
-      (none_comes ShowsOfComing why after written hands waits (waits_to_show why old new before _ c written))
+  shows_none why after written hands waits = (
+    subst (λ (x : Source). ShowsFrom x before s c after) (sym from)
+        (none_comes ShowsOfComing why after written hands waits (waits_to_show why old new before _ c written)),
+    ap (λ (a : Inner). a.table) waits.2,
+  )

@@ -1,7 +1,5 @@
 -- What is told of an entry of a table is told of the node at its number.
-use Rattle.std.proofs.Common.{rules, ◌≡◌, ◌∙◌, refl, sym, ap, subst, ℕ, zero, suc, List, [], ◌∷◌, slice_get, Option, Some, inl, inr}
-use Rattle.std.proofs.lemmas.Option.{same_Some}
-use Rattle.std.specs.List.{AllZip}
+use Rattle.std.proofs.Common.{rules, ◌≡◌, ◌∙◌, sym, ap, subst, ℕ, List, Option, inl, inr}
 use Rattle.saphyr_scalar.specs.declared.scalar.position.Span.{Span}
 use Rattle.saphyr_parser.specs.Events.{Happening}
 use Rattle.yaml_tree.specs.declared.node.Node.{Node, the_lemmas}
@@ -9,7 +7,8 @@ use Rattle.yaml_tree.specs.declared.table.Content.{Content}
 use Rattle.yaml_tree.specs.declared.table.Content.TheVariants as content
 use Rattle.yaml_tree.specs.declared.table.Entry.{Entry}
 use Rattle.yaml_tree.specs.declared.table.NodeTable.{NodeTable}
-use Rattle.yaml_tree.specs.Numbering.{Placed, AreSpansOf, IsContentOf, IsEntryOf, spans_of}
+use Rattle.yaml_tree.specs.Numbering.{Placed, AreSpansOf, IsContentOf, spans_of}
+use Rattle.yaml_tree.proofs.Tables.{entry_at}
 use Rattle.saphyr_parser_c.specs.declared.shown.CEvent.{CEvent}
 use Rattle.saphyr_parser_c.specs.declared.status.Status.{Status}
 use Rattle.saphyr_parser_c.specs.Shown.{HasFields, fields_of_event}
@@ -28,18 +27,10 @@ ends_of all (content.Scalar text style id tag) e spans h = inl h
 ends_of all (content.Sequence id tag parts) e spans (own, s, around) = inr (spans_of own, around)
 ends_of all (content.Mapping id tag parts) e spans (own, s, around) = inr (spans_of own, around)
 
-entry_of : (all : List Placed) (es : List Entry) (ps : List Placed) (i : ℕ) (p : Placed) → AllZip (IsEntryOf all) es ps
-    → slice_get ps i ≡ Some p → (e : Entry) × (slice_get es i ≡ Some e) × IsEntryOf all e p
-entry_of all [] [] i p h k = cc
-entry_of all [] (q ∷ ps) i p h k = absurd h
-entry_of all (e ∷ es) [] i p h k = cc
-entry_of all (e ∷ es) (q ∷ ps) zero p h k = (e, refl, subst (IsEntryOf all e) (same_Some q p k) h.0)
-entry_of all (e ∷ es) (q ∷ ps) (suc i) p h k = entry_of all es ps i p h.1 k
-
 pub writes_node : (table : NodeTable) (number : ℕ) (s : Status) (c : CEvent) → WritesEntry table number s c
     → WritesNode number s c table
 writes_node table number s c written = λ all p h k.
-    let there = entry_of all table.entries.items all number p h k in
+    let there = entry_at all table.entries.items all number p h k in
     let e = there.0 in
     let some = subst (λ (o : Option Entry). WritesSome o s c) there.1 written in
     record {

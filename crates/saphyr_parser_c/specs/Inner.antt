@@ -1,5 +1,5 @@
 -- What the calls on a parser with its event do.
-use Rattle.std.specs.Prelude.{◌≡◌, ℕ, Bool, true, false, List, Option, Some, None, Result, Ok, Err, IsUtf8}
+use Rattle.std.specs.Prelude.{◌≡◌, ℕ, Bool, true, false, List, [], Option, Some, None, Result, Ok, Err, IsUtf8}
 use Rattle.std.specs.Borrow.{Bor}
 use Rattle.std.specs.Str.{chars}
 use Rattle.std.specs.declared.alloc.AllocError.{AllocError}
@@ -15,6 +15,7 @@ use Rattle.saphyr_parser.specs.Calls.{EndsTheStream, GivesNext, Peeks, item_at}
 use Rattle.saphyr_parser.specs.Cursor.{EventCursor, HandsOutNext, at_start, event_of, keeping_tags, to_come}
 use Rattle.saphyr_parser.specs.Promises.{KeepsSpans, ReadsClosedYaml, ReadsJson, ReadsYaml, TakesEvents}
 use Rattle.saphyr_pieces.specs.Pieces.{wants_more}
+use Rattle.yaml_tree.specs.declared.table.NodeTable.{NodeTable}
 use Rattle.saphyr_parser_c.specs.declared.coming.Coming.{Coming}
 use Rattle.saphyr_parser_c.specs.declared.inner.Inner.{Inner}
 use Rattle.saphyr_parser_c.specs.declared.shown.CEvent.{CEvent}
@@ -41,9 +42,17 @@ pub record Promises (text : List ℕ) (parser : EventCursor) : Type 0 where
   pub spans : KeepsSpans text parser
   pub taken : TakesEvents text parser
 
--- nothing was handed out or shown here
+-- nothing that was handed out or shown is kept
+abbrev pub KeepsNone : Inner → Type 0
+KeepsNone inner = (handed inner ≡ None) × (inner.shown ≡ false)
+
+-- no trees are loaded
+abbrev pub IsEmpty : NodeTable → Type 0
+IsEmpty table = (table.entries.items ≡ []) × (table.roots.items ≡ [])
+
+-- nothing was handed out, shown or loaded here
 abbrev pub IsFresh : Inner → Type 0
-IsFresh inner = (handed inner ≡ None) × (inner.shown ≡ false)
+IsFresh inner = KeepsNone inner × IsEmpty inner.table
 
 -- a parser at the start of a text in UTF-8, which keeps the prefixes of tags or not, and no event yet
 pub record IsOverText (text : List ℕ) (keep : Bool) (inner : Inner) : Type 0 where
@@ -103,7 +112,7 @@ pub record WaitsForMore (old : Coming) (before : Inner) (s : Status) (c : CEvent
   pub status : WritesWaiting s new
   pub not_shown : before.shown ≡ false
   pub blank : HasFields no_fields nowhere nowhere c
-  pub event : IsFresh after
+  pub event : KeepsNone after
   pub wants : wants_more new.parser ≡ true
   pub place : (later : List ℕ) (at : EventCursor) → IsAt old before later at → IsAt new after later at
 
@@ -155,9 +164,9 @@ HandsFrom (source.Pieces old) before s c after =
     (new : Box Coming Global) × (after.source ≡ source.Pieces new) × KeepsRest old.value new.value
     × HandsOfComing s c old.value before new.value after
 
--- what comes next is handed out, or it waits for more of the text
+-- what comes next is handed out, or it waits for more of the text; the trees stay
 abbrev pub HandsToC : Inner → Status → CEvent → Inner → Type 0
-HandsToC before s c after = HandsFrom before.source before s c after
+HandsToC before s c after = HandsFrom before.source before s c after × (after.table ≡ before.table)
 
 abbrev pub ShowsFrom : Source → Inner → Status → CEvent → Inner → Type 0
 ShowsFrom (source.Whole old) before s c after =
@@ -167,9 +176,9 @@ ShowsFrom (source.Pieces old) before s c after =
     (new : Box Coming Global) × (after.source ≡ source.Pieces new) × KeepsRest old.value new.value
     × ShowsOfComing s c old.value before new.value after
 
--- what comes next is shown, or it waits for more of the text
+-- what comes next is shown, or it waits for more of the text; the trees stay
 abbrev pub ShowsToC : Inner → Status → CEvent → Inner → Type 0
-ShowsToC before s c after = ShowsFrom before.source before s c after
+ShowsToC before s c after = ShowsFrom before.source before s c after × (after.table ≡ before.table)
 
 abbrev pub AddsFrom : Source → List ℕ → Inner → Status → Inner → Type 0
 AddsFrom (source.Whole old) bytes before s after = (s ≡ status.Whole) × (after ≡ before)
@@ -187,12 +196,13 @@ IsSourceCopy (source.Pieces old) copy =
     (new : Box Coming Global) × (copy ≡ source.Pieces new) × IsCopyOfPieces old.value new.value
 
 abbrev pub IsShownCopy : Bool → Inner → Inner → Type 0
-IsShownCopy false inner copy = IsFresh copy
+IsShownCopy false inner copy = KeepsNone copy
 IsShownCopy true inner copy = (copy.shown ≡ true) × IsSameItem (handed inner) (handed copy)
 
--- a parser at the same place, which handed out nothing
+-- a parser at the same place, which handed out nothing and has no trees
 abbrev pub IsCopyOfParser : Inner → Inner → Type 0
-IsCopyOfParser inner copy = IsSourceCopy inner.source copy.source × IsShownCopy inner.shown inner copy
+IsCopyOfParser inner copy =
+    IsSourceCopy inner.source copy.source × IsShownCopy inner.shown inner copy × IsEmpty copy.table
 
 abbrev pub KeepsFrom : Source → Bool → Source → Type 0
 KeepsFrom (source.Whole old) keep new = new ≡ source.Whole (keeping_tags keep old)
@@ -214,10 +224,11 @@ Waits before why s c after =
 -- what is kept is written; its texts may move
 pub record WritesKept (before : Inner) (s : Status) (c : CEvent) (after : Inner) : Type 0 where
   pub same : IsSameItem (handed before) (handed after)
-  pub others : (after.source ≡ before.source) × (after.shown ≡ before.shown)
+  pub others : (after.source ≡ before.source) × (after.shown ≡ before.shown) × (after.table ≡ before.table)
   pub writes : WritesC (handed after) s c
 
 abbrev pub CopiesShown : Inner → Inner → Result Unit AllocError → Inner → Type 0
 CopiesShown inner before (Ok done) after =
-    (after.source ≡ before.source) × (IsFresh before → IsShownCopy inner.shown inner after)
+    (after.source ≡ before.source) × (after.table ≡ before.table)
+    × (IsFresh before → IsShownCopy inner.shown inner after)
 CopiesShown inner before (Err e) after = Unit {0}

@@ -19,8 +19,9 @@ use Rattle.yaml_tree.specs.declared.table.Content.TheVariants as content
 use Rattle.yaml_tree.specs.declared.table.Entry.{Entry}
 use Rattle.yaml_tree.specs.declared.table.NodeTable.{NodeTable}
 use Rattle.yaml_tree.specs.declared.table.Root.{Root}
-use Rattle.yaml_tree.specs.Accessing.{value_at_key}
-use Rattle.yaml_tree.specs.Following.{at_step}
+use Rattle.yaml_tree.specs.DocumentLoading.{LeavesBehindDocument}
+use Rattle.yaml_tree.specs.Following.{step_at_key}
+use Rattle.yaml_tree.specs.Leaving.{LeavesParser}
 use Rattle.yaml_tree.specs.Numbering.{Placed, FindsNumber, HasNoNode, HasNodes, HasNumber, IsNodeAt, LoadsNextTable, LoadsTable, count_of_parts}
 use Rattle.saphyr_parser_c.specs.declared.inner.Inner.{Inner}
 use Rattle.saphyr_parser_c.specs.declared.shown.CEvent.{CEvent}
@@ -29,6 +30,7 @@ use Rattle.saphyr_parser_c.specs.declared.source.Source.TheVariants as source
 use Rattle.saphyr_parser_c.specs.declared.status.Status.{Status}
 use Rattle.saphyr_parser_c.specs.declared.status.Status.TheVariants as status
 use Rattle.saphyr_parser_c.specs.Exports.{WritesNone}
+use Rattle.saphyr_parser_c.specs.Inner.{IsEmpty}
 use Rattle.saphyr_parser_c.specs.Same.{IsSameFault}
 use Rattle.saphyr_parser_c.specs.Shown.{HasFields, WritesFault, no_fields, nowhere, fields_of_event}
 use Rattle.saphyr_parser_c.specs.Status.{code_of}
@@ -65,20 +67,21 @@ abbrev pub KeepsButItem : Inner → Inner → Type 0
 KeepsButItem before after =
     (after.source ≡ before.source) × (after.shown ≡ before.shown) × (after.table ≡ before.table)
 
-abbrev pub IsEmpty : NodeTable → Type 0
-IsEmpty table = (table.entries.items ≡ []) × (table.roots.items ≡ [])
-
 -- the documents are those of `load_table`, or there are none
 abbrev pub WritesLoaded : Result NodeTable TreeFault → Status → CEvent → Inner → Type 0
 WritesLoaded (Ok table) s c after = (s ≡ status.Done) × IsEmptyEvent c × (after.table ≡ table)
 WritesLoaded (Err f) s c after = WritesUnloaded f s c × IsEmpty after.table
 
+-- Of a text in pieces no trees are loaded. What was shown stays to be handed out.
+abbrev pub DropsTrees : Inner → Status → CEvent → Inner → Type 0
+DropsTrees before s c after =
+    (s ≡ status.Late) × IsEmptyEvent c × IsEmpty after.table × (after ≡ record before { table = after.table })
+
 abbrev pub LoadsFrom : Limits → Source → Inner → Status → CEvent → Inner → Type 0
 LoadsFrom limits (source.Whole old) before s c after =
     (new : EventCursor) × (result : Result NodeTable TreeFault) × (after.source ≡ source.Whole new)
-    × LoadsTable limits result (to_come old) (to_come new) × WritesLoaded result s c after
-LoadsFrom limits (source.Pieces old) before s c after =
-    (s ≡ status.Late) × IsEmptyEvent c × (after.source ≡ before.source) × IsEmpty after.table
+    × LoadsTable limits result (to_come old) (to_come new) × LeavesParser result old new × WritesLoaded result s c after
+LoadsFrom limits (source.Pieces old) before s c after = DropsTrees before s c after
 
 abbrev pub LoadsToC : Limits → Inner → Status → CEvent → Inner → Type 0
 LoadsToC limits before s c after = LoadsFrom limits before.source before s c after
@@ -97,9 +100,9 @@ WritesNext (Err f) s c after = WritesUnloaded f s c × IsEmpty after.table
 abbrev pub LoadsNextFrom : Limits → Source → Inner → Status → CEvent → Inner → Type 0
 LoadsNextFrom limits (source.Whole old) before s c after = (new : EventCursor)
     × (result : Result (std.Option NodeTable) TreeFault) × (after.source ≡ source.Whole new)
-    × LoadsNextTable limits result (to_come old) (to_come new) × WritesNext result s c after
-LoadsNextFrom limits (source.Pieces old) before s c after =
-    (s ≡ status.Late) × IsEmptyEvent c × (after.source ≡ before.source) × IsEmpty after.table
+    × LoadsNextTable limits result (to_come old) (to_come new) × LeavesBehindDocument result old new
+    × WritesNext result s c after
+LoadsNextFrom limits (source.Pieces old) before s c after = DropsTrees before s c after
 
 abbrev pub LoadsNextToC : Limits → Inner → Status → CEvent → Inner → Type 0
 LoadsNextToC limits before s c after = LoadsNextFrom limits before.source before s c after
@@ -132,23 +135,24 @@ Expands index result table = result ≡ expanded_in (slice_get table.roots.items
 
 -- how many items or pairs the node has
 abbrev pub CountsParts : ℕ → ℕ → NodeTable → Type 0
-CountsParts number result table = ((all : List Placed) (node : Node) → HasNodes all table → IsNodeAt all number node
-    → result ≡ count_of_parts node) × (HasNoNode number table → result ≡ 0)
+CountsParts number result table = ((all : List Placed) (p : Placed) → HasNodes all table → IsNodeAt all number p
+    → result ≡ count_of_parts p.0) × (HasNoNode number table → result ≡ 0)
 
--- Of the node with this number it is that part's number. If there is no such part, or no such node, it is none.
-abbrev pub FindsPart : (Node → std.Option Node) → ℕ → std.Option ℕ → NodeTable → Type 0
-FindsPart part number found table = ((all : List Placed) (node : Node) → HasNodes all table
-    → IsNodeAt all number node → HasNumber all (part node) found) × (HasNoNode number table → found ≡ None)
+-- It is the number of the part to which a step leads from the node with this number. If there is no such part, or no
+-- such node, it is none.
+abbrev pub FindsPart : (Node → std.Option Step) → ℕ → std.Option ℕ → NodeTable → Type 0
+FindsPart step number found table = ((all : List Placed) (whole : Placed) → HasNodes all table
+    → IsNodeAt all number whole → HasNumber all whole (step whole.0) found) × (HasNoNode number table → found ≡ None)
 
 -- the part to which a step leads
 abbrev pub LeadsToPart : ℕ → Step → ℕ → NodeTable → Type 0
 LeadsToPart number step result table =
-    (found : std.Option ℕ) × IsNumberOf found result × FindsPart (at_step step) number found table
+    (found : std.Option ℕ) × IsNumberOf found result × FindsPart (λ node. Some step) number found table
 
 -- the value of a key, which is none if the bytes are no text
 abbrev pub Gets : ℕ → List ℕ → ℕ → NodeTable → Type 0
 Gets number key result table = (found : std.Option ℕ) × IsNumberOf found result
-    × (IsUtf8 key → FindsPart (value_at_key key) number found table) × ((IsUtf8 key → ⊥) → found ≡ None)
+    × (IsUtf8 key → FindsPart (step_at_key key) number found table) × ((IsUtf8 key → ⊥) → found ≡ None)
 
 -- the node of an anchor
 abbrev pub Finds : ℕ → ℕ → NodeTable → Type 0
@@ -195,7 +199,7 @@ pub record WritesPlaced (p : Placed) (s : Status) (c : CEvent) : Type 0 where
   pub fields : HasFields (fields_of_event (first_event p.0)) start.start end.end c
 
 abbrev pub WritesNode : ℕ → Status → CEvent → NodeTable → Type 0
-WritesNode number s c table = (all : List Placed) (p : Placed) → HasNodes all table → slice_get all number ≡ Some p
+WritesNode number s c table = (all : List Placed) (p : Placed) → HasNodes all table → IsNodeAt all number p
     → WritesPlaced p s c
 
 abbrev pub WritesAt : ℕ → Option Inner → ℤ → CEvent → Option Inner → Type 0

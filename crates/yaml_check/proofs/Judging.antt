@@ -1,5 +1,5 @@
 -- A verdict on bytes, from that on their text; a verdict on what was read; and what was written up to a failure.
-use Rattle.std.proofs.Common.{◌≡◌, ℕ, ◌<◌, List, [], ◌++◌, length, Option, Result, Ok, Err, refl, sym, ap, inl, inr, subst, ◌∙◌, append-nil, append_assoc}
+use Rattle.std.proofs.Common.{arith, ◌≡◌, ℕ, zero, suc, ◌<◌, List, [], ◌++◌, length, Option, Result, Ok, Err, refl, sym, ap, inl, inr, subst, ◌∙◌, append-nil, append_assoc}
 use Rattle.std.specs.Prelude.{Bool, true, false, not, IsErrAnd, if◌then◌else◌}
 use Rattle.std.specs.Str.{chars, IsUtf8}
 use Rattle.std.specs.Io.KnownBytes.{Appends, Keeps}
@@ -23,8 +23,10 @@ use Rattle.yaml_check.specs.declared.run.CheckFault.TheVariants as fault
 use Rattle.yaml_check.specs.declared.finding.Verdict.{Verdict}
 use Rattle.yaml_check.specs.declared.finding.Verdict.TheVariants as verdict
 use Rattle.yaml_check.specs.Checked.{NamesFault, NamesNotes, NamesWarnings}
-use Rattle.yaml_check.specs.Reports.{IsReport, name_in}
-use Rattle.yaml_check.specs.Checks.{Checks, IsClean, IsCutShort, IsReported, Judges, JudgesBytes, WritesLines, WritesTold, events_asked, told_unless_quiet}
+use Rattle.yaml_check.specs.declared.told.Format.{Format}
+use Rattle.yaml_check.specs.Reports.{AddsErrors, IsReport, name_in}
+use Rattle.yaml_check.specs.Checks.{Checks, IsClean, IsCutShort, IsReported, IsWrong, Judges, JudgesBytes, WritesLines, WritesTold, events_asked, told_unless_quiet}
+use Rattle.yaml_check.specs.Checks.{ChecksStandard, JudgesFurther, JudgesStandard, TellsWrong}
 
 pub judges_text : (r : Result Verdict CheckFault) (name : List ℕ) (options : Options) (text bytes : List ℕ)
     (old new : Option (List ℕ)) → text ≡ bytes → IsUtf8 bytes → Judges r name options text old new
@@ -185,3 +187,51 @@ pub passes_fault : (r : Result Verdict CheckFault) (f : CheckFault) (name : List
     → Judges r name options bytes old new
 passes_fault (Ok v) f name options bytes old new h judged = absurd h
 passes_fault (Err e) f name options bytes old new h judged = rw h judged
+
+-- ## Is it YAML
+
+never_unread : (f : CheckFault) (first : Result Verdict CheckFault) (name : List ℕ) (options : Options)
+    (bytes : List ℕ) (old middle new : Option (List ℕ)) → JudgesBytes first name options bytes old middle
+    → JudgesFurther first (Err f) name options bytes middle new → IsWrong (Err f)
+never_unread (fault.CantRead e) (Ok verdict.Right) name options bytes old middle new b (inl h) = let is = h.0 in cc
+never_unread (fault.CantRead e) (Ok verdict.Right) name options bytes old middle new b (inr h) = h
+never_unread (fault.CantRead e) (Ok verdict.Warned) name options bytes old middle new b (inl h) = let is = h.0 in cc
+never_unread (fault.CantRead e) (Ok verdict.Warned) name options bytes old middle new b (inr h) = h
+never_unread (fault.CantRead e) (Ok verdict.Wrong) name options bytes old middle new b h = let is = h.0 in cc
+never_unread (fault.CantRead e) (Err (fault.CantRead d)) name options bytes old middle new (inl b) h = b.1
+never_unread (fault.CantRead e) (Err (fault.CantRead d)) name options bytes old middle new (inr b) h = b.1
+never_unread (fault.CantRead e) (Err fault.CantWrite) name options bytes old middle new b h = let is = h.0 in cc
+never_unread (fault.CantRead e) (Err fault.OutOfMemory) name options bytes old middle new b h = let is = h.0 in cc
+never_unread fault.CantWrite first name options bytes old middle new b h = tt
+never_unread fault.OutOfMemory first name options bytes old middle new b h = tt
+
+pub standard_read : (r : Result Verdict CheckFault) (name : List ℕ) (options : Options) (bytes : List ℕ)
+    (unread left old new : Option (List ℕ)) → ReadsAll unread left bytes
+    → JudgesStandard r name options bytes old new → ChecksStandard r name options unread left old new
+standard_read (Ok v) name options bytes unread left old new read h = (bytes, read, h)
+standard_read (Err (fault.CantRead e)) name options bytes unread left old new read (first, middle, b, h) =
+    absurd (never_unread (fault.CantRead e) first name options bytes old middle new b h)
+standard_read (Err fault.CantWrite) name options bytes unread left old new read h = (bytes, read, h)
+standard_read (Err fault.OutOfMemory) name options bytes unread left old new read h = (bytes, read, h)
+
+some_told : (form : Format) (name text : List ℕ) (n : ℕ) (told : List ℕ) → 0 < n → AddsErrors form name text n [] told
+    → (more : ℕ) × AddsErrors form name text (suc more) [] told
+some_told form name text zero told h adds = absurd (omega (arith, h))
+some_told form name text (suc n) told h adds = (n, adds)
+
+pub wrong_told : (name : List ℕ) (options : Options) (text : List ℕ) (n : ℕ) (told : List ℕ)
+    (old new : Option (List ℕ)) → 0 < n
+    → AddsErrors options.format (name_in options.format name) (chars text) n [] told
+    → WritesTold (Ok tt) (told_unless_quiet options told) old new
+    → TellsWrong (Ok verdict.Wrong) name options text old new
+wrong_told name options text n told old new h adds written =
+    (refl, told, some_told options.format _ (chars text) n told h adds, written)
+
+pub wrong_cut : (f : CheckFault) (name : List ℕ) (options : Options) (text : List ℕ) (n : ℕ) (told : List ℕ)
+    (old new : Option (List ℕ)) → 0 < n
+    → AddsErrors options.format (name_in options.format name) (chars text) n [] told
+    → WritesTold (Err f) (told_unless_quiet options told) old new → TellsWrong (Err f) name options text old new
+wrong_cut (fault.CantRead e) name options text n told old new h adds written = absurd written
+wrong_cut fault.CantWrite name options text n told old new h adds written =
+    (told, some_told options.format _ (chars text) n told h adds, written)
+wrong_cut fault.OutOfMemory name options text n told old new h adds written = absurd written

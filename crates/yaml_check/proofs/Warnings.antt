@@ -1,10 +1,10 @@
 -- One more warning is told after those that were.
-use Rattle.std.proofs.Common.{ℕ, ◌+◌, ◌<◌, List, [], ◌∷◌, ◌++◌, length, take, get_or, true, refl, sym, subst}
+use Rattle.std.proofs.Common.{arith, ◌≡◌, ℕ, suc, ◌+◌, ◌<◌, List, [], ◌∷◌, ◌++◌, length, take, get_or, true, refl, sym, subst}
 use Rattle.std.proofs.lemmas.List.{take_more}
 use Rattle.yaml_check.specs.declared.finding.Finding.{Finding}
 use Rattle.yaml_check.specs.declared.told.Format.{Format}
 use Rattle.yaml_check.specs.Told.{told_warning}
-use Rattle.yaml_check.specs.Reports.{AddsTold, AddsWarnings}
+use Rattle.yaml_check.specs.Reports.{AddsError, AddsErrors, AddsTold, AddsWarnings}
 
 push : (form : Format) (name text : List ℕ) (ws : List Finding) (w : Finding) (old middle new : List ℕ)
     → AddsWarnings form name text ws old middle → AddsTold form true name text (told_warning w) middle new
@@ -21,3 +21,11 @@ pub warnings_more : (form : Format) (name text : List ℕ) (ws : List Finding) (
 warnings_more form name text ws i d old middle new within before told =
     subst (λ (l : List Finding). AddsWarnings form name text l old new) (sym (take_more ws i d within))
     (push form name text (take i ws) (get_or ws i d) old middle new before told)
+
+-- one more error is told
+pub errors_more : (form : Format) (name text : List ℕ) (n : ℕ) (old middle new : List ℕ)
+    → AddsErrors form name text n old middle → AddsError form name text middle new
+    → AddsErrors form name text (n + 1) old new
+errors_more form name text n old middle new before told =
+    let same : suc n ≡ n + 1 = omega arith in
+    subst (λ (k : ℕ). AddsErrors form name text k old new) same (middle, before, told)

@@ -1,5 +1,5 @@
 -- What the check of a source reads and writes, and what its verdict means.
-use Rattle.std.specs.Prelude.{◌≡◌, ℕ, ◌⊎◌, if◌then◌else◌, List, [], ◌++◌, Option, None, Result, Ok, Err}
+use Rattle.std.specs.Prelude.{◌≡◌, ℕ, suc, ◌⊎◌, if◌then◌else◌, List, [], ◌++◌, Option, None, Result, Ok, Err}
 use Rattle.std.specs.Str.{chars, IsUtf8}
 use Rattle.std.specs.Io.KnownBytes.{Appends}
 use Rattle.saphyr_parser.specs.Answer.{Answer}
@@ -13,7 +13,8 @@ use Rattle.yaml_check.specs.declared.finding.Verdict.{Verdict}
 use Rattle.yaml_check.specs.declared.finding.Verdict.TheVariants as verdict
 use Rattle.yaml_check.specs.Checked.{NamesFault, NamesNotes, NamesWarnings}
 use Rattle.yaml_check.specs.Warned.{nothing_seen, warnings_on}
-use Rattle.yaml_check.specs.Reports.{IsReport, name_in}
+use Rattle.yaml_check.specs.Reports.{AddsErrors, IsReport, name_in}
+use Rattle.yaml_standard.specs.Verdicts.{IsStandard}
 
 -- nothing was found
 abbrev pub IsClean : Findings → Type 0
@@ -100,6 +101,51 @@ abbrev pub Checks : Result Verdict CheckFault → List ℕ → Options → Optio
 Checks (Err (fault.CantRead e)) name options unread left old new = new ≡ old
 Checks r name options unread left old new =
     (bytes : List ℕ) × ReadsAll unread left bytes × JudgesBytes r name options bytes old new
+
+-- ## Is it YAML
+
+-- some errors of the text are told, one at least
+abbrev pub IsToldOfErrors : List ℕ → Options → List ℕ → List ℕ → Type 0
+IsToldOfErrors name options bytes told =
+    (more : ℕ) × AddsErrors options.format (name_in options.format name) (chars bytes) (suc more) [] told
+
+-- A text is wrong: one error at least is told of it, one after the other, or a beginning of them.
+abbrev pub TellsWrong : Result Verdict CheckFault → List ℕ → Options → List ℕ → Option (List ℕ) → Option (List ℕ)
+    → Type 0
+TellsWrong (Ok v) name options bytes old new =
+    (v ≡ verdict.Wrong) × (told : List ℕ) × IsToldOfErrors name options bytes told
+    × Appends old new (told_unless_quiet options told)
+TellsWrong (Err (fault.CantRead e)) name options bytes old new = ⊥
+TellsWrong (Err fault.CantWrite) name options bytes old new =
+    (told : List ℕ) × IsToldOfErrors name options bytes told × TakesBeginning old new (told_unless_quiet options told)
+TellsWrong (Err fault.OutOfMemory) name options bytes old new = new ≡ old
+
+-- A text in which no error was found is standard, and the verdict stays; or more is told of it.
+abbrev pub JudgesGrammar : Verdict → Result Verdict CheckFault → List ℕ → Options → List ℕ → Option (List ℕ)
+    → Option (List ℕ) → Type 0
+JudgesGrammar v r name options bytes old new =
+    ((r ≡ Ok v) × IsStandard (chars bytes) × (new ≡ old)) ⊎ TellsWrong r name options bytes old new
+
+-- What comes behind such an answer.
+abbrev pub JudgesFurther : Result Verdict CheckFault → Result Verdict CheckFault → List ℕ → Options → List ℕ
+    → Option (List ℕ) → Option (List ℕ) → Type 0
+JudgesFurther (Ok verdict.Right) r name options bytes old new = JudgesGrammar verdict.Right r name options bytes old new
+JudgesFurther (Ok verdict.Warned) r name options bytes old new =
+    JudgesGrammar verdict.Warned r name options bytes old new
+JudgesFurther first r name options bytes old new = (r ≡ first) × (new ≡ old)
+
+-- The bytes are checked as `check_source` does, and where that finds no error, by the grammar.
+abbrev pub JudgesStandard : Result Verdict CheckFault → List ℕ → Options → List ℕ → Option (List ℕ) → Option (List ℕ)
+    → Type 0
+JudgesStandard r name options bytes old new = (first : Result Verdict CheckFault) × (middle : Option (List ℕ))
+    × JudgesBytes first name options bytes old middle × JudgesFurther first r name options bytes middle new
+
+-- The same of a source. Where it can't be read, nothing is written.
+abbrev pub ChecksStandard : Result Verdict CheckFault → List ℕ → Options → Option (List ℕ) → Option (List ℕ)
+    → Option (List ℕ) → Option (List ℕ) → Type 0
+ChecksStandard (Err (fault.CantRead e)) name options unread left old new = new ≡ old
+ChecksStandard r name options unread left old new =
+    (bytes : List ℕ) × ReadsAll unread left bytes × JudgesStandard r name options bytes old new
 
 -- ## Writing
 

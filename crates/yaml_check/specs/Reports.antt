@@ -1,11 +1,12 @@
 -- What is printed of what was found.
-use Rattle.std.specs.Prelude.{◌≡◌, ℕ, ◌-◌, List, [], ◌∷◌, ◌++◌, length, take, slice_get, codes, Bool, true, false, not, nat_eq, Option, None, Some, MatchOption}
+use Rattle.std.specs.Prelude.{◌≡◌, ℕ, zero, suc, ◌-◌, List, [], ◌∷◌, ◌++◌, length, take, slice_get, codes, Bool, true, false, not, nat_eq, Option, None, Some, MatchOption}
 use Rattle.std.specs.Str.{chars}
 use Rattle.saphyr_parser.specs.Words.Marker.{Marker}
 use Rattle.saphyr_scalar.specs.declared.scalar.fault.ScanError.{ScanError}
 use Rattle.yaml_check.specs.declared.finding.Finding.{Finding}
 use Rattle.yaml_check.specs.declared.finding.Findings.{Findings}
 use Rattle.yaml_check.specs.declared.finding.Note.{Note}
+use Rattle.yaml_check.specs.declared.told.Severity.TheVariants as severity
 use Rattle.yaml_check.specs.declared.told.Format.{Format}
 use Rattle.yaml_check.specs.declared.told.Format.TheVariants as format
 use Rattle.yaml_check.specs.declared.view.View.{View}
@@ -63,6 +64,17 @@ AddsFault form name text None opened help old new = new ≡ old
 AddsFault form name text (Some e) opened help old new =
     (one : List ℕ) × (two : List ℕ) × AddsTold form true name text (told_fault e) old one
     × AddsNote form name text e.mark opened one two × AddsNote form name text e.mark help two new
+
+-- an error is told, at some place and under the name of some rule
+abbrev pub AddsError : Format → List ℕ → List ℕ → List ℕ → List ℕ → Type 0
+AddsError form name text old new =
+    (t : ToldSeen) × (t.severity ≡ severity.Error) × AddsTold form true name text t old new
+
+-- so many errors are told, one after the other
+abbrev pub AddsErrors : Format → List ℕ → List ℕ → ℕ → List ℕ → List ℕ → Type 0
+AddsErrors form name text zero old new = new ≡ old
+AddsErrors form name text (suc n) old new =
+    (middle : List ℕ) × AddsErrors form name text n old middle × AddsError form name text middle new
 
 -- the warnings in their order, so many at most, and the fault after them
 abbrev pub IsReport : Format → ℕ → List ℕ → List ℕ → Findings → List ℕ → Type 0

@@ -8,7 +8,7 @@ ghost use Rattle.yaml_check.specs.Checks.{Checks, IsWrong, Judges, JudgesBytes, 
 use crate::arguments::Options;
 use crate::checking::check_text;
 use crate::finding::Verdict;
-use crate::telling::{Error, report, report_error};
+use crate::telling::{Error, report, report_errors};
 use saphyr_parser::{DumpFault, Fault, Parser, dump};
 use std::alloc::{AllocError, Global};
 use std::io;
@@ -137,7 +137,7 @@ fn tell_not_utf8<W: Write>(
         rule: "encoding",
         message,
     };
-    let told = report_error(alloc, name, front, error, options.format)?;
+    let told = report_errors(alloc, name, front, &[error], options.format)?;
     let written = write_unless_quiet(out, told.as_str(), options);
     drop(told);
     written?;

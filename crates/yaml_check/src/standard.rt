@@ -1,15 +1,12 @@
 //! The check whether a text is YAML 1.2.2, after the other checks.
-ghost use Rattle.std.specs.Prelude.{◌≢◌, ℕ, List, IfOk};
-ghost use Rattle.std.specs.Str.{chars};
-ghost use Rattle.saphyr_parser.specs.Runs.{ReadsAll};
-ghost use Rattle.yaml_check.specs.declared.finding.Verdict.TheVariants as verdict;
-ghost use Rattle.yaml_standard.specs.Verdicts.{IsStandard};
+ghost use Rattle.std.specs.Prelude.{◌<◌, IfOk, IsUtf8, length};
+ghost use Rattle.yaml_check.specs.Checks.{ChecksStandard, JudgesGrammar, JudgesStandard, TellsWrong};
 
 use crate::arguments::Options;
 use crate::finding::Verdict;
 use crate::run::{CheckFault, judge_bytes, read_source, write_unless_quiet};
-use crate::telling::{Error, report_error};
-use std::alloc::Global;
+use crate::telling::{Error, report_errors};
+use std::alloc::{AllocError, Global};
 use std::io::{Read, Write};
 use yaml_standard::{Deviation, deviations, validate};
 
@@ -22,9 +19,8 @@ pub fn check_standard<R: Read, W: Write>(
     options: Options,
     out: &mut W,
 ) -> Result<Verdict, CheckFault>
-    ensures { IfOk result (λ v. v ≢ verdict.Wrong → (bytes : List ℕ)
-        × ReadsAll (R.remaining source.old) (R.remaining source.new) bytes
-        × IsStandard (chars bytes)) }
+    ensures { ChecksStandard result name.now options (R.remaining source.old)
+        (R.remaining source.new) (W.contents out.old) (W.contents out.new) }
 {
     match read_source(alloc, source) {
         Ok(bytes) => judge_standard(alloc, name, &bytes, options, out),
@@ -40,61 +36,98 @@ fn judge_standard<W: Write>(
     options: Options,
     out: &mut W,
 ) -> Result<Verdict, CheckFault>
-    ensures { IfOk result (λ v. v ≢ verdict.Wrong → IsStandard (chars bytes.now)) }
+    ensures { JudgesStandard result name.now options bytes.now (W.contents out.old)
+        (W.contents out.new) }
 {
-    let verdict = judge_bytes(alloc, name, bytes, options, out)?;
-    match (verdict, str::from_utf8(bytes)) {
-        (Verdict::Wrong, _) | (_, Err(_)) => Ok(Verdict::Wrong),
-        (_, Ok(text)) => match validate(alloc, text)? {
-            yaml_standard::Verdict::Standard => Ok(verdict),
-            yaml_standard::Verdict::Deviates(first) => {
-                tell_deviations(alloc, name, text, first, options, out)?;
-                Ok(Verdict::Wrong)
-            }
-            yaml_standard::Verdict::Refused(fault) => {
-                drop(fault);
-                Ok(Verdict::Wrong)
-            }
-        },
+    match judge_bytes(alloc, name, bytes, options, out) {
+        Ok(Verdict::Right) => judge_grammar(alloc, name, bytes, Verdict::Right, options, out),
+        Ok(Verdict::Warned) => judge_grammar(alloc, name, bytes, Verdict::Warned, options, out),
+        Ok(Verdict::Wrong) => Ok(Verdict::Wrong),
+        Err(fault) => Err(fault),
     }
 }
 
-/// Writes where a text departs from the standard, the first place at least.
-fn tell_deviations<W: Write>(
+/// Checks a text with this verdict of the other checks.
+fn judge_grammar<W: Write>(
     alloc: Global,
     name: &str,
+    bytes: &[u8],
+    verdict: Verdict,
+    options: Options,
+    out: &mut W,
+) -> Result<Verdict, CheckFault>
+    ensures { IsUtf8 bytes.now → JudgesGrammar verdict result name.now options bytes.now
+        (W.contents out.old) (W.contents out.new) }
+{
+    let Ok(text) = str::from_utf8(bytes) else {
+        return Ok(Verdict::Wrong);
+    };
+    match validate(alloc, text)? {
+        yaml_standard::Verdict::Standard => Ok(verdict),
+        yaml_standard::Verdict::Deviates(first) => {
+            let errors = errors_in(alloc, text, first, options.max_findings)?;
+            tell_wrong(alloc, name, text, &errors, options, out)
+        }
+        yaml_standard::Verdict::Refused(fault) => {
+            let error = Error {
+                place: Some(fault.mark),
+                rule: "syntax",
+                message: fault.info.as_str(),
+            };
+            tell_wrong(alloc, name, text, &[error], options, out)
+        }
+    }
+}
+
+/// Where a text departs from the standard, the first place at least.
+fn errors_in(
+    alloc: Global,
     text: &str,
     first: Deviation,
-    options: Options,
-    out: &mut W,
-) -> Result<(), CheckFault> {
-    let found = deviations(alloc, text, options.max_findings)?;
-    if found.is_empty() {
-        tell_deviation(alloc, name, text, first, options, out)?;
-    }
-    for i in 0..found.len() {
-        tell_deviation(alloc, name, text, found[i], options, out)?;
+    most: usize,
+) -> Result<Vec<Error<'static>>, AllocError>
+    ensures { IfOk result (λ errors. 0 < length errors.items) }
+{
+    let found = deviations(alloc, text, most)?;
+    let mut errors = Vec::new(alloc);
+    errors.push(error_of(*found.first().unwrap_or(&first)))?;
+    for i in 1..found.len() {
+        errors.push(error_of(found[i]))?;
     }
     drop(found);
-    Ok(())
+    Ok(errors)
 }
 
-/// Writes one of these places.
-fn tell_deviation<W: Write>(
-    alloc: Global,
-    name: &str,
-    text: &str,
-    deviation: Deviation,
-    options: Options,
-    out: &mut W,
-) -> Result<(), CheckFault> {
-    let error = Error {
+/// A place where a text departs from the standard, as an error.
+fn error_of(deviation: Deviation) -> Error<'static> {
+    Error {
         place: Some(deviation.place),
         rule: deviation.rule.name(),
         message: deviation.rule.sentence(),
-    };
-    let told = report_error(alloc, name, text, error, options.format)?;
-    let written = write_unless_quiet(out, told.as_str(), options);
-    drop(told);
-    written
+    }
+}
+
+/// Writes errors of a text.
+fn tell_wrong<W: Write>(
+    alloc: Global,
+    name: &str,
+    text: &str,
+    errors: &[Error<'_>],
+    options: Options,
+    out: &mut W,
+) -> Result<Verdict, CheckFault>
+    ensures { 0 < length errors.now → TellsWrong result name.now options text.now
+        (W.contents out.old) (W.contents out.new) }
+{
+    match report_errors(alloc, name, text, errors, options.format) {
+        Ok(told) => {
+            let written = write_unless_quiet(out, told.as_str(), options);
+            drop(told);
+            match written {
+                Ok(()) => Ok(Verdict::Wrong),
+                Err(fault) => Err(fault),
+            }
+        }
+        Err(_) => Err(CheckFault::OutOfMemory),
+    }
 }

@@ -1,11 +1,11 @@
 //! The findings as they are told: for people with the place, the message, the line and a caret, for programs as JSON.
-ghost use Rattle.std.specs.Prelude.{◌≡◌, ◌++◌, [], true, IfOk, OnOk, string_bytes};
+ghost use Rattle.std.specs.Prelude.{◌≡◌, ◌++◌, [], length, true, IfOk, OnOk, string_bytes};
 ghost use Rattle.std.specs.Str.{chars};
 ghost use Rattle.yaml_check.specs.Shown.{shown_text};
 ghost use Rattle.yaml_check.specs.Texts.{name_and_place};
 ghost use Rattle.yaml_check.specs.Told.{more_text, told_more, told_warning};
 ghost use Rattle.yaml_check.specs.ToldSeen.{told_of};
-ghost use Rattle.yaml_check.specs.Reports.{AddsFault, AddsNote, AddsMost, AddsTold, AddsWarnings, IsReport, name_in, told_line};
+ghost use Rattle.yaml_check.specs.Reports.{AddsError, AddsErrors, AddsFault, AddsNote, AddsMost, AddsTold, AddsWarnings, IsReport, name_in, told_line};
 
 use crate::arguments::Options;
 use crate::finding::{Finding, Findings, Note};
@@ -296,28 +296,34 @@ pub(crate) struct Error<'a> {
     pub(crate) message: &'a str,
 }
 
-/// What is printed for an error in a text of this name.
-pub(crate) fn report_error(
+/// What is printed for errors in a text of this name, one after the other.
+pub(crate) fn report_errors(
     alloc: Global,
     name: &str,
     text: &str,
-    error: Error<'_>,
+    errors: &[Error<'_>],
     format: Format,
-) -> Result<String, AllocError> {
+) -> Result<String, AllocError>
+    ensures { IfOk result (λ told. AddsErrors format (name_in format name.now) (chars text.now)
+        (length errors.now) [] (string_bytes told)) }
+{
     let name = printed_name(alloc, name, format)?;
-    let told = report_error_as(alloc, name.as_str(), text, error, format);
+    let told = report_errors_as(alloc, name.as_str(), text, errors, format);
     drop(name);
     told
 }
 
-/// The report of an error in a file whose name is as it is printed.
-fn report_error_as(
+/// The report of errors in a file whose name is as it is printed.
+fn report_errors_as(
     alloc: Global,
     name: &str,
     text: &str,
-    error: Error<'_>,
+    errors: &[Error<'_>],
     format: Format,
-) -> Result<String, AllocError> {
+) -> Result<String, AllocError>
+    ensures { IfOk result (λ told. AddsErrors format name.now (chars text.now)
+        (length errors.now) [] (string_bytes told)) }
+{
     let text = characters(alloc, text)?;
     let mut out = String::new(alloc);
     let source = Source {
@@ -325,14 +331,7 @@ fn report_error_as(
         name,
         text: &text,
     };
-    let place = error.place.unwrap_or(place_of_index(&text, text.len()));
-    let told = Told {
-        span: Span::empty(place),
-        severity: Severity::Error,
-        rule: error.rule,
-        message: error.message,
-    };
-    let done = tell(alloc, &mut out, &source, &told, true);
+    let done = tell_errors(alloc, &mut out, &source, errors);
     drop(text);
     match done {
         Ok(()) => Ok(out),
@@ -341,4 +340,40 @@ fn report_error_as(
             Err(fault)
         }
     }
+}
+
+/// Tells errors, one after the other.
+fn tell_errors(
+    alloc: Global,
+    out: &mut String,
+    source: &Source,
+    errors: &[Error<'_>],
+) -> Result<(), AllocError>
+    ensures { OnOk result (AddsErrors source.now.format source.now.name.now source.now.text.now
+        (length errors.now) (string_bytes out.old) (string_bytes out.new)) }
+{
+    for error in errors {
+        tell_error(alloc, out, source, *error)?;
+    }
+    Ok(())
+}
+
+/// Tells one error.
+fn tell_error(
+    alloc: Global,
+    out: &mut String,
+    source: &Source,
+    error: Error<'_>,
+) -> Result<(), AllocError>
+    ensures { OnOk result (AddsError source.now.format source.now.name.now source.now.text.now
+        (string_bytes out.old) (string_bytes out.new)) }
+{
+    let end = place_of_index(source.text, source.text.len());
+    let told = Told {
+        span: Span::empty(error.place.unwrap_or(end)),
+        severity: Severity::Error,
+        rule: error.rule,
+        message: error.message,
+    };
+    tell(alloc, out, source, &told, true)
 }

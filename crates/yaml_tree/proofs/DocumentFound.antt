@@ -317,6 +317,7 @@ leaves_last limits before false old new l (Err fault.NotFresh) at on t h k =
 leaves_last limits before b old new l (Err _) at on t h k = absurd h
 
 pub leaves_failed : (before : List Happening) (f : TreeFault) (old new : EventCursor)
-    → GoesOnBehind before (to_come old) → LeavesPart (Err f) old new → LeavesBehindLook (Err f) old new
+    → GoesOnBehind before (to_come old) → LeavesPart (Err f) old new
+    → LeavesBehindLook {X = Document} (Err f) old new
 leaves_failed before fault.NotFresh old new on k = inr (on.0, k)
 leaves_failed before _ old new on k = k

@@ -9,7 +9,6 @@ use Rattle.yaml_tree.specs.declared.parts.Parts.{Parts}
 use Rattle.yaml_tree.specs.declared.table.Content.{Content}
 use Rattle.yaml_tree.specs.declared.table.Content.TheVariants as content
 use Rattle.yaml_tree.specs.declared.table.Entry.{Entry}
-use Rattle.yaml_tree.specs.declared.numbering.Task.TheVariants as task
 use Rattle.yaml_tree.specs.declared.numbering.Numbering.{Numbering}
 use Rattle.yaml_tree.specs.Numbering.{Placed, Stand, IsContentOf, AreSpansOf, IsEntryOf}
 use Rattle.yaml_tree.specs.NumberingSeen.{NumbersLast}
@@ -45,7 +44,8 @@ spans_more all more (content.Alias id) e spans is = is
 spans_more all more (content.Scalar text style id tag) e spans is = is
 
 entry_more : (all more : List Placed) (e : Entry) (p : Placed) → IsEntryOf all e p → IsEntryOf (all ++ more) e p
-entry_more all more e p h = (content_more all more e.content p.0 h.0, spans_more all more e.content e p.1 h.1)
+entry_more all more e p h =
+    (content_more all more e.content p.0 h.0, spans_more all more e.content e p.1 h.1, h.2)
 
 pub entries_more : (all more : List Placed) (es : List Entry) (ps : List Placed) → AllZip (IsEntryOf all) es ps
     → AllZip (IsEntryOf (all ++ more)) es ps

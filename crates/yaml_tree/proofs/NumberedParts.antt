@@ -5,12 +5,12 @@ use Rattle.std.specs.List.{flat_map}
 use Rattle.saphyr_scalar.specs.declared.scalar.position.Span.{Span}
 use Rattle.saphyr_parser.specs.Events.{Happening}
 use Rattle.yaml_tree.specs.declared.node.Node.{Node}
-use Rattle.yaml_tree.specs.declared.table.Content.TheVariants as content
 use Rattle.yaml_tree.specs.declared.numbering.Task.{Task}
 use Rattle.yaml_tree.specs.declared.numbering.Task.TheVariants as task
 use Rattle.yaml_tree.specs.Unloading.{node_events, pair_events}
-use Rattle.yaml_tree.specs.Numbering.{Placed, FitNode, both_parts, nodes_of, spans_of}
-use Rattle.yaml_tree.specs.NumberingSeen.{Does, Make, AllFit}
+use Rattle.yaml_tree.specs.Numbering.{Placed, AllFit, FitNode, both_parts, nodes_of, spans_of}
+use Rattle.yaml_tree.specs.NumberingSeen.{Does, Make}
+use Rattle.yaml_tree.proofs.PartNumbers.{fit_split}
 
 -- ## Tasks
 
@@ -58,10 +58,6 @@ last_of f (x ∷ xs) (z ∷ ys) y e =
       more.4,
     )
 
-fit_front : (ps : List Placed) (p : Placed) → AllFit (ps ++ p ∷ []) → AllFit ps × FitNode p.1 p.0
-fit_front [] p h = (tt, h.0)
-fit_front (q ∷ ps) p h = let more = fit_front ps p h.1 in ((h.0, more.0), more.1)
-
 -- one more node is to be numbered first
 pub first_more : (nodes : List Node) (node : Node) (ts : List Task) (done last own : List Placed) (left : List Span)
     → nodes_of own ≡ nodes ++ node ∷ [] → AllFit own → Make ts (done ++ own) left last []
@@ -70,7 +66,7 @@ pub first_more : (nodes : List Node) (node : Node) (ts : List Task) (done last o
 first_more nodes node ts done last own left names fits make =
     let cut = last_of (λ (p : Placed). p.0) own nodes node names in
     let front = cut.0 in let p = cut.1 in
-    let fit = fit_front front p (subst AllFit cut.2 fits) in
+    let fit = fit_split front (p ∷ []) (subst AllFit cut.2 fits) in
     let same : done ++ own ≡ (done ++ front) ++ (node, p.1) ∷ [] =
     ap (λ (ps : List Placed). done ++ ps) (cut.2 ∙ ap (λ (n : Node). front ++ (n, p.1) ∷ []) cut.4)
     ∙ sym (append_assoc done front ((node, p.1) ∷ [])) in (
@@ -80,7 +76,7 @@ first_more nodes node ts done last own left names fits make =
       cut.3,
       fit.0,
       make_push ts (task.Number node) (done ++ front) (done ++ own) last (p.1 ++ left) left
-          [] (p.1, subst (FitNode p.1) cut.4 fit.1, refl, same) make,
+          [] (p.1, subst (FitNode p.1) cut.4 fit.1.0, refl, same) make,
     )
 
 -- ## Spans of parts

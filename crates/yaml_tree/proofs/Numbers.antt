@@ -1,6 +1,6 @@
 -- Nodes get numbers.
-use Rattle.std.proofs.Common.{arith, ◌≡◌, ◌∙◌, refl, sym, ap, subst, ℕ, ◌+◌, ◌-◌, ◌*◌, List, [], ◌∷◌, ◌++◌, length, drop, Result, Ok, Err, OnOk, slice_get, Option, Some, option_map, Vec, Global, append_assoc, append-nil}
-use Rattle.std.proofs.lemmas.List.{length-map, length-append, nil_from_length}
+use Rattle.std.proofs.Common.{arith, ◌≡◌, ◌∙◌, refl, sym, ap, subst, ℕ, ◌+◌, ◌*◌, List, [], ◌∷◌, ◌++◌, length, drop, Result, Ok, Err, OnOk, slice_get, Option, Some, option_map, Vec, Global, append_assoc, append-nil}
+use Rattle.std.proofs.lemmas.List.{length-map, nil_from_length}
 use Rattle.std.proofs.lemmas.Slice.Zip.{AllZip-long}
 use Rattle.std.specs.List.{AllZip, flat_map}
 use Rattle.saphyr_scalar.specs.declared.scalar.position.Span.{Span}
@@ -16,10 +16,10 @@ use Rattle.yaml_tree.specs.declared.numbering.Task.{Task}
 use Rattle.yaml_tree.specs.declared.numbering.Task.TheVariants as task
 use Rattle.yaml_tree.specs.declared.numbering.Numbering.{Numbering}
 use Rattle.yaml_tree.specs.Unloading.{node_events, pair_events}
-use Rattle.yaml_tree.specs.Numbering.{Placed, Stand, IsContentOf, AreSpansOf, IsEntryOf, FitNode, both_parts, nodes_of, spans_of}
-use Rattle.yaml_tree.specs.NumberingSeen.{Ends, Does, Make, HasNumbered, IsNumbering, GoesOn, AllFit, NumberFirst, NumbersLast, FinishesNode}
+use Rattle.yaml_tree.specs.Numbering.{Placed, AllFit, Stand, IsContentOf, AreSpansOf, IsEntryOf, FitNode, both_parts, nodes_of, spans_of}
+use Rattle.yaml_tree.specs.NumberingSeen.{Ends, Does, Make, HasNumbered, IsNumbering, GoesOn, NumberFirst, NumbersLast, FinishesNode}
 use Rattle.yaml_tree.proofs.Unloads.{node_events-Seq, node_events-Map}
-use Rattle.yaml_tree.proofs.PartNumbers.{get_behind, length_both}
+use Rattle.yaml_tree.proofs.PartNumbers.{all_fit, around_two, get_behind, length_both, own_fit, spans_fit}
 use Rattle.yaml_tree.proofs.NumberedEntries.{entries_more, zip_append}
 use Rattle.yaml_tree.proofs.NumberedParts.{first_more, flat_both, make_pop, make_push, opened}
 
@@ -86,23 +86,38 @@ begins_alone all last left span node x old new fits is spans f n =
       done = n.done ++ (node, span ∷ []) ∷ [];
       numbered = rw f.0 n.numbered;
       are_done = rw f.2 (zip_append (IsEntryOf all) old.done.items (_ ∷ []) n.done ((node, span ∷ []) ∷ [])
-          n.are_done ((is, spans), tt));
+          n.are_done ((is, spans, sym fits), tt));
       make = rw tasks (subst (λ (ps : List Placed). Make old.tasks.items ps left last []) middle
           (subst (λ (ss : List Span). Make old.tasks.items popped.0 ss last []) (sym one.1) popped.3));
     })
+
+-- ## How many events a collection has
+
+pub fits_sequence : (node : Node) (id : ℕ) (tag : Option Tag) (v : Vec Node Global) → node ≡ Seq id tag v
+    → length (node_events node) ≡ length (flat_map node_events v.items) + 2
+fits_sequence node id tag v is = ap (λ (n : Node). length (node_events n)) is
+    ∙ ap (λ (hs : List Happening). length hs) (node_events-Seq id tag v)
+    ∙ around_two (SequenceStart id (option_map resolved_tag tag)) SequenceEnd (flat_map node_events v.items)
+
+pub fits_mapping : (node : Node) (id : ℕ) (tag : Option Tag) (v : Vec (Node × Node) Global) → node ≡ Map id tag v
+    → length (node_events node) ≡ length (flat_map node_events (both_parts v.items)) + 2
+fits_mapping node id tag v is = ap (λ (n : Node). length (node_events n)) is
+    ∙ ap (λ (hs : List Happening). length hs) (node_events-Map id tag v)
+    ∙ around_two (MappingStart id (option_map resolved_tag tag)) MappingEnd (flat_map pair_events v.items)
+    ∙ ap (λ (hs : List Happening). length hs + 2) (sym (flat_both v.items))
 
 -- ## A collection ends
 
 pub ends_with_parts : (all last : List Placed) (left : List Span) (start span : Span) (node : Node) (nodes : List Node)
     (count : ℕ) (x : Content) (parts : Parts) (done middle : List Placed) (between : List Span) (old mid new : Numbering)
-    → Ends node nodes count start done (span ∷ left) middle between
+    → length (node_events node) ≡ length (flat_map node_events nodes) + 2 → Ends node nodes count start done (span ∷ left) middle between
     → ((every own : List Placed) → Stand parts own every → nodes_of own ≡ nodes → IsContentOf every x node)
     → ((every own : List Placed) (e : Entry) (ss : List Span) → Stand parts own every
     → ss ≡ e.start ∷ (spans_of own ++ e.end ∷ []) → AreSpansOf every x e ss)
     → NumbersLast count parts old mid → FinishesNode (record { content = x; start = start; end = span }) mid new
     → AllZip (IsEntryOf all) old.entries.items all → AllZip (IsEntryOf all) old.done.items done
     → Make old.tasks.items middle between last [] → GoesOn all left last new
-ends_with_parts all last left start span node nodes count x parts done middle between old mid new ends is around
+ends_with_parts all last left start span node nodes count x parts done middle between old mid new long ends is around
     numbers f numbered are_done make =
     let own = ends.own in
     let next = numbers.own_numbers all ends.front own numbered
@@ -112,6 +127,10 @@ ends_with_parts all last left start span node nodes count x parts done middle be
     let span_is : span ≡ ends.end = cc in
     let rest : left ≡ between = cc in
     let spans : List Span = start ∷ (spans_of own ++ span ∷ []) in
+    let fit : FitNode spans node = around_two start span (spans_of own)
+    ∙ ap (λ (n : ℕ). n + 2) (spans_fit own (own_fit parts own (all ++ own) next.2
+    (all_fit (all ++ own) mid.entries.items (all ++ own) next.0))
+    ∙ ap (λ (ns : List Node). length (flat_map node_events ns)) ends.nodes) ∙ sym long in
     let made : middle ≡ ends.front ++ (node, spans) ∷ [] =
     ends.with_node ∙ ap (λ (s : Span). ends.front ++ (node, start ∷ (spans_of own ++ s ∷ [])) ∷ []) (sym span_is) in (
       own,
@@ -119,7 +138,7 @@ ends_with_parts all last left start span node nodes count x parts done middle be
         done = ends.front ++ (node, spans) ∷ [];
         numbered = rw f.0 next.0;
         are_done = rw f.2 (zip_append (IsEntryOf (all ++ own)) mid.done.items (_ ∷ []) ends.front ((node, spans) ∷ [])
-            next.1 ((is (all ++ own) own next.2 ends.nodes, around (all ++ own) own _ spans next.2 refl), tt));
+            next.1 ((is (all ++ own) own next.2 ends.nodes, around (all ++ own) own _ spans next.2 refl, fit), tt));
         make = rw tasks (subst (λ (ps : List Placed). Make old.tasks.items ps left last []) made
             (subst (λ (ss : List Span). Make old.tasks.items middle ss last []) (sym rest) make));
       },
@@ -134,8 +153,9 @@ takes_sequence all last left start span id tag count parts t old mid new is numb
     let popped = make_pop old.tasks.items t n.done last (span ∷ left) [] n.make in
     let does = subst (λ (u : Task). Does u n.done (span ∷ left) popped.0 popped.1) is popped.2 in
     ends_with_parts all last left start span (Seq id tag does.0) does.0.items count (content.Sequence id tag parts) parts
-    n.done popped.0 popped.1 old mid new does.1 (λ every own s names. (does.0, refl, (own, s, names)))
-    (λ every own e ss s around. (own, s, around)) numbers f n.numbered n.are_done popped.3
+    n.done popped.0 popped.1 old mid new (fits_sequence _ id tag does.0 refl) does.1
+    (λ every own s names. (does.0, refl, (own, s, names))) (λ every own e ss s around. (own, s, around)) numbers f
+    n.numbered n.are_done popped.3
 
 pub takes_mapping : (all last : List Placed) (left : List Span) (start span : Span) (id : ℕ) (tag : Option Tag)
     (count : ℕ) (parts : Parts) (t : Task) (old mid new : Numbering) → t ≡ task.EndMapping id tag count start
@@ -146,27 +166,9 @@ takes_mapping all last left start span id tag count parts t old mid new is numbe
     let popped = make_pop old.tasks.items t n.done last (span ∷ left) [] n.make in
     let does = subst (λ (u : Task). Does u n.done (span ∷ left) popped.0 popped.1) is popped.2 in
     ends_with_parts all last left start span (Map id tag does.0) (both_parts does.0.items) count
-    (content.Mapping id tag parts) parts n.done popped.0 popped.1 old mid new does.1
+    (content.Mapping id tag parts) parts n.done popped.0 popped.1 old mid new (fits_mapping _ id tag does.0 refl) does.1
     (λ every own s names. (does.0, refl, (own, s, names)))
     (λ every own e ss s around. (own, s, around)) numbers f n.numbered n.are_done popped.3
-
--- ## How many events a collection has
-
-around_two : (x y : Happening) (hs : List Happening) → length (x ∷ (hs ++ y ∷ [])) ≡ length hs + 2
-around_two x y hs = let long = length-append hs (y ∷ []) in omega arith
-
-pub fits_sequence : (node : Node) (id : ℕ) (tag : Option Tag) (v : Vec Node Global) → node ≡ Seq id tag v
-    → length (node_events node) ≡ length (flat_map node_events v.items) + 2
-fits_sequence node id tag v is = ap (λ (n : Node). length (node_events n)) is
-    ∙ ap (λ (hs : List Happening). length hs) (node_events-Seq id tag v)
-    ∙ around_two (SequenceStart id (option_map resolved_tag tag)) SequenceEnd (flat_map node_events v.items)
-
-pub fits_mapping : (node : Node) (id : ℕ) (tag : Option Tag) (v : Vec (Node × Node) Global) → node ≡ Map id tag v
-    → length (node_events node) ≡ length (flat_map node_events (both_parts v.items)) + 2
-fits_mapping node id tag v is = ap (λ (n : Node). length (node_events n)) is
-    ∙ ap (λ (hs : List Happening). length hs) (node_events-Map id tag v)
-    ∙ around_two (MappingStart id (option_map resolved_tag tag)) MappingEnd (flat_map pair_events v.items)
-    ∙ ap (λ (hs : List Happening). length hs + 2) (sym (flat_both v.items))
 
 -- ## Tasks for parts
 

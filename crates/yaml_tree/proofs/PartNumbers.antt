@@ -1,10 +1,13 @@
 -- Parts are found by their numbers.
-use Rattle.std.proofs.Common.{arith, ◌≡◌, ◌∙◌, refl, sym, ap, subst, ℕ, zero, suc, ◌+◌, ◌*◌, ◌/◌, ◌<◌, ◌≤◌, List, [], ◌∷◌, ◌++◌, length, get_or, slice_get, Some, None, option_map}
-use Rattle.std.proofs.lemmas.List.{map-append, length-map}
-use Rattle.std.proofs.lemmas.Option.{slice_get_past}
+use Rattle.std.proofs.Common.{arith, ◌≡◌, ◌∙◌, refl, sym, ap, subst, ℕ, zero, suc, ◌+◌, ◌*◌, ◌<◌, List, [], ◌∷◌, ◌++◌, length, take, drop, get_or, slice_get, Some, option_map}
+use Rattle.std.proofs.Math.Seq.{drop-append_seam, take-append_seam}
+use Rattle.std.proofs.lemmas.List.{length-append, length-map}
+use Rattle.std.specs.List.{AllZip, flat_map}
 use Rattle.yaml_tree.specs.declared.node.Node.{Node}
 use Rattle.yaml_tree.specs.declared.parts.Parts.{Parts}
-use Rattle.yaml_tree.specs.Numbering.{Placed, HasNumber, HasParts, both_parts, nodes_of}
+use Rattle.yaml_tree.specs.declared.table.Entry.{Entry}
+use Rattle.yaml_tree.specs.Numbering.{Placed, AllFit, HasParts, IsEntryOf, Stand, both_parts, nodes_of, spans_of}
+use Rattle.yaml_tree.specs.Unloading.{node_events}
 
 -- ## Lists
 
@@ -25,42 +28,57 @@ some_get [] i h = absurd (omega arith)
 some_get (x ∷ xs) zero h = (x, refl, refl)
 some_get (x ∷ xs) (suc i) h = some_get xs i (omega arith)
 
--- ## Parts
+pub around_two : {X : Type 0} (x y : X) (xs : List X) → length (x ∷ (xs ++ y ∷ [])) ≡ length xs + 2
+around_two x y xs = let long = length-append xs (y ∷ []) in omega arith
 
-nodes_around : (front own behind : List Placed)
-    → nodes_of (front ++ (own ++ behind)) ≡ nodes_of front ++ (nodes_of own ++ nodes_of behind)
-nodes_around front own behind = map-append (λ (p : Placed). p.0) front (own ++ behind)
-    ∙ ap (λ (ns : List Node). nodes_of front ++ ns) (map-append (λ (p : Placed). p.0) own behind)
+-- ## Parts
 
 pub counts_parts : (parts : Parts) (nodes : List Node) (all : List Placed) → HasParts parts nodes all
     → length nodes ≡ parts.count
 counts_parts parts nodes all (own, s, same) =
     ap (λ (ns : List Node). length ns) (sym same) ∙ length-map own (λ (p : Placed). p.0) ∙ s.count
 
-pub has_part : (parts : Parts) (nodes : List Node) (all : List Placed) (i : ℕ) → HasParts parts nodes all
-    → i < parts.count → slice_get (nodes_of all) (parts.first + i) ≡ slice_get nodes i
-has_part parts nodes all i (own, s, same) h =
-    let first : parts.first ≡ length (nodes_of s.front) = sym (length-map s.front (λ (p : Placed). p.0) ∙ s.first) in
-    let short : i < length nodes =
-    subst (λ (n : ℕ). i < n) (sym (counts_parts parts nodes all (own, s, same))) h in
-    ap (λ (ps : List Placed). slice_get (nodes_of ps) (parts.first + i)) s.split
-    ∙ ap (λ (ns : List Node). slice_get ns (parts.first + i)) (nodes_around s.front own s.behind)
-    ∙ ap (λ (n : ℕ). slice_get (nodes_of s.front ++ (nodes_of own ++ nodes_of s.behind)) (n + i)) first
-    ∙ get_behind (nodes_of s.front) (nodes_of own ++ nodes_of s.behind) i
-    ∙ ap (λ (ns : List Node). slice_get (ns ++ nodes_of s.behind) i) same
-    ∙ get_within nodes (nodes_of s.behind) i short
+-- the numbers tell which nodes the parts are
+pub same_own : (parts : Parts) (own other all : List Placed) → Stand parts own all → Stand parts other all → own ≡ other
+same_own parts own other all s t = sym (are own s) ∙ are other t
+  where
+    are : (ps : List Placed) → Stand parts ps all → take parts.count (drop parts.first all) ≡ ps
+    are ps s = ap (λ (l : List Placed). take parts.count (drop parts.first l)) s.split
+        ∙ ap (λ (n : ℕ). take parts.count (drop n (s.front ++ (ps ++ s.behind)))) (sym s.first)
+        ∙ ap (take parts.count) (drop-append_seam s.front (ps ++ s.behind))
+        ∙ ap (λ (n : ℕ). take n (ps ++ s.behind)) (sym s.count) ∙ take-append_seam ps s.behind
 
--- it is the part's number
-pub number_of_part : (parts : Parts) (nodes : List Node) (all : List Placed) (i : ℕ) → HasParts parts nodes all
-    → i < parts.count → HasNumber all (slice_get nodes i) (Some (parts.first + i))
-number_of_part parts nodes all i h less =
-    let there = some_get nodes i (subst (λ (n : ℕ). i < n) (sym (counts_parts parts nodes all h)) less) in
-    (there.0, there.1, has_part parts nodes all i h less ∙ there.1)
+pub part_there : (parts : Parts) (own all : List Placed) (i : ℕ) → Stand parts own all → i < parts.count
+    → slice_get all (parts.first + i) ≡ slice_get own i
+part_there parts own all i s less =
+    ap (λ (l : List Placed). slice_get l (parts.first + i)) s.split
+    ∙ ap (λ (n : ℕ). slice_get (s.front ++ (own ++ s.behind)) (n + i)) (sym s.first)
+    ∙ get_behind s.front (own ++ s.behind) i
+    ∙ get_within own s.behind i (subst (λ (n : ℕ). i < n) (sym s.count) less)
 
-pub no_part : (parts : Parts) (nodes : List Node) (all : List Placed) (i : ℕ) → HasParts parts nodes all
-    → parts.count ≤ i → slice_get nodes i ≡ None
-no_part parts nodes all i h more =
-    slice_get_past nodes i (subst (λ (n : ℕ). n ≤ i) (sym (counts_parts parts nodes all h)) more)
+-- ## Spans of parts
+
+pub fit_split : (ps qs : List Placed) → AllFit (ps ++ qs) → AllFit ps × AllFit qs
+fit_split [] qs h = (tt, h)
+fit_split (p ∷ ps) qs h = let more = fit_split ps qs h.1 in ((h.0, more.0), more.1)
+
+pub all_fit : (all : List Placed) (es : List Entry) (ps : List Placed) → AllZip (IsEntryOf all) es ps → AllFit ps
+all_fit all [] [] h = tt
+all_fit all [] (p ∷ ps) h = absurd h
+all_fit all (e ∷ es) [] h = tt
+all_fit all (e ∷ es) (p ∷ ps) h = (h.0.2, all_fit all es ps h.1)
+
+pub own_fit : (parts : Parts) (own all : List Placed) → Stand parts own all → AllFit all → AllFit own
+own_fit parts own all s fit =
+    (fit_split own s.behind (fit_split s.front (own ++ s.behind) (subst AllFit s.split fit)).1).0
+
+pub spans_fit : (ps : List Placed) → AllFit ps → length (spans_of ps) ≡ length (flat_map node_events (nodes_of ps))
+spans_fit [] h = refl
+spans_fit (p ∷ ps) h =
+    let spans = length-append p.1 (spans_of ps) in
+    let events = length-append (node_events p.0) (flat_map node_events (nodes_of ps)) in
+    let first : length p.1 ≡ length (node_events p.0) = h.0 in let others = spans_fit ps h.1 in
+    omega (arith, spans, events, first, others)
 
 -- ## Pairs
 
@@ -89,17 +107,3 @@ length_both (pair ∷ pairs) = let more = length_both pairs in omega arith
 pub counts_pairs : (parts : Parts) (pairs : List (Node × Node)) (all : List Placed)
     → HasParts parts (both_parts pairs) all → parts.count ≡ 2 * length pairs
 counts_pairs parts pairs all h = sym (counts_parts parts (both_parts pairs) all h) ∙ length_both pairs
-
-pub no_pair : {X : Type 0} (f : Node × Node → X) (parts : Parts) (pairs : List (Node × Node)) (all : List Placed) (i : ℕ)
-    → HasParts parts (both_parts pairs) all → (i < parts.count / 2 → ⊥)
-    → option_map f (slice_get pairs i) ≡ None
-no_pair f parts pairs all i h past =
-    let count = counts_pairs parts pairs all h in ap (option_map f) (slice_get_past pairs i (omega arith))
-
--- it is the number of a pair's key or value
-pub number_in_pair : (f : Node × Node → Node) (parts : Parts) (pairs : List (Node × Node)) (all : List Placed) (i j : ℕ)
-    → HasParts parts (both_parts pairs) all
-    → slice_get (both_parts pairs) j ≡ option_map f (slice_get pairs i) → j < parts.count
-    → HasNumber all (option_map f (slice_get pairs i)) (Some (parts.first + j))
-number_in_pair f parts pairs all i j h is less =
-    let there = number_of_part parts (both_parts pairs) all j h less in (there.0, sym is ∙ there.1, there.2)

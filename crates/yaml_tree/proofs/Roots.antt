@@ -1,6 +1,6 @@
 -- The roots of documents, one after the other.
 use Rattle.std.proofs.Common.{◌≡◌, ◌∙◌, sym, ap, subst, refl, ℕ, List, [], ◌∷◌, ◌++◌, ◌+◌, length, map, zip, slice_get, Some, Result, Ok, Err, IfOk, append_assoc, append-nil, arith}
-use Rattle.std.proofs.lemmas.List.{length-append, length-map}
+use Rattle.std.proofs.lemmas.List.{length-map}
 use Rattle.std.proofs.lemmas.Option.{slice_get_within}
 use Rattle.std.specs.List.{AllZip}
 use Rattle.std.specs.declared.alloc.AllocError.{AllocError}
@@ -19,7 +19,7 @@ use Rattle.yaml_tree.specs.Spanning.{AreSpanned, IsSpannedDocument, IsSpannedStr
 use Rattle.yaml_tree.specs.Unloading.{document_events, node_events}
 use Rattle.yaml_tree.specs.NumberingSeen.{HasNumbered}
 use Rattle.yaml_tree.proofs.NumberedEntries.{zip_append}
-use Rattle.yaml_tree.proofs.PartNumbers.{get_within}
+use Rattle.yaml_tree.proofs.PartNumbers.{around_two, get_within}
 
 abbrev pub Fit : Document → DocumentSpans → Type 0
 Fit d own = FitNode own.nodes.items d.root
@@ -90,18 +90,15 @@ all_roots s ds ss n table none entries h =
 
 -- ## There are as many spans as events
 
-around_all : {X : Type 0} (x y : X) (xs : List X) → length (x ∷ (xs ++ y ∷ [])) ≡ length xs + 2
-around_all x y xs = let long = length-append xs (y ∷ []) in omega arith
-
 fits_one : (d : Document) (s : DocumentSpans) (own : List (Happening × Span)) → happenings own ≡ document_events d
     → places_of_events own ≡ all_spans s → Fit d s
 fits_one d s own events places =
     let by_events : length own ≡ length (node_events d.root) + 2 =
     sym (length-map own (λ (e : Happening × Span). e.0)) ∙ ap (λ (hs : List Happening). length hs) events
-    ∙ around_all (DocumentStart d.explicit) DocumentEnd (node_events d.root) in
+    ∙ around_two (DocumentStart d.explicit) DocumentEnd (node_events d.root) in
     let by_spans : length own ≡ length s.nodes.items + 2 =
     sym (length-map own (λ (e : Happening × Span). e.1)) ∙ ap (λ (ss : List Span). length ss) places
-    ∙ around_all s.start s.end s.nodes.items in
+    ∙ around_two s.start s.end s.nodes.items in
     omega arith
 
 fits_each : (ds : List Document) (ss : List DocumentSpans) (events : List (Happening × Span))

@@ -1,5 +1,5 @@
 -- What a node is made of (YAML 1.2.2, 3.2.1): its kind, its text and style, its tag, its anchor, and its parts.
-use Rattle.std.specs.Prelude.{ℕ, zero, suc, Bool, true, false, cond, List, [], ◌∷◌, Option, Some, None, string_bytes}
+use Rattle.std.specs.Prelude.{ℕ, zero, suc, Bool, true, false, cond, List, [], ◌∷◌, Option, Some, None, option_map, string_bytes}
 use Rattle.std.specs.Str.{bytes_eq}
 use Rattle.saphyr_parser.specs.Types.Tag.{Tag}
 use Rattle.saphyr_scalar.specs.declared.scalar.style.ScalarStyle.{ScalarStyle}
@@ -113,6 +113,12 @@ abbrev pub first_value : List ℕ → List (Node × Node) → Option Node
 first_value key [] = None
 first_value key (pair ∷ pairs) =
     cond (is_this_text key (text_of_node pair.0)) (Some pair.1) (first_value key pairs)
+
+-- which of these pairs is the first with such a key, from 0
+abbrev pub first_pair : List ℕ → List (Node × Node) → Option ℕ
+first_pair key [] = None
+first_pair key (pair ∷ pairs) =
+    cond (is_this_text key (text_of_node pair.0)) (Some zero) (option_map suc (first_pair key pairs))
 
 abbrev pub value_among : List ℕ → Option (List (Node × Node)) → Option Node
 value_among key (Some pairs) = first_value key pairs

@@ -109,7 +109,7 @@ LoadsEach limits (document ∷ documents) all left =
 
 -- After a look at the next event: after the document, after all events, after the fault that was met, or after
 -- the event that could not be taken. Where the parser is inside a document, nothing else is done.
-abbrev pub LeavesBehindLook : Result (Option Document) TreeFault → EventCursor → EventCursor → Type 0
+abbrev pub LeavesBehindLook : {X : Type 0} → Result (Option X) TreeFault → EventCursor → EventCursor → Type 0
 LeavesBehindLook (Ok (Some document)) looked new = HasHandedOut looked new
 LeavesBehindLook (Ok None) looked new = AdvancesOver (to_come looked).events looked new × IsOver new
 LeavesBehindLook (Err fault.NotFresh) looked new =
@@ -117,7 +117,8 @@ LeavesBehindLook (Err fault.NotFresh) looked new =
 LeavesBehindLook (Err f) looked new = LeavesFrom {X = Option Document} (Err f) looked new
 
 -- The parser that a call leaves.
-pub record LeavesBehindDocument (result : Result (Option Document) TreeFault) (old new : EventCursor) : Type 0 where
+pub record LeavesBehindDocument {X : Type 0} (result : Result (Option X) TreeFault) (old new : EventCursor)
+    : Type 0 where
   pub looked : EventCursor
   pub looks : Looks old looked
   pub leaves : LeavesBehindLook result looked new

@@ -6,7 +6,7 @@ use Rattle.saphyr_parser.specs.Events.{Happening, SequenceEnd, MappingEnd}
 use Rattle.yaml_tree.specs.declared.node.Node.{Node}
 use Rattle.yaml_tree.specs.declared.paths.Step.{Step}
 use Rattle.yaml_tree.specs.declared.paths.Step.TheVariants.{Index, Key, Value}
-use Rattle.yaml_tree.specs.Accessing.{items_of_node, pairs_of_node}
+use Rattle.yaml_tree.specs.Accessing.{first_pair, items_of_node, pairs_of_node}
 use Rattle.yaml_tree.specs.Unloading.{node_events, pair_events}
 
 abbrev pub part_at : {X : Type 0} → ℕ → Option (List X) → Option X
@@ -17,6 +17,10 @@ abbrev pub at_step : Step → Node → Option Node
 at_step (Index n) node = part_at n (items_of_node node)
 at_step (Key n) node = option_map (λ (pair : Node × Node). pair.0) (part_at n (pairs_of_node node))
 at_step (Value n) node = option_map (λ (pair : Node × Node). pair.1) (part_at n (pairs_of_node node))
+
+-- the step to the value in a mapping of the first key that is a scalar with this text
+abbrev pub step_at_key : List ℕ → Node → Option Step
+step_at_key key node = option_map Value (option_and_then (first_pair key) (pairs_of_node node))
 
 -- the node at the end of these steps, if there is one
 abbrev pub follow : List Step → Node → Option Node

@@ -1,5 +1,5 @@
 -- Trees as one list of nodes that are known by their numbers (YAML 1.2.2, 3.2.1), each with the spans of its events.
-use Rattle.std.specs.Prelude.{◌≡◌, ◌⊎◌, ℕ, ◌/◌, List, [], ◌∷◌, ◌++◌, length, map, zip, slice_get, Option, Some, None, option_map, Result, Ok, Err, Vec, string_bytes}
+use Rattle.std.specs.Prelude.{◌≡◌, ◌⊎◌, ◌<◌, ◌≤◌, ℕ, ◌+◌, ◌*◌, ◌/◌, List, [], ◌∷◌, ◌++◌, length, map, zip, slice_get, Option, Some, None, Result, Ok, Err, Vec, string_bytes}
 use Rattle.std.specs.Global.{Global}
 use Rattle.std.specs.List.{AllZip, flat_map}
 use Rattle.saphyr_scalar.specs.declared.scalar.position.Span.{Span}
@@ -22,6 +22,7 @@ use Rattle.yaml_tree.specs.declared.paths.Step.{Step}
 use Rattle.yaml_tree.specs.declared.paths.Step.TheVariants.{Index, Key, Value}
 use Rattle.yaml_tree.specs.Accessing.{anchor_of_node, some_anchor}
 use Rattle.yaml_tree.specs.Expanding.{nodes_once_expanded}
+use Rattle.yaml_tree.specs.Following.{at_step}
 use Rattle.yaml_tree.specs.Loading.{LoadsDocuments}
 use Rattle.yaml_tree.specs.DocumentLoading.{LoadsDocument}
 use Rattle.yaml_tree.specs.Spanning.{IsSpannedDocument, IsSpannedStream, all_spans}
@@ -38,6 +39,14 @@ nodes_of = map (λ (p : Placed). p.0)
 
 abbrev pub spans_of : List Placed → List Span
 spans_of = flat_map (λ (p : Placed). p.1)
+
+-- there is a span for each event of the node
+abbrev pub FitNode : List Span → Node → Type 0
+FitNode spans node = length spans ≡ length (node_events node)
+
+abbrev pub AllFit : List Placed → Type 0
+AllFit [] = Unit {0}
+AllFit (p ∷ ps) = FitNode p.1 p.0 × AllFit ps
 
 -- of all nodes these have the numbers of the parts
 pub record Stand (parts : Parts) (own all : List Placed) : Type 0 where
@@ -76,7 +85,8 @@ AreSpansOf all (content.Mapping id tag parts) entry spans = AreAround parts entr
 AreSpansOf all _ entry spans = (spans ≡ entry.start ∷ []) × (entry.end ≡ entry.start)
 
 abbrev pub IsEntryOf : List Placed → Entry → Placed → Type 0
-IsEntryOf all entry p = IsContentOf all entry.content p.0 × AreSpansOf all entry.content entry p.1
+IsEntryOf all entry p =
+    IsContentOf all entry.content p.0 × AreSpansOf all entry.content entry p.1 × FitNode p.1 p.0
 
 -- the nodes of a table, by their numbers
 abbrev pub HasNodes : List Placed → NodeTable → Type 0
@@ -92,23 +102,49 @@ abbrev pub IsTableOf : SpannedDocuments → NodeTable → Type 0
 IsTableOf s table = (all : List Placed) × HasNodes all table
     × AllZip (IsRootOf all) table.roots.items (zip s.documents.items s.spans.items)
 
--- there is a span for each event of the node
-abbrev pub FitNode : List Span → Node → Type 0
-FitNode spans node = length spans ≡ length (node_events node)
-
 abbrev pub FitDocuments : SpannedDocuments → Type 0
 FitDocuments s = AllZip (λ (d : Document) (own : DocumentSpans). FitNode own.nodes.items d.root)
     s.documents.items s.spans.items
 
+-- ## Where a part is
+
+-- the nodes of a sequence, or the keys and values of a mapping in turn
+abbrev pub parts_in_layer : Node-F Node → List Node
+parts_in_layer (Node-F.Seq id tag nodes) = nodes.items
+parts_in_layer (Node-F.Map id tag pairs) = both_parts pairs.items
+parts_in_layer _ = []
+
+abbrev pub parts_of : Node → List Node
+parts_of node = parts_in_layer (out-Node node)
+
+-- These are a collection's parts, each with the spans of its own events. Before theirs comes that of its start, and
+-- after them that of its end.
+pub record ArePartsOf (whole : Placed) (own : List Placed) : Type 0 where
+  pub nodes : nodes_of own ≡ parts_of whole.0
+  pub fit : AllFit own
+  pub start : Span
+  pub end : Span
+  pub spans : whole.1 ≡ start ∷ (spans_of own ++ end ∷ [])
+
+-- how many parts come before the one at a step
+abbrev pub parts_before : Step → ℕ
+parts_before (Index n) = n
+parts_before (Key n) = 2 * n
+parts_before (Value n) = 2 * n + 1
+
+-- The step leads to this part: by the spans of its events to the very one, and not to an equal one elsewhere.
+pub record IsPartAt (step : Step) (whole part : Placed) : Type 0 where
+  pub leads : at_step step whole.0 ≡ Some part.0
+  pub own : List Placed
+  pub parts : ArePartsOf whole own
+  pub place : slice_get own (parts_before step) ≡ Some part
+
 -- ## What a content tells
 
-abbrev pub IsNodeAt : List Placed → ℕ → Node → Type 0
-IsNodeAt all number node = slice_get (nodes_of all) number ≡ Some node
-
--- the node has this number, or there is neither
-abbrev pub HasNumber : List Placed → Option Node → Option ℕ → Type 0
-HasNumber all found (Some number) = (node : Node) × (found ≡ Some node) × IsNodeAt all number node
-HasNumber all found None = found ≡ None
+-- it is the number of the part behind so many others, or there are no more
+abbrev pub IsNumberIn : Parts → ℕ → Option ℕ → Type 0
+IsNumberIn parts before (Some number) = (before < parts.count) × (number ≡ parts.first + before)
+IsNumberIn parts before None = parts.count ≤ before
 
 -- the text of a scalar
 abbrev pub text_of_scalar : Content → Option (List ℕ)
@@ -133,19 +169,20 @@ abbrev pub pairs_in : Content → Option Parts
 pairs_in (content.Mapping id tag parts) = Some parts
 pairs_in _ = None
 
--- this is the number of the part to which a step leads
-abbrev pub Leads : List Placed → Content → Step → Option ℕ → Type 0
-Leads all (content.Sequence id tag parts) (Index n) result =
-    (nodes : List Node) → HasParts parts nodes all → HasNumber all (slice_get nodes n) result
-Leads all (content.Mapping id tag parts) (Key n) result = (pairs : List (Node × Node))
-    → HasParts parts (both_parts pairs) all
-    → HasNumber all (option_map (λ (pair : Node × Node). pair.0) (slice_get pairs n)) result
-Leads all (content.Mapping id tag parts) (Value n) result = (pairs : List (Node × Node))
-    → HasParts parts (both_parts pairs) all
-    → HasNumber all (option_map (λ (pair : Node × Node). pair.1) (slice_get pairs n)) result
-Leads all _ _ result = result ≡ None
+-- this is the number of the part to which a step leads; a mapping has two parts for each pair
+abbrev pub Leads : Content → Step → Option ℕ → Type 0
+Leads (content.Sequence id tag parts) (Index n) result = IsNumberIn parts n result
+Leads (content.Mapping id tag parts) (Key n) result =
+    (pairs : ℕ) → parts.count ≡ 2 * pairs → IsNumberIn parts (2 * n) result
+Leads (content.Mapping id tag parts) (Value n) result =
+    (pairs : ℕ) → parts.count ≡ 2 * pairs → IsNumberIn parts (2 * n + 1) result
+Leads _ _ result = result ≡ None
 
 -- ## What a table tells
+
+-- the node has this number
+abbrev pub IsNodeAt : List Placed → ℕ → Placed → Type 0
+IsNodeAt all number p = slice_get all number ≡ Some p
 
 -- no node has this number
 abbrev pub HasNoNode : ℕ → NodeTable → Type 0
@@ -160,10 +197,16 @@ count_in_layer _ = 0
 abbrev pub count_of_parts : Node → ℕ
 count_of_parts node = count_in_layer (out-Node node)
 
+-- the part to which a step leads has this number, or there is neither
+abbrev pub HasNumber : List Placed → Placed → Option Step → Option ℕ → Type 0
+HasNumber all whole (Some step) (Some number) = (part : Placed) × IsPartAt step whole part × IsNodeAt all number part
+HasNumber all whole (Some step) None = at_step step whole.0 ≡ None
+HasNumber all whole None result = result ≡ None
+
 -- a node with this anchor, or there is none
 abbrev pub FindsNumber : ℕ → List Placed → Option ℕ → Type 0
-FindsNumber id all (Some number) = (node : Node) × IsNodeAt all number node × (anchor_of_node node ≡ Some id)
-FindsNumber id all None = (number : ℕ) (node : Node) → IsNodeAt all number node → anchor_of_node node ≡ Some id → ⊥
+FindsNumber id all (Some number) = (p : Placed) × IsNodeAt all number p × (anchor_of_node p.0 ≡ Some id)
+FindsNumber id all None = (number : ℕ) (p : Placed) → IsNodeAt all number p → anchor_of_node p.0 ≡ Some id → ⊥
 
 -- ## What loading a table answers
 

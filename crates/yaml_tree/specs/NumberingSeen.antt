@@ -9,7 +9,7 @@ use Rattle.yaml_tree.specs.declared.numbering.Task.{Task}
 use Rattle.yaml_tree.specs.declared.numbering.Task.TheVariants as task
 use Rattle.yaml_tree.specs.declared.numbering.Numbering.{Numbering}
 use Rattle.yaml_tree.specs.declared.parts.Parts.{Parts}
-use Rattle.yaml_tree.specs.Numbering.{Placed, Stand, IsEntryOf, FitNode, both_parts, nodes_of, spans_of}
+use Rattle.yaml_tree.specs.Numbering.{Placed, Stand, IsEntryOf, AllFit, FitNode, both_parts, nodes_of, spans_of}
 
 -- Behind the nodes in front, those that are done last are the parts of a node that ends. Its spans are those of its
 -- start, of theirs and of its end.
@@ -56,11 +56,6 @@ pub record IsNumbering (all : List Placed) (tasks : List Task) (left : List Span
 -- More nodes may have got numbers.
 abbrev pub GoesOn : List Placed → List Span → List Placed → Numbering → Type 0
 GoesOn all left last n = (more : List Placed) × IsNumbering (all ++ more) n.tasks.items left last n
-
--- these nodes come next, each with as many spans as events
-abbrev pub AllFit : List Placed → Type 0
-AllFit [] = Unit {0}
-AllFit (p ∷ ps) = FitNode p.1 p.0 × AllFit ps
 
 -- The tasks are to number these nodes, and then what they were before.
 abbrev pub NumberFirst : List Node → List Task → List Task → Type 0

@@ -2,6 +2,8 @@
 ghost use Rattle.std.specs.Prelude.{◌≡◌, ◌++◌, ◌∷◌, [], List, IfOk, OnOk, Some, length, slice_get};
 ghost use Rattle.saphyr_scalar.specs.declared.scalar.position.Span.{Span as Place};
 ghost use Rattle.saphyr_parser.specs.Cursor.{to_come};
+ghost use Rattle.yaml_tree.specs.DocumentLoading.{LeavesBehindDocument};
+ghost use Rattle.yaml_tree.specs.Leaving.{LeavesParser};
 ghost use Rattle.yaml_tree.specs.Numbering.{FitDocuments, FitNode, IsTableOf, IsTableOfOne, LoadsNextTable, LoadsTable};
 ghost use Rattle.yaml_tree.specs.Numbering.{Placed, both_parts};
 ghost use Rattle.yaml_tree.specs.declared.numbering.Task.TheVariants as TheTask;
@@ -27,7 +29,8 @@ pub fn load_table<'input, T: Input>(
     parser: &mut Parser<'input, T>,
     limits: Limits,
 ) -> Result<NodeTable, TreeFault>
-    ensures { LoadsTable limits result (to_come parser.old) (to_come parser.new) }
+    ensures loads { LoadsTable limits result (to_come parser.old) (to_come parser.new) }
+    ensures leaves { LeavesParser result parser.old parser.new }
 {
     match load_documents_with_spans(alloc, parser, limits) {
         Ok(spanned) => match NodeTable::of(alloc, spanned) {
@@ -45,7 +48,8 @@ pub fn load_next_table<'input, T: Input>(
     parser: &mut Parser<'input, T>,
     limits: Limits,
 ) -> Result<Option<NodeTable>, TreeFault>
-    ensures { LoadsNextTable limits result (to_come parser.old) (to_come parser.new) }
+    ensures loads { LoadsNextTable limits result (to_come parser.old) (to_come parser.new) }
+    ensures leaves { LeavesBehindDocument result parser.old parser.new }
 {
     match load_document_with_spans(alloc, parser, limits) {
         Ok(Some((document, spans))) => match NodeTable::of_one(alloc, document, spans) {

@@ -10,14 +10,12 @@ pub struct Parts {
 }
 
 impl Parts {
-    ghost use Rattle.std.specs.Prelude.{◌≡◌, List, option_map, slice_get};
-    ghost use Rattle.yaml_tree.specs.declared.node.Node.{Node as Tree};
-    ghost use Rattle.yaml_tree.specs.Numbering.{HasNumber, HasParts, Placed, both_parts};
+    ghost use Rattle.std.specs.Prelude.{◌≡◌, ◌*◌, ℕ};
+    ghost use Rattle.yaml_tree.specs.Numbering.{IsNumberIn};
 
     // The number of the item with this index.
     pub(crate) fn item(self, index: usize) -> Option<usize>
-        ensures { (nodes : List Tree) (all : List Placed) → HasParts self nodes all
-            → HasNumber all (slice_get nodes index) result }
+        ensures { IsNumberIn self index result }
     {
         if index < self.count {
             Some(self.first + index)
@@ -28,9 +26,7 @@ impl Parts {
 
     // The number of the key of the pair with this index.
     pub(crate) fn key(self, index: usize) -> Option<usize>
-        ensures { (pairs : List (Tree × Tree)) (all : List Placed)
-            → HasParts self (both_parts pairs) all → HasNumber all
-            (option_map (λ (pair : Tree × Tree). pair.0) (slice_get pairs index)) result }
+        ensures { (pairs : ℕ) → self.count ≡ 2 * pairs → IsNumberIn self (2 * index) result }
     {
         if index < self.count / 2 {
             Some(self.first + 2 * index)
@@ -41,9 +37,7 @@ impl Parts {
 
     // The number of the value of the pair with this index.
     pub(crate) fn value(self, index: usize) -> Option<usize>
-        ensures { (pairs : List (Tree × Tree)) (all : List Placed)
-            → HasParts self (both_parts pairs) all → HasNumber all
-            (option_map (λ (pair : Tree × Tree). pair.1) (slice_get pairs index)) result }
+        ensures { (pairs : ℕ) → self.count ≡ 2 * pairs → IsNumberIn self (2 * index + 1) result }
     {
         if index < self.count / 2 {
             Some(self.first + 2 * index + 1)

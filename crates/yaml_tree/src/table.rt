@@ -1,8 +1,8 @@
 //! Trees as one list of nodes that are known by their numbers, for callers that can't hold references into a tree.
-ghost use Rattle.std.specs.Prelude.{◌≡◌, ◌↔◌, IsTrue, List, None as none, Some, option_copied, slice_get};
+ghost use Rattle.std.specs.Prelude.{◌≡◌, ◌↔◌, ◌+◌, ◌*◌, ℕ, IsTrue, List, None as none, Some, option_copied, option_map, slice_get};
 ghost use Rattle.yaml_tree.specs.declared.node.Node.{Node as Tree};
-ghost use Rattle.yaml_tree.specs.Accessing.{anchor_of_node, first_value, is_this_text, text_of_node, value_at_key};
-ghost use Rattle.yaml_tree.specs.Following.{at_step};
+ghost use Rattle.yaml_tree.specs.Accessing.{anchor_of_node, first_pair, is_this_text, text_of_node};
+ghost use Rattle.yaml_tree.specs.Following.{step_at_key};
 ghost use Rattle.yaml_tree.specs.Numbering.{FindsNumber, HasNoNode, HasNodes, HasNumber, HasParts, IsNodeAt};
 ghost use Rattle.yaml_tree.specs.Numbering.{Placed, both_parts, count_of_parts};
 
@@ -62,8 +62,8 @@ impl NodeTable {
     /// How many items a sequence has, or how many pairs a mapping.
     #[must_use]
     pub fn count(&self, number: usize) -> usize
-        ensures counts { (all : List Placed) (node : Tree) → HasNodes all self.now
-            → IsNodeAt all number node → result ≡ count_of_parts node }
+        ensures counts { (all : List Placed) (p : Placed) → HasNodes all self.now
+            → IsNodeAt all number p → result ≡ count_of_parts p.0 }
         ensures no_node { HasNoNode number self.now → result ≡ 0 }
     {
         match self.entry(number) {
@@ -75,8 +75,8 @@ impl NodeTable {
     /// The number of a part.
     #[must_use]
     pub fn part(&self, number: usize, step: Step) -> Option<usize>
-        ensures leads { (all : List Placed) (node : Tree) → HasNodes all self.now
-            → IsNodeAt all number node → HasNumber all (at_step step node) result }
+        ensures leads { (all : List Placed) (whole : Placed) → HasNodes all self.now
+            → IsNodeAt all number whole → HasNumber all whole (Some step) result }
         ensures no_node { HasNoNode number self.now → result ≡ none }
     {
         self.entry(number)?.content.part(step)
@@ -85,8 +85,9 @@ impl NodeTable {
     /// The number of the value in a mapping whose key is a scalar with this text. If there are several, the first.
     #[must_use]
     pub fn get(&self, number: usize, key: &str) -> Option<usize>
-        ensures finds { (all : List Placed) (node : Tree) → HasNodes all self.now
-            → IsNodeAt all number node → HasNumber all (value_at_key key.now node) result }
+        ensures finds { (all : List Placed) (whole : Placed) → HasNodes all self.now
+            → IsNodeAt all number whole
+            → HasNumber all whole (step_at_key key.now whole.0) result }
         ensures no_node { HasNoNode number self.now → result ≡ none }
     {
         let parts = self.entry(number)?.content.pairs()?;
@@ -96,8 +97,8 @@ impl NodeTable {
     // The value of the first of these pairs whose key is a scalar with this text.
     fn value_of(&self, parts: Parts, key: &str) -> Option<usize>
         ensures { (all : List Placed) (pairs : List (Tree × Tree)) → HasNodes all self.now
-            → HasParts parts (both_parts pairs) all
-            → HasNumber all (first_value key.now pairs) result }
+            → HasParts parts (both_parts pairs) all → result
+            ≡ option_map (λ (n : ℕ). parts.first + (2 * n + 1)) (first_pair key.now pairs) }
     {
         for index in 0..parts.count / 2 {
             let number = parts.first + 2 * index;
@@ -110,8 +111,8 @@ impl NodeTable {
 
     // Whether the node is a scalar with this text.
     fn has_text(&self, number: usize, text: &str) -> bool
-        ensures { (all : List Placed) (node : Tree) → HasNodes all self.now
-            → IsNodeAt all number node → result ≡ is_this_text text.now (text_of_node node) }
+        ensures { (all : List Placed) (p : Placed) → HasNodes all self.now
+            → IsNodeAt all number p → result ≡ is_this_text text.now (text_of_node p.0) }
     {
         match self.entry(number) {
             Some(entry) => entry.content.has_text(text),
@@ -183,7 +184,7 @@ impl Content {
 
     // The number of the part to which a step leads.
     fn part(&self, step: Step) -> Option<usize>
-        ensures { (all : List Placed) → Leads all self.now step result }
+        ensures { Leads self.now step result }
     {
         match self {
             Content::Alias(_) => None,

@@ -10,13 +10,13 @@ returns-then-has_anchor c = λ all h.
     (c.has_anchor.ensures.0 c.if-has_anchor.true)
 
 pub loop-number-preserved : goal.loop-number-preserved
-loop-number-preserved c = λ all i node h less k a.
+loop-number-preserved c = λ all i p h less k a.
     let entry = c.index.result.now in
-    not_here c.args.self.now all c.loop-number.number i c.args.id entry node h
+    not_here c.args.self.now all c.loop-number.number i c.args.id entry p h
     (at_entry c.args.self.now.entries.items c.loop-number.number entry (omega arith) c.index.ensures)
     (λ e. true≢false (sym (c.has_anchor.ensures.1 e) ∙ c.if-has_anchor.false)) less k a
-    (c.loop-number.invariant all i node h)
+    (c.loop-number.invariant all i p h)
 
 pub returns : goal.returns
-returns c = λ all h number node k a. not_behind c.args.self.now all number node h k
-    (λ less. c.loop-number.invariant all number node h (omega arith) k a)
+returns c = λ all h number p k a. not_behind c.args.self.now all number p h k
+    (λ less. c.loop-number.invariant all number p h (omega arith) k a)
