@@ -102,6 +102,3 @@ impl State {
         }
     }
 }
-
-// A text may have one for each byte.
-const _: () = prove!(size_of::<State>() == 1);

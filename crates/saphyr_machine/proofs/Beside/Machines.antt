@@ -1,5 +1,5 @@
 -- Two machines side by side, and what is done to both.
-use Rattle.std.proofs.Common.{◌≡◌, ℕ, ◌+◌, ◌≤◌, Bool, true, false, List, [], ◌∷◌, Option, Result, Ok, Err, refl, arith, ◌⊎◌, inl, inr}
+use Rattle.std.proofs.Common.{◌≡◌, ℕ, ◌+◌, ◌≤◌, Bool, true, false, List, [], ◌∷◌, Option, Result, Ok, Err, refl, sym, subst, arith, ◌⊎◌, inl, inr}
 use Rattle.std.specs.Prelude.{if◌then◌else◌}
 use Rattle.std.specs.List.{AllZip}
 use Rattle.saphyr_scalar.specs.declared.scalar.position.Marker.{Marker}
@@ -336,7 +336,8 @@ enters w s m n l near = expects w s m.states n.states m n near.states
 
 pub pops : (w : Beside) {a x : Marker} {d : ℕ} (m n : Machine) → 10 + total_weight m.states ≤ d
     → With w (w.Ahead a x d) m n → Between w (pop m) (pop n)
-pops w {a} {x} {d} m n l near = rw near.states (by m.states l)
+pops w {a} {x} {d} m n l near =
+    subst (λ (rs : List State). Between w (pop m) (pop_from rs n)) (sym near.states) (by m.states l)
   where
     by : (ss : List State) → 10 + total_weight ss ≤ d → Between w (pop_from ss m) (pop_from ss n)
     by [] l = expects w state.End [] [] m n refl (omega (arith, l)) near
