@@ -19,7 +19,8 @@ pub implicitly : (front : List Kind) (f : SpansByKinds) (k : Kind) (ks : List Ki
     → is_end_or_mark k ≡ false → event_step (at f (front ++ k ∷ ks) state.ImplicitDocumentStart top e)
     ≡ implicit_start_at k (record { span = f ks; kind = k }) (at f ks state.ImplicitDocumentStart top e)
 unfolding event_step implicit_start
-implicitly front f k ks e h n = grind (arith, passes, ends_pass)
+implicitly front f k ks e h n =
+    cc (passes is_end_or_mark front f k ks state.ImplicitDocumentStart top e (ends_pass front h) n)
 
 explicitly : (f : SpansByKinds) (k : Kind) (ks : List Kind) (e : Memory) → is_end_or_mark k ≡ false
     → event_step (at f (k ∷ ks) state.DocumentStart top e)

@@ -2,7 +2,7 @@
 use Rattle.event_laws.proofs.Common.{◌≡◌, Bool, true, false, List, [], ◌∷◌, ◌++◌, map, Ok, refl, subst, sym, ap, ◌∙◌, ◌⊎◌, inl, inr, append_assoc, arith, Span, Directive, Document, Forest, Kind, StreamStart, StreamEnd, DocumentStart, DocumentEnd, ByteOrderMark, directive_token, YieldsBareDocument, YieldsExplicitDocument, YieldsDocument, AreMarks, AreEndsAndMarks, YieldsBehindDocument, YieldDocuments, Yields, Part, OpenStream, OpenDocument, CloseDocument, node_parts, document_parts, parts}
 use Rattle.saphyr_machine.specs.declared.state.State.TheVariants as state
 use Rattle.saphyr_machine.specs.Events as events
-use Rattle.saphyr_machine.specs.Steps.Documents.{stream_start, token_behind_marks_at, token_behind_marks, token_behind_document, document_end_at, document_end}
+use Rattle.saphyr_machine.specs.Steps.Documents.{is_mark, stream_start, token_behind_marks_at, token_behind_marks, token_behind_document, document_end_at, document_end}
 use Rattle.saphyr_machine.specs.Steps.Expected.{event_step}
 use Rattle.event_laws.proofs.Emitted.Emitting.{SpansByKinds, Memory, top, at}
 use Rattle.event_laws.proofs.Remembering.{closing, EmitsParts, plainly}
@@ -31,11 +31,16 @@ marks_behind : (f : SpansByKinds) (place : Span) (j : Kind) (l : List Kind) (e :
     ≡ Ok (record { span = f l; kind = j }, at f l state.DocumentEnd top e)
 marks_behind f place k l e h = grind arith
 
+no_mark : (j : Kind) → MayStandBehindMarks j → is_mark j ≡ false
+no_mark j h = grind arith
+
 ended_behind : (f : SpansByKinds) (marks : List Kind) (j : Kind) (l : List Kind) (e : Memory) → AreMarks marks
     → MayStandBehindMarks j → event_step (at f (ByteOrderMark ∷ (marks ++ j ∷ l)) state.DocumentEnd top e)
     ≡ document_end_at j (record { span = f l; kind = j }) (at f l state.DocumentEnd top (closing e))
 unfolding event_step document_end token_behind_document token_behind_marks
-ended_behind f marks j l e a h = grind (arith, passes, marks_pass, marks_behind)
+ended_behind f marks j l e a h =
+    cc (passes is_mark marks f j l state.DocumentEnd top e (marks_pass marks a) (no_mark j h),
+    marks_behind f (f (marks ++ j ∷ l)) j l e h)
 
 ended_all : (f : SpansByKinds) (marks : List Kind) (j : Kind) (l : List Kind) (e : Memory) → AreMarks marks
     → MayStandBehindMarks j → event_step (at f (marks ++ j ∷ l) state.DocumentEnd top e)

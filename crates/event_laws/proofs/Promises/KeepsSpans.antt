@@ -1,5 +1,5 @@
 -- The promise on spans: those of all events are at places of the text, if those of the tokens are, in order.
-use Rattle.event_laws.proofs.Common.{◌≡◌, ℕ, suc, ◌≤◌, Bool, List, [], ◌∷◌, length, Option, Some, None, inl, refl, arith, if◌then◌else◌, Marker, Span, Piece, Remaining, AreAtPlaces, IsPlaceOf, Happening, Machine, emit, event_step, EventCursor, Kept, at_start, answer_behind, with_event_ahead, AdvancesFrom, FailsFrom, LooksFrom, ReadsAhead, KeepsSpans, Walk, HoldsBetween, between, Resumes, step, runs, goes_on}
+use Rattle.event_laws.proofs.Common.{◌≡◌, ℕ, suc, ◌≤◌, Bool, List, [], ◌∷◌, length, Option, Some, None, inl, refl, sym, ap, ◌∙◌, subst, arith, if◌then◌else◌, Marker, Span, Piece, Remaining, AreAtPlaces, IsPlaceOf, Happening, Machine, emit, event_step, EventCursor, Kept, at_start, answer_behind, with_event_ahead, AdvancesFrom, FailsFrom, LooksFrom, ReadsAhead, KeepsSpans, Walk, HoldsBetween, between, Resumes, step, runs, goes_on}
 use Rattle.std.proofs.lemmas.List.Elements.{All-cons}
 use Rattle.saphyr_scanner.specs.SpansInOrder.{AreInOrder}
 use Rattle.saphyr_machine.specs.declared.fault.Fault.{Fault}
@@ -50,7 +50,12 @@ stepped text m n e is h = rw is at (step (ordered text) (resumes text) m (goes_o
 
 advances : (text : List ℕ) (e : Happening × Span) (a : Option (Happening × Span)) (k : Option Kept) (c d : EventCursor)
     → c.current ≡ a → c.kept ≡ k → AdvancesFrom a k e c d → Stands text c → Stands text d
-advances text e u0 k c d is kept u1 h = grind (arith, between, step, stepped)
+advances text e (Some next) k c d is kept moved h = grind arith
+advances text e None (Some k) c d is kept moved h = absurd moved
+advances text e None None c d is kept moved h = record {
+  ahead = λ x shown. absurd (let same = ap (λ (c : EventCursor). c.current) moved.1 in cc);
+  between = λ _. (stepped text c.machine d.machine e moved.0 (h.between kept)).1;
+}
 
 fails : (text : List ℕ) (f : Fault) (a : Option (Happening × Span)) (k : Option Kept) (c d : EventCursor)
     → c.current ≡ a → c.kept ≡ k → FailsFrom a k f c d → Stands text c → Stands text d
@@ -58,7 +63,17 @@ fails text f u0 k c d is kept none h = grind arith
 
 reads : (text : List ℕ) (a : Option (Happening × Span)) (k : Option Kept) (c d : EventCursor)
     → c.kept ≡ None → ReadsAhead a k c d → Stands text c → Stands text d
-reads text u0 u1 c d kept read h = grind (arith, step, stepped, between)
+reads text (Some e) (Some k) c d kept read h = absurd read
+reads text (Some e) None c d kept read h =
+    let given = stepped text c.machine d.machine e read.0 (h.between kept) in record {
+      ahead = λ x shown.
+          let same = sym (ap (λ (c : EventCursor). c.current) read.1) ∙ shown in
+          let this : e ≡ x = cc in
+          subst (λ (y : Happening × Span). IsIn text y.1) this given.0;
+      between = λ _. given.1;
+    }
+reads text None (Some k) c d kept read h = grind arith
+reads text None None c d kept read h = grind arith
 
 looks : (text : List ℕ) (a : Option (Happening × Span)) (k : Option Kept) (c d : EventCursor)
     → c.kept ≡ k → LooksFrom a k c d → Stands text c → Stands text d
