@@ -52,6 +52,9 @@ pub enum State {
     End,
 }
 
+// A text may have one for each byte.
+const _: () = prove!(size_of::<State>() == 1);
+
 impl State {
     /// Whether a node, behind which this is expected, is left out before a token.
     #[inline(always)]
