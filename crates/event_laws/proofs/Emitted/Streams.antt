@@ -39,8 +39,10 @@ ended_behind : (f : SpansByKinds) (marks : List Kind) (j : Kind) (l : List Kind)
     ≡ document_end_at j (record { span = f l; kind = j }) (at f l state.DocumentEnd top (closing e))
 unfolding event_step document_end token_behind_document token_behind_marks
 ended_behind f marks j l e a h =
-    cc (passes is_mark marks f j l state.DocumentEnd top e (marks_pass marks a) (no_mark j h),
-    marks_behind f (f (marks ++ j ∷ l)) j l e h)
+    cc (
+      passes is_mark marks f j l state.DocumentEnd top e (marks_pass marks a) (no_mark j h),
+      marks_behind f (f (marks ++ j ∷ l)) j l e h,
+    )
 
 ended_all : (f : SpansByKinds) (marks : List Kind) (j : Kind) (l : List Kind) (e : Memory) → AreMarks marks
     → MayStandBehindMarks j → event_step (at f (marks ++ j ∷ l) state.DocumentEnd top e)

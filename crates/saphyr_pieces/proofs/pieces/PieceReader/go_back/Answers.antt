@@ -13,6 +13,6 @@ returns-clause-back c =
     rw (sym c.in-Some.ensures.value) (
       c.read_again.new.reader,
       reads_over c.in-Some.copy c.catch_up.new.copy c.read_again.new.reader (chars (string_bytes old.since)) old.events on
-      c.in_ok-read_again.ensures,
+          c.in_ok-read_again.ensures,
       rw c.replace.ensures.after c.in_ok-pass_on.ensures,
     )
