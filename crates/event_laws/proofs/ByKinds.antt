@@ -1,9 +1,9 @@
 -- The events, but for their spans, are decided by the kinds of the tokens.
-use Rattle.event_laws.proofs.Common.{is_some, ◌≡◌, ◌≢◌, ℕ, zero, suc, ◌<◌, Bool, false, List, [], ◌∷◌, ◌++◌, map, Option, None, Result, Ok, refl, sym, ap, ◌∙◌, arith, ◌⊎◌, inl, inr, map-append, Refusal, Kind, Piece, Remaining, State, Happening, DocumentMarker, GivesFirst, events_behind_marker, Machine, Emitted, Answer, answer_of_step, remaining_answer, machine_size, at_start, keeping_tags, to_come, GivesExactly, EmitTheSame, kinds, answer_of_tokens, marker_token, unroll, over, shrinks_at, no_span}
+use Rattle.event_laws.proofs.Common.{is_some, ◌≡◌, ◌≢◌, ℕ, zero, suc, ◌<◌, Bool, false, List, [], ◌∷◌, ◌++◌, map, Option, None, Result, Ok, refl, sym, ap, ◌∙◌, arith, ◌⊎◌, inl, inr, map-append, Refusal, Kind, Piece, Remaining, State, Happening, DocumentMarker, GivesFirst, events_behind_marker, Machine, Emitted, Answer, answer_of_step, remaining_answer, machine_size, at_start, keeping_tags, to_come, GivesExactly, EmitTheSame, kinds, answer_of_tokens, marker_token, unroll, over, shrinks_at}
 use Rattle.saphyr_scanner.specs.Grammar.Tokens as tokens
 use Rattle.saphyr_machine.specs.declared.state.State.TheVariants as state
 use Rattle.saphyr_machine.specs.Steps.Expected.{event_step, event_step_at}
-use Rattle.event_laws.proofs.Placeless.{placeless_piece, placeless_state, placeless, Same, steps_same}
+use Rattle.event_laws.proofs.Placeless.{start_span, placeless_piece, placeless, Same, steps_same}
 use Rattle.event_laws.proofs.Promises.CommonBeginnings.{ended}
 use Rattle.event_laws.proofs.Promises.ClosedTokens.{closed_tokens}
 use Rattle.event_laws.proofs.Happenings.{happenings_of}
@@ -14,12 +14,6 @@ use Rattle.event_laws.proofs.Happenings.{happenings_of}
 record Alike (a b : Answer) : Type 0 where
   emitted : happenings_of b ≡ happenings_of a
   fault : is_some b.fault ≡ is_some a.fault
-
-over_too : (s : State) → s ≡ state.End → placeless_state s ≡ state.End
-over_too s e = rw e refl
-
-not_over : (s : State) → s ≢ state.End → placeless_state s ≢ state.End
-not_over s h = grind arith
 
 delivers_alike : (p q : Result Emitted Refusal) → Same p q
     → ((x : Emitted) → p ≡ Ok x → Alike (remaining_answer x.machine) (remaining_answer (placeless x.machine)))
@@ -37,10 +31,10 @@ unfolding event_step
 first_step m next = by (ended m.state)
   where
     by : (m.state ≡ state.End) ⊎ (m.state ≢ state.End) → Alike (remaining_answer m) (remaining_answer (placeless m))
-    by (inl e) = as_before _ _ _ _ (over m e) (over (placeless m) (over_too m.state e))
+    by (inl e) = as_before _ _ _ _ (over m e) (over (placeless m) e)
         (record { emitted = refl; fault = refl })
-    by (inr h) = as_before _ _ _ _ (unroll m h) (unroll (placeless m) (not_over m.state h))
-        (delivers_alike (event_step_at m.state m) (event_step_at (placeless_state m.state) (placeless m))
+    by (inr h) = as_before _ _ _ _ (unroll m h) (unroll (placeless m) h)
+        (delivers_alike (event_step_at m.state m) (event_step_at m.state (placeless m))
         (steps_same m.state m) next)
 
 runs : (n : ℕ) (m : Machine) → machine_size m < n → Alike (remaining_answer m) (remaining_answer (placeless m))
@@ -89,7 +83,7 @@ first_too keep a b es e g = (g.0, (alike keep a b e).emitted ∙ g.1)
 -- ## Closed beginnings
 
 abbrev pub piece_of : Kind → Piece
-piece_of k = record { span = no_span; kind = k }
+piece_of k = record { span = start_span; kind = k }
 
 pub kinds_of : (ks : List Kind) → kinds (map piece_of ks) ≡ ks
 kinds_of [] = refl

@@ -11,7 +11,7 @@ pub use Rattle.event_laws.specs.TagResolution.{any_resolution, default_prefix, p
 pub use Rattle.event_laws.specs.WellFormed.{AreWellFormed, IsEncoded, IsWellFormed, MayStandBefore}
 pub use Rattle.saphyr_input.specs.Breaks.{normalized}
 pub use Rattle.saphyr_machine.proofs.Beside.Documents.{IsBetweenDocuments, PassedAll, steps_alike, steps_beside}
-pub use Rattle.saphyr_machine.proofs.Beside.Machines.{Alike, AllExpected, Awaits, Behind, Beside, EmitsAlike, Expected, IsMarkers, Left, With, behind_by, is_end}
+pub use Rattle.saphyr_machine.proofs.Beside.Machines.{Alike, Awaits, Behind, Beside, EmitsAlike, EndsAlike, IsMarkers, Left, With, behind_by, is_end}
 pub use Rattle.saphyr_machine.proofs.Calls.Handing.{advances, goes_on}
 pub use Rattle.saphyr_machine.proofs.Turns.{some_refused}
 pub use Rattle.saphyr_machine.proofs.Unroll.{over, shrinks_at, unroll}

@@ -221,7 +221,7 @@ inside state.FlowSequenceEntryMappingValue o ss i c =
     (pair_value (FollowsStates o ss) c.kinds c.parts c.follows) (λ ahead. tt) (refl, (tt, (tt, c.bare)))
     (λ e. refl) (pair_closes c.parts c.emitted c.emits)
     (left_out (pair_ended c.have))
-inside (state.FlowSequenceEntryMappingEnd place) o ss i c =
+inside state.FlowSequenceEntryMappingEnd o ss i c =
     complete _ _ (FlowSequenceEnd ∷ c.kinds) CloseMapping (CloseSequence ∷ c.parts)
     events.MappingEnd (events.SequenceEnd ∷ c.emitted)
     (pair_ends (FollowsStates o ss) c.kinds c.parts c.follows) (λ ahead. tt) (tt, (tt, c.bare))

@@ -2,7 +2,7 @@
 use Rattle.event_laws.proofs.Common.{◌≡◌, ◌↔◌, Bool, true, false, List, [], ◌∷◌, ◌++◌, map, encode_utf8_all, Result, Ok, Err, refl, ap, inl, inr, if◌then◌else◌, Marker, Refusal, handle_bytes, Directive, Version, TagPrefix, Reserved, GoesWith, GoesWithAll, AreCompatible, Kind, DocumentStart, directive_token, AreMarks, AreEndsAndMarks, State, Machine, with_meaning, is_listed, with_name}
 use Rattle.saphyr_scalar.specs.declared.scalar.fault.FaultText.TheVariants as fault
 use Rattle.saphyr_machine.specs.Steps.Documents.{is_mark, is_end_or_mark, unpassed_token_from, unpassed_token, Declared, none_declared, directives_from, directives}
-use Rattle.event_laws.proofs.Emitted.Emitting.{SpansByKinds, Memory, dressed, at}
+use Rattle.event_laws.proofs.Emitted.Emitting.{SpansByKinds, Memory, Outer, dressed, at}
 use Rattle.event_laws.proofs.Remembering.{declaring}
 use Rattle.event_laws.proofs.NameLaws.{still_unlisted, was_unlisted}
 
@@ -13,14 +13,14 @@ AllPass passed [] = Unit {0}
 AllPass passed (k ∷ ks) = (passed k ≡ true) × AllPass passed ks
 
 passes_from : (passed : Kind → Bool) (front : List Kind) (f : SpansByKinds) (k : Kind) (ks : List Kind) (x : State)
-    (ss : List State) (e : Memory) → AllPass passed front → passed k ≡ false
+    (ss : Outer) (e : Memory) → AllPass passed front → passed k ≡ false
     → unpassed_token_from passed (dressed f (front ++ k ∷ ks)) (at f (front ++ k ∷ ks) x ss e)
     ≡ Ok (record { span = f ks; kind = k }, at f ks x ss e)
 passes_from passed [] f k ks x ss e h n = cc
 passes_from passed (j ∷ js) f k ks x ss e h n = cc (passes_from passed js f k ks x ss e h.1 n)
 
 pub passes : (passed : Kind → Bool) (front : List Kind) (f : SpansByKinds) (k : Kind) (ks : List Kind) (x : State)
-    (ss : List State) (e : Memory) → AllPass passed front → passed k ≡ false
+    (ss : Outer) (e : Memory) → AllPass passed front → passed k ≡ false
     → unpassed_token passed (at f (front ++ k ∷ ks) x ss e) ≡ Ok (record { span = f ks; kind = k }, at f ks x ss e)
 unfolding unpassed_token
 passes passed front f k ks x ss e h n = passes_from passed front f k ks x ss e h n
@@ -85,7 +85,7 @@ version_passes : (b : Bool) (d : Declared) (place : Marker) → b ≡ false → 
 version_passes b d place h = cc
 
 pub directives_pass : (ds : List Directive) (d : Declared) (f : SpansByKinds) (ks : List Kind) (x : State)
-    (ss : List State) (e : Memory) → AreCompatible ds → AreFree d ds
+    (ss : Outer) (e : Memory) → AreCompatible ds → AreFree d ds
     → directives_from (dressed f (map directive_token ds ++ DocumentStart ∷ ks)) d
     (at f (map directive_token ds ++ DocumentStart ∷ ks) x ss e)
     ≡ Ok (record { span = f ks; kind = DocumentStart }, at f ks x ss (declaring_in ds e))
@@ -110,7 +110,7 @@ directives_pass (TagPrefix handle prefix ∷ ds) d f ks x ss e c h =
     ((all_free_behind (TagPrefix handle prefix) ds d).1 (c.0, h.1)))
 directives_pass (Reserved name ∷ ds) d f ks x ss e c h = directives_pass ds d f ks x ss e c.1 h.1
 
-pub all_directives_pass : (ds : List Directive) (f : SpansByKinds) (ks : List Kind) (x : State) (ss : List State)
+pub all_directives_pass : (ds : List Directive) (f : SpansByKinds) (ks : List Kind) (x : State) (ss : Outer)
     (e : Memory)
     → AreCompatible ds → directives none_declared (at f (map directive_token ds ++ DocumentStart ∷ ks) x ss e)
     ≡ Ok (record { span = f ks; kind = DocumentStart }, at f ks x ss (declaring_in ds e))

@@ -1,9 +1,10 @@
 -- More tokens after those of a machine change nothing of what a step gives.
-use Rattle.event_laws.proofs.Common.{◌≡◌, ◌≢◌, ℕ, ◌+◌, ◌≤◌, List, [], ◌∷◌, ◌++◌, Option, Result, Ok, Err, refl, ap, ◌∙◌, ◌⊎◌, inl, inr, arith, Marker, Refusal, Kind, Piece, Remaining, State, Happening, DocumentMarker, Starts, Ends, marker_event, Machine, Emitted, ending_refusal, with_pieces, event_step_at, with_more, marker_token, Awaits, IsMarkers, Beside, Behind, Expected, Left, With, EmitsAlike, IsBetweenDocuments, PassedAll, steps_beside}
+use Rattle.event_laws.proofs.Common.{◌≡◌, ◌≢◌, ℕ, ◌+◌, ◌≤◌, List, [], ◌∷◌, ◌++◌, Option, Result, Ok, Err, refl, ap, ◌∙◌, ◌⊎◌, inl, inr, arith, Marker, Refusal, Kind, Piece, Remaining, State, Happening, DocumentMarker, Starts, Ends, marker_event, Machine, Emitted, ending_refusal, with_pieces, event_step_at, with_more, marker_token, Awaits, IsMarkers, Beside, Behind, Left, With, EmitsAlike, IsBetweenDocuments, PassedAll, steps_beside}
 use Rattle.saphyr_scanner.specs.Grammar.Tokens as tokens
 use Rattle.saphyr_machine.specs.declared.state.State.TheVariants as state
 use Rattle.saphyr_machine.specs.Steps.Documents.{unpassed_token, implicit_start, explicit_start}
-use Rattle.event_laws.proofs.Maps.{no_place, becomes, emits_so, stay, still_expected, leaves}
+use Rattle.saphyr_machine.specs.Steps.Machine.{text_start}
+use Rattle.event_laws.proofs.Maps.{becomes, emits_so, stay, leaves}
 
 -- ## More tokens
 
@@ -75,6 +76,7 @@ with_longer z o =
       Setting = λ b c. c ≡ b;
       Early = λ f. z.Early × (f ≡ ending_refusal o);
       Refused = λ f g. g ≡ f;
+      start = (refl, refl);
       joined = λ a b c x y z s t. (s.0, t.1);
       first = λ a b x y s. (s.0, s.0);
       last = λ a b x y s. (s.1, s.1);
@@ -98,7 +100,7 @@ with_longer z o =
 -- ## Each step
 
 becomes_longer : (z : More) (o : Option Refusal) (T : Remaining → Remaining → Type 0) (m n : Machine)
-    → Expected (with_longer z o) m.state n.state → With (with_longer z o) T m n → n.tokens ≡ more z m.tokens
+    → n.state ≡ m.state → With (with_longer z o) T m n → n.tokens ≡ more z m.tokens
     → n ≡ longer z m
 becomes_longer z o T m n e near is =
     becomes (with_longer z o) T (λ p. p) (more z m.tokens) m.keep_tags m n (λ p q i. i.0) e near is near.setting
@@ -143,8 +145,8 @@ all_passed z o s m i u0 = grind (arith, last_marker)
 pub steps_agree : (z : More) (s : State) (m : Machine) → s ≢ state.End → End z m.tokens.pieces
     → AgreesOrEndsEarly z m.tokens.refusal (event_step_at s m) (event_step_at s (longer z m))
     ⊎ (IsBetweenDocuments s × PassesAll z m (event_step_at s))
-steps_agree z s m on e = by (steps_beside w s s no_place no_place m (longer z m)
-    (still_expected w (λ p. (refl, refl)) s) on (λ i b c k. k)
+steps_agree z s m on e = by (steps_beside w s text_start text_start m (longer z m)
+    on (λ i b c k. k)
     (leaves w _ (more z m.tokens) m.keep_tags m (λ p. (refl, refl)) (refl, (e, refl, refl)) refl))
   where
     w : Beside

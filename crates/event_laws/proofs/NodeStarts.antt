@@ -5,7 +5,7 @@ use Rattle.saphyr_scanner.specs.Grammar.Forest as forest
 use Rattle.saphyr_scanner.specs.Grammar.Tokens as tokens
 use Rattle.saphyr_scanner.specs.Grammar.TokenGrammar as grammar
 use Rattle.saphyr_machine.specs.Steps.Nodes as steps
-use Rattle.event_laws.proofs.Emitted.Emitting.{SpansByKinds, Memory, at}
+use Rattle.event_laws.proofs.Emitted.Emitting.{SpansByKinds, Memory, Outer, expecting, at}
 use Rattle.event_laws.proofs.Remembering.{after_node, SaysParts, EmitsParts, plainly}
 use Rattle.event_laws.proofs.Emitted.Nodes.{next_node, IsContentKind}
 
@@ -105,26 +105,26 @@ follow_ends k a q t m h = grind arith
 
 -- From any machine that goes on with a node of these tokens, its events are told, and then those of what follows.
 pub record NodeSays (n : Node) (c : grammar.Context) (t : List Kind) : Type 0 where
-  pub by : (f : SpansByKinds) (k : Kind) (ks : List Kind) (m : Machine) (x s : State) (ss : List State) (e : Memory)
+  pub by : (f : SpansByKinds) (k : Kind) (ks : List Kind) (m : Machine) (x s : State) (ss : Outer) (e : Memory)
       (ps : List Part) → MayFollow c k → m.state ≢ End
-      → event_step m ≡ next_node (context_of c) (at f (t ++ k ∷ ks) x (s ∷ ss) e)
+      → event_step m ≡ next_node (context_of c) (at f (t ++ k ∷ ks) x (expecting s ss) e)
       → EmitsParts f (k ∷ ks) s ss (after_node n e) ps → SaysParts e m (node_parts n ++ ps)
 
 -- so it is with any tokens that the node may yield
 abbrev pub EachSays : Node → grammar.Context → Type 0
 EachSays n c = (t : List Kind) → YieldsNode n c t → NodeSays n c t
 
--- The state after the node may depend on the tokens that the node begins.
+-- Where a pair ends may depend on the tokens that the node begins.
 pub enters : (n : Node) (c : grammar.Context) (t : List Kind) → YieldsNode n c t → NodeSays n c t
     → (f : SpansByKinds) (k : Kind) (ks : List Kind) (machine : List Kind → Machine) (x : State)
-    (behind : List Kind → State) (ss : List State) (e : Memory) (ps : List Part)
+    (s : State) (ss : List Kind → Outer) (e : Memory) (ps : List Part)
     → MayFollow c k → ((l : List Kind) → (machine l).state ≢ End) → ((j : Kind) (l : List Kind) → Starts c j
-    → event_step (machine (j ∷ l)) ≡ next_node (context_of c) (at f (j ∷ l) x (behind (j ∷ l) ∷ ss) e))
-    → EmitsParts f (k ∷ ks) (behind (t ++ k ∷ ks)) ss (after_node n e) ps
+    → event_step (machine (j ∷ l)) ≡ next_node (context_of c) (at f (j ∷ l) x (expecting s (ss (j ∷ l))) e))
+    → EmitsParts f (k ∷ ks) s (ss (t ++ k ∷ ks)) (after_node n e) ps
     → SaysParts e (machine (t ++ k ∷ ks)) (node_parts n ++ ps)
-enters n c t h g f k ks machine x behind ss e ps z more go l =
+enters n c t h g f k ks machine x s ss e ps z more go l =
     let d : Head c t = node_head n c t h in
-    g.by f k ks (machine (t ++ k ∷ ks)) x (behind (t ++ k ∷ ks)) ss e ps z (more (t ++ k ∷ ks))
+    g.by f k ks (machine (t ++ k ∷ ks)) x s (ss (t ++ k ∷ ks)) e ps z (more (t ++ k ∷ ks))
     (rw d.is (go d.first (d.others ++ k ∷ ks) d.starts)) l
 
 -- one step tells a node that is left out
@@ -136,29 +136,29 @@ skipped e m n ps span more q l =
     plainly e m n (Leaf forest.no_properties forest.Plain []) ps empty_scalar span more refl q l
 
 left_out_says : (n : Node) (t : List Kind) (k : Kind) (ks : List Kind) (f : SpansByKinds)
-    (machine : List Kind → Machine) (behind : List Kind → State) (ss : List State) (e : Memory) (ps : List Part)
-    → n ≡ forest.left_out → t ≡ [] → (EmitsParts f (k ∷ ks) (behind (k ∷ ks)) ss (after_node forest.left_out e) ps
+    (machine : List Kind → Machine) (s : State) (ss : List Kind → Outer) (e : Memory) (ps : List Part)
+    → n ≡ forest.left_out → t ≡ [] → (EmitsParts f (k ∷ ks) s (ss (k ∷ ks)) (after_node forest.left_out e) ps
     → SaysParts e (machine (k ∷ ks)) (node_parts forest.left_out ++ ps))
-    → EmitsParts f (k ∷ ks) (behind (t ++ k ∷ ks)) ss (after_node n e) ps
+    → EmitsParts f (k ∷ ks) s (ss (t ++ k ∷ ks)) (after_node n e) ps
     → SaysParts e (machine (t ++ k ∷ ks)) (node_parts n ++ ps)
-left_out_says n t k ks f machine behind ss e ps a b q = rw (a, b) q
+left_out_says n t k ks f machine s ss e ps a b q = rw (a, b) q
 
 -- the same of a node that may be left out
 pub enters_or_skips : (n : Node) (c : grammar.Context) (t : List Kind) → YieldsOptional n (YieldsNode n c) t
     → (YieldsNode n c t → NodeSays n c t)
     → (f : SpansByKinds) (k : Kind) (ks : List Kind) (machine : List Kind → Machine) (x : State)
-    (behind : List Kind → State) (ss : List State) (e : Memory) (ps : List Part)
+    (s : State) (ss : List Kind → Outer) (e : Memory) (ps : List Part)
     → MayFollow c k → ((l : List Kind) → (machine l).state ≢ End)
     → (span : Span) → event_step (machine (k ∷ ks)) ≡ emit empty_scalar span
-    (at f (k ∷ ks) (behind (k ∷ ks)) ss e) → ((j : Kind) (l : List Kind) → Starts c j
-    → event_step (machine (j ∷ l)) ≡ next_node (context_of c) (at f (j ∷ l) x (behind (j ∷ l) ∷ ss) e))
-    → EmitsParts f (k ∷ ks) (behind (t ++ k ∷ ks)) ss (after_node n e) ps
+    (at f (k ∷ ks) s (ss (k ∷ ks)) e) → ((j : Kind) (l : List Kind) → Starts c j
+    → event_step (machine (j ∷ l)) ≡ next_node (context_of c) (at f (j ∷ l) x (expecting s (ss (j ∷ l))) e))
+    → EmitsParts f (k ∷ ks) s (ss (t ++ k ∷ ks)) (after_node n e) ps
     → SaysParts e (machine (t ++ k ∷ ks)) (node_parts n ++ ps)
-enters_or_skips n c t (inr h) g f k ks machine x behind ss e ps z more span skip go l =
-    enters n c t h (g h) f k ks machine x behind ss e ps z more go l
-enters_or_skips n c t (inl h) g f k ks machine x behind ss e ps z more span skip go l =
-    let q = skipped e (machine (k ∷ ks)) (at f (k ∷ ks) (behind (k ∷ ks)) ss e) ps span (more (k ∷ ks)) skip in
-    left_out_says n t k ks f machine behind ss e ps h.0 h.1 q l
+enters_or_skips n c t (inr h) g f k ks machine x s ss e ps z more span skip go l =
+    enters n c t h (g h) f k ks machine x s ss e ps z more go l
+enters_or_skips n c t (inl h) g f k ks machine x s ss e ps z more span skip go l =
+    let q = skipped e (machine (k ∷ ks)) (at f (k ∷ ks) s (ss (k ∷ ks)) e) ps span (more (k ∷ ks)) skip in
+    left_out_says n t k ks f machine s ss e ps h.0 h.1 q l
 
 -- ## Nodes that may be left out, behind which a state is expected
 
@@ -175,46 +175,44 @@ starts_there o j h = grind arith
 ends_there : (o : State) (k : Kind) → EndsAt o k → MayFollow (place_before o) k
 ends_there o k h = grind arith
 
-begins_at : (o x : State) (f : SpansByKinds) (j : Kind) (l : List Kind) (ss : List State) (e : Memory) (span : Span)
+begins_at : (o x : State) (f : SpansByKinds) (j : Kind) (l : List Kind) (ss : Outer) (e : Memory) (span : Span)
     (b : Bool) → b ≡ false → steps.node_or_nothing_at b o span (record { span = f l; kind = j }) (at f l x ss e)
-    ≡ next_node (context_of (place_before o)) (at f (j ∷ l) x (o ∷ ss) e)
+    ≡ next_node (context_of (place_before o)) (at f (j ∷ l) x (expecting o ss) e)
 begins_at o x f j l ss e span b h = grind arith
 
-ends_at : (o x : State) (f : SpansByKinds) (k : Kind) (ks : List Kind) (ss : List State) (e : Memory) (span : Span)
+ends_at : (o x : State) (f : SpansByKinds) (k : Kind) (ks : List Kind) (ss : Outer) (e : Memory) (span : Span)
     (b : Bool) → b ≡ true → steps.node_or_nothing_at b o span (record { span = f ks; kind = k }) (at f ks x ss e)
     ≡ emit empty_scalar span (at f (k ∷ ks) o ss e)
 ends_at o x f k ks ss e span b h = rw h refl
 
--- The machine comes to such a node, with whose tokens the state may change. Its span is told where it is left out.
-pub optional_says : (c : grammar.Context) (o : List Kind → State) → ((l : List Kind) → place_before (o l) ≡ c)
-    → (n : Node) (t : List Kind) → YieldsOptional n (YieldsNode n c) t → (YieldsNode n c t → NodeSays n c t)
-    → (f : SpansByKinds) (k : Kind) (ks : List Kind) (machine : List Kind → Machine) (x : State) (ss : List State)
-    (e : Memory) (ps : List Part) (span : List Kind → Span) → EndsAt (o (k ∷ ks)) k
+-- The machine comes to such a node. Its span is told where it is left out.
+pub optional_says : (o : State) (n : Node) (t : List Kind) → YieldsOptional n (YieldsNode n (place_before o)) t
+    → (YieldsNode n (place_before o) t → NodeSays n (place_before o) t)
+    → (f : SpansByKinds) (k : Kind) (ks : List Kind) (machine : List Kind → Machine) (x : State)
+    (ss : List Kind → Outer) (e : Memory) (ps : List Part) (span : List Kind → Span) → EndsAt o k
     → ((l : List Kind) → (machine l).state ≢ End) → ((j : Kind) (l : List Kind) → event_step (machine (j ∷ l))
-    ≡ steps.node_or_nothing (o (j ∷ l)) (span (j ∷ l)) (record { span = f l; kind = j }) (at f l x ss e))
-    → EmitsParts f (k ∷ ks) (o (t ++ k ∷ ks)) ss (after_node n e) ps
+    ≡ steps.node_or_nothing o (span (j ∷ l)) (record { span = f l; kind = j }) (at f l x (ss (j ∷ l)) e))
+    → EmitsParts f (k ∷ ks) o (ss (t ++ k ∷ ks)) (after_node n e) ps
     → SaysParts e (machine (t ++ k ∷ ks)) (node_parts n ++ ps)
-optional_says c o same n t h g f k ks machine x ss e ps span z more go l = enters_or_skips n c t h g f k ks machine x o
-    ss e ps (rw (same (k ∷ ks)) at (ends_there (o (k ∷ ks)) k z)) more (span (k ∷ ks))
-    (go k ks ∙ ends_at (o (k ∷ ks)) x f k ks ss e (span (k ∷ ks)) _ z)
-    (λ j l s. go j l ∙ rw (← same (j ∷ l)) (begins_at (o (j ∷ l)) x f j l ss e (span (j ∷ l)) _
-    (starts_there (o (j ∷ l)) j (rw (same (j ∷ l)) s)))) l
+optional_says o n t h g f k ks machine x ss e ps span z more go l =
+    enters_or_skips n (place_before o) t h g f k ks machine x o ss e ps (ends_there o k z) more (span (k ∷ ks))
+    (go k ks ∙ ends_at o x f k ks (ss (k ∷ ks)) e (span (k ∷ ks)) _ z)
+    (λ j l s. go j l ∙ begins_at o x f j l (ss (j ∷ l)) e (span (j ∷ l)) _ (starts_there o j s)) l
 
 -- After the token `mark`, in the state `x`, such a node is told, behind which `o` is expected.
 abbrev pub SaysBehind : Kind → State → State → Type 0
 SaysBehind mark x o = (n : Node) (t : List Kind) → YieldsOptional n (YieldsNode n (place_before o)) t
     → (YieldsNode n (place_before o) t → NodeSays n (place_before o) t) → (f : SpansByKinds) (k : Kind) (ks : List Kind)
-    (ss : List State) (e : Memory) (ps : List Part) → EndsAt o k → EmitsParts f (k ∷ ks) o ss (after_node n e) ps
+    (ss : Outer) (e : Memory) (ps : List Part) → EndsAt o k → EmitsParts f (k ∷ ks) o ss (after_node n e) ps
     → EmitsParts f (mark ∷ (t ++ k ∷ ks)) x ss e (node_parts n ++ ps)
 
 pub says_behind : (mark : Kind) (x o : State) (span : SpansByKinds → List Kind → Span) → x ≢ End
-    → ((f : SpansByKinds) (j : Kind) (l : List Kind) (ss : List State) (e : Memory)
+    → ((f : SpansByKinds) (j : Kind) (l : List Kind) (ss : Outer) (e : Memory)
     → event_step (at f (mark ∷ j ∷ l) x ss e)
     ≡ steps.node_or_nothing o (span f (j ∷ l)) (record { span = f l; kind = j }) (at f l x ss e))
     → SaysBehind mark x o
 says_behind mark x o span more go n t h g f k ks ss e ps z l =
-    optional_says (place_before o) (λ l. o) (λ l. refl) n t h g f k ks (λ l. at f (mark ∷ l) x ss e) x ss e ps (span f)
-    z (λ l. more) (λ j l. go f j l ss e) l
+    optional_says o n t h g f k ks (λ l. at f (mark ∷ l) x ss e) x (λ l. ss) e ps (span f) z (λ l. more) (λ j l. go f j l ss e) l
 
 -- ## Pairs
 

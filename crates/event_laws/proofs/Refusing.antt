@@ -4,6 +4,7 @@ use Rattle.saphyr_scalar.specs.Views.Cursor as scalar
 use Rattle.saphyr_scanner.specs.Grammar.Tokens as tokens
 use Rattle.saphyr_scanner.specs.TokensTaken as taken
 use Rattle.saphyr_machine.specs.declared.state.State.TheVariants as state
+use Rattle.saphyr_machine.specs.Steps.Machine.{text_start}
 use Rattle.saphyr_machine.specs.Answer.{Ending, remaining_answer, machine_size}
 
 -- a refusal with such a place
@@ -27,6 +28,9 @@ refused_mark u0 u1 h = grind arith
 known_before_last : (A : Type 0) (ts : List Piece) (k : Kind) → is_end k ≡ false → IsLastOr A ts k → A
 known_before_last u0 ts u1 e h = grind arith
 
+pub starts_text : (text : List ℕ) → IsPlaceOf text text_start
+starts_text text = (scalar.start_cursor text, taken.nothing text_start text, inl refl, omega arith)
+
 -- the tokens are at places of the text; after the end of the stream nothing is known of them
 abbrev placed : List ℕ → Walk
 placed text = record {
@@ -35,6 +39,7 @@ placed text = record {
   Rests = λ s d r ts. (s ≡ state.End) ⊎ (AreAtPlaces text ts × AreEnded (IsPlaceOf text) r ts);
   Fails = λ f. IsPlaceOf text f.mark;
   joined = λ a b c s t. (s.0, t.1);
+  start = (starts_text text, starts_text text);
   first = λ a b s. (s.0, s.0);
   last = λ a b s. (s.1, s.1);
   fails = λ words a s. s.0;
@@ -50,8 +55,7 @@ placed text = record {
 resumes : (text : List ℕ) → Resumes (placed text)
 resumes text s c d r ts n (inl e) = absurd (n e)
 resumes text s c d r ts n (inr h) =
-    let start : Marker = (scalar.start_cursor text).mark in
-    (start, ((scalar.start_cursor text, taken.nothing start text, inl refl, omega arith), h.0, h.1))
+    (text_start, (starts_text text, h.0, h.1))
 
 failed : (text : List ℕ) (o : Option Ending) → IsFailed (placed text) o → HasPlaceIn text o
 failed text o h = grind arith
@@ -63,4 +67,4 @@ unfolding remaining_answer
 refused_at text tokens keep a e =
     let m : Machine = (keeping_tags keep (at_start tokens)).machine in
     failed text _ (runs (placed text) (resumes text) (suc (machine_size m)) m
-    (between (placed text) m refl refl (inr (a, e)))).fault
+    (between (placed text) m tt (inr (a, e)))).fault

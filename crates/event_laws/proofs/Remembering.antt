@@ -2,7 +2,7 @@
 use Rattle.event_laws.proofs.Common.{◌≡◌, ◌≢◌, ℕ, List, [], ◌∷◌, Option, Some, None, option_map, encode_utf8_all, codes, sym, ap, ◌∙◌, arith, if◌then◌else◌, option_or, Span, handle_bytes, Tag, NonSpecific, Verbatim, Shorthand, Directive, Version, TagPrefix, Reserved, Node, Nodes, NoNode, MoreNodes, Pairs, NoPair, MorePairs, Kind, State, End, Part, OpenStream, CloseStream, OpenDocument, CloseDocument, Reference, Leaf, OpenSequence, CloseSequence, OpenMapping, CloseMapping, first_and_others, default_prefix, Names, meaning, with_meaning, without_ids, next_id, with_anchor, Machine, emit, event_step, remaining_answer, GivesExactly}
 use Rattle.saphyr_scanner.specs.Grammar.Forest as forest
 use Rattle.saphyr_machine.specs.Events.{Happening, ResolvedTag, StreamStart, StreamEnd, DocumentStart, DocumentEnd, Alias, Scalar, SequenceStart, SequenceEnd, MappingStart, MappingEnd}
-use Rattle.event_laws.proofs.Emitted.Emitting.{SpansByKinds, Memory, at, emits}
+use Rattle.event_laws.proofs.Emitted.Emitting.{SpansByKinds, Memory, Outer, at, emits}
 
 -- ## What is remembered
 
@@ -100,7 +100,7 @@ abbrev pub SaysParts : Memory → Machine → List Part → Type 0
 SaysParts e m ps = (es : List Happening) → events_in e ps ≡ Some es → GivesExactly es (remaining_answer m)
 
 -- the same of a machine that remembers just that
-abbrev pub EmitsParts : SpansByKinds → List Kind → State → List State → Memory → List Part → Type 0
+abbrev pub EmitsParts : SpansByKinds → List Kind → State → Outer → Memory → List Part → Type 0
 EmitsParts f ks s ss e ps = SaysParts e (at f ks s ss e) ps
 
 first_and_others_parts : (a : Option Happening) (b : Option (List Happening)) (es : List Happening)

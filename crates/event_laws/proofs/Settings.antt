@@ -4,9 +4,10 @@ use Rattle.event_laws.proofs.Common.{◌≡◌, ◌≢◌, Bool, Option, Result,
 use Rattle.saphyr_machine.specs.declared.state.State.TheVariants as state
 use Rattle.saphyr_machine.specs.Events as events
 use Rattle.saphyr_machine.specs.Steps.Documents as document
+use Rattle.saphyr_machine.specs.Steps.Machine.{text_start}
 use Rattle.saphyr_machine.specs.Steps.Expected.{event_step, event_step_at}
 use Rattle.event_laws.specs.Settings.{with_keep_tags, with_setting}
-use Rattle.event_laws.proofs.Maps.{no_place, becomes, emits_so, stay, still_expected, leaves}
+use Rattle.event_laws.proofs.Maps.{becomes, emits_so, stay, leaves}
 
 -- ## All steps
 
@@ -20,6 +21,7 @@ with_set b =
       Setting = λ c d. d ≡ b;
       Early = λ f. ⊥;
       Refused = λ f g. g ≡ f;
+      start = (refl, refl);
       joined = λ a b c x y z s t. (s.0, t.1);
       first = λ a b x y s. (s.0, s.0);
       last = λ a b x y s. (s.1, s.1);
@@ -58,8 +60,8 @@ set_same b (Err f) (Err g) (inr e) = rw e refl
 sets_at : (b : Bool) (s : State) (m : Machine) → s ≢ state.DocumentEnd
     → event_step_at s (with_keep_tags b m) ≡ with_setting b (event_step_at s m)
 sets_at b state.End m other = refl
-sets_at b s m other = set_same b _ _ (steps_alike (with_set b) (λ r q o. o) s s no_place no_place m
-    (with_keep_tags b m) (still_expected (with_set b) (λ p. (refl, refl)) s) (λ e. absurd (cc)) (λ e. absurd (other e))
+sets_at b s m other = set_same b _ _ (steps_alike (with_set b) (λ r q o. o) s text_start text_start m
+    (with_keep_tags b m) (λ e. absurd (cc)) (λ e. absurd (other e))
     (leaves (with_set b) _ m.tokens b m (λ p. (refl, refl)) (refl, refl) refl))
 
 -- each step but that at the end of a document

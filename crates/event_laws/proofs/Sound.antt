@@ -9,7 +9,7 @@ use Rattle.event_laws.proofs.Remembering.{after, event_in, events_in}
 use Rattle.event_laws.proofs.MemoryFits.{same_events}
 use Rattle.event_laws.proofs.Promises.Forests.{documents_within, all_compatible, at_first, fits_start}
 use Rattle.event_laws.proofs.Turned.Following.{Behind, Outside, IsAlive, IsOutside, IsInsideDocument}
-use Rattle.event_laws.proofs.Turned.Turning.{machine, memory, Goes, weaker, kinds_append}
+use Rattle.event_laws.proofs.Turned.Turning.{Aside, machine, memory, Goes, weaker, kinds_append}
 use Rattle.event_laws.proofs.Turned.Entries.{Wanted, WantedIn, Turns}
 use Rattle.event_laws.proofs.Turned.Sequences as sequence
 use Rattle.event_laws.proofs.Turned.Mappings as mapping
@@ -23,7 +23,7 @@ use Rattle.event_laws.proofs.Happenings.{happenings_of}
 
 -- ## Each step
 
-outside_moves : (s x : State) (ts : List Piece) (r : Option Refusal) (e : Memory) → AreWellFormed ts → IsOutside s
+outside_moves : (s x : State) (ts : List Piece) (r : Aside) (e : Memory) → AreWellFormed ts → IsOutside s
     → MovesOn (Wanted s [] (kinds ts)) e ts (event_step_at s (machine ts r x [] e))
 outside_moves state.StreamStart x ts r e w i =
     moves (Wanted state.StreamStart [] (kinds ts)) e ts _ (document.stream_turned ts r x e)
@@ -52,15 +52,15 @@ inside_turned state.FlowSequenceEntryMappingKey i =
     any_before state.FlowSequenceEntryMappingKey sequence.pair_key_turned
 inside_turned state.FlowSequenceEntryMappingValue i =
     any_before state.FlowSequenceEntryMappingValue sequence.pair_value_turned
-inside_turned (state.FlowSequenceEntryMappingEnd place) i =
-    any_before (state.FlowSequenceEntryMappingEnd place) (sequence.pair_end_turned place)
+inside_turned state.FlowSequenceEntryMappingEnd i =
+    any_before state.FlowSequenceEntryMappingEnd sequence.pair_end_turned
 inside_turned state.FlowMappingFirstKey i = any_before state.FlowMappingFirstKey mapping.first_pair_turned
 inside_turned state.FlowMappingKey i = any_before state.FlowMappingKey mapping.other_pair_turned
 inside_turned state.FlowMappingValue i = mapping.mapping_value_turned
 inside_turned state.FlowMappingEmptyValue i = any_before state.FlowMappingEmptyValue mapping.empty_value_turned
 inside_turned _ i = elim i [ ]
 
-step_moves : (s x : State) (ss : List State) (ts : List Piece) (r : Option Refusal) (e : Memory) → AreWellFormed ts
+step_moves : (s x : State) (ss : List State) (ts : List Piece) (r : Aside) (e : Memory) → AreWellFormed ts
     → IsAlive s ss → MovesOn (Wanted s ss (kinds ts)) e ts (event_step_at s (machine ts r x ss e))
 step_moves s x [] ts r e w a = outside_moves s x ts r e w a
 step_moves s x (o ∷ ss) ts r e w a =
@@ -170,7 +170,8 @@ finishes : (n : ℕ) (m : Machine) → machine_size m < n → AreWellFormed m.to
 unfolding event_step
 finishes zero m l w a = absurd (omega (arith, l))
 finishes (suc n) m l w a = rw (unroll m (alive_is_no_end m.state m.states a))
-    (by (event_step m) refl (step_moves m.state m.state m.states m.tokens.pieces m.tokens.refusal (memory m) w a)
+    (by (event_step m) refl (step_moves m.state m.state m.states m.tokens.pieces
+    (record { refusal = m.tokens.refusal; pair_ends = m.pair_ends }) (memory m) w a)
     (λ k. finishes n k))
   where
     by : (r : Result Emitted Refusal) → event_step m ≡ r
@@ -194,5 +195,6 @@ from_start tokens keep a l h = grind (arith, documents_within, all_compatible, l
 pub begins : (tokens : Remaining) (keep : Bool) → AreWellFormed tokens.pieces → length tokens.pieces < 2 ^ 64
     → BeginsSomeForest keep tokens (to_come (keeping_tags keep (at_start tokens)))
 begins tokens keep w l =
-    let m : Machine = machine tokens.pieces tokens.refusal state.StreamStart [] (at_first keep) in
+    let r : Aside = record { refusal = tokens.refusal; pair_ends = [] } in
+    let m : Machine = machine tokens.pieces r state.StreamStart [] (at_first keep) in
     from_start tokens keep (remaining_answer m) l (finishes (suc (machine_size m)) m (omega arith) w tt)

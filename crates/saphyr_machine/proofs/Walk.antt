@@ -10,10 +10,10 @@ use Rattle.saphyr_scanner.specs.Views.Tokens.{Piece, Remaining}
 use Rattle.saphyr_machine.specs.declared.state.State.{State}
 use Rattle.saphyr_machine.specs.declared.state.State.TheVariants as state
 use Rattle.saphyr_machine.specs.Events.{Happening}
-use Rattle.saphyr_machine.specs.Steps.Machine.{Machine, Emitted, ending_refusal}
+use Rattle.saphyr_machine.specs.Steps.Machine.{Machine, Emitted, ending_refusal, text_start}
 use Rattle.saphyr_machine.specs.Steps.Expected.{event_step}
 use Rattle.saphyr_machine.specs.Answer.{Answer, Ending, answer_of_step, ending_of, answer_unless_ended, answer_of_steps, weight_before, total_weight}
-use Rattle.saphyr_machine.proofs.Beside.Machines.{is_end, behind_by, Beside, Expected, AllExpected, Between, EmitsAlike}
+use Rattle.saphyr_machine.proofs.Beside.Machines.{is_end, behind_by, Beside, EndsAlike, Between, EmitsAlike}
 use Rattle.saphyr_machine.proofs.Beside.Documents.{steps_alike}
 
 pub record Walk : Type 1 where
@@ -26,6 +26,7 @@ pub record Walk : Type 1 where
   -- a refusal
   pub Fails : Refusal → Type 0
   pub joined : (a b c : Marker) → Spans a b → Spans b c → Spans a c
+  pub start : Spans text_start text_start
   pub first : (a b : Marker) → Spans a b → Spans a a
   pub last : (a b : Marker) → Spans a b → Spans b b
   pub fails : (text : FaultText) (a : Marker) → Spans a a → Fails (record { text = text; mark = a })
@@ -54,6 +55,7 @@ beside_itself w =
       Early = λ f. ⊥;
       Refused = λ f g. w.Fails f;
       joined = λ a b c x y z s t. w.joined a b c s t;
+      start = w.start;
       first = λ a b x y s. w.first a b s;
       last = λ a b x y s. w.last a b s;
       refused = λ text a x s. w.fails text a s;
@@ -78,11 +80,10 @@ beside_itself w =
 abbrev pub HoldsBetween : Walk → Machine → Type 0
 HoldsBetween w m = Between (beside_itself w) m m
 
-pub between : (w : Walk) (m : Machine) → Expected (beside_itself w) m.state m.state
-    → AllExpected (beside_itself w) m.states m.states
+pub between : (w : Walk) (m : Machine) → EndsAlike (beside_itself w) m.pair_ends m.pair_ends
     → w.Rests m.state (10 + weight_before m.state m.tokens.pieces + total_weight m.states) m.tokens.refusal
     m.tokens.pieces → HoldsBetween w m
-between w m e es h = grind arith
+between w m e h = grind arith
 
 -- what a step gives
 abbrev pub StepGives : Walk → Result Emitted Refusal → Type 0
@@ -93,14 +94,14 @@ module _ (w : Walk) where
   given : (r : Result Emitted Refusal) → EmitsAlike (beside_itself w) r r → StepGives w r
   given u0 h = grind arith
 
-  pub steps : (low : Marker) (m : Machine) → m.state ≢ state.End → Expected (beside_itself w) m.state m.state
-      → AllExpected (beside_itself w) m.states m.states
+  pub steps : (low : Marker) (m : Machine) → m.state ≢ state.End
+      → EndsAlike (beside_itself w) m.pair_ends m.pair_ends
       → w.Ahead low (9 + weight_before m.state m.tokens.pieces + total_weight m.states) m.tokens.refusal m.tokens.pieces
       → StepGives w (event_step m)
   unfolding event_step
-  steps low m on e es a = given (event_step m)
-      (steps_alike (beside_itself w) (λ r q o. o) m.state m.state low low m m e on (λ i b c k. k)
-      (record { tokens = (a, refl); states = es; anchors = refl; prefixes = refl; setting = refl }))
+  steps low m on e a = given (event_step m)
+      (steps_alike (beside_itself w) (λ r q o. o) m.state low low m m on (λ i b c k. k)
+      (record { tokens = (a, refl); states = refl; pair_ends = e; anchors = refl; prefixes = refl; setting = refl }))
 
   -- ## All events
 
@@ -113,7 +114,7 @@ module _ (w : Walk) where
   step go m on h =
       let a : (low : Marker) × w.Ahead low _ m.tokens.refusal m.tokens.pieces =
       go m.state _ _ m.tokens.refusal m.tokens.pieces on h.rest.tokens.0 in
-      steps a.0 m on h.state h.rest.states a.1
+      steps a.0 m on h.rest.pair_ends a.1
 
   abbrev pub IsFailed : Option Ending → Type 0
   IsFailed None = Unit {0}

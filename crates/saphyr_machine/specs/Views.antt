@@ -1,5 +1,4 @@
 -- What contracts see of events and of what the parser is made of.
-pub mod States
 pub mod Machines
 pub mod Nodes
 pub mod Documents

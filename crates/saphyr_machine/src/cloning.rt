@@ -38,19 +38,26 @@ fn copy_kept(kept: &Option<Kept>) -> Result<Option<Kept>, AllocError>
 }
 
 impl<T: CloneInput> Machine<T> {
+    ghost use Rattle.saphyr_scanner.specs.Views.Tokens.{Remaining};
+    ghost use Rattle.saphyr_machine.specs.Views.Machines.{machine_before};
+
     // An independent machine that expects the same and reads the same tokens.
     fn try_clone(&self) -> Result<Self, AllocError>
-        ensures { IfOk result (λ copy. copy ≡ self.now) }
+        ensures scanner { IfOk result (λ copy. copy.scanner ≡ self.now.scanner) }
+        ensures machine { (tokens : Remaining) → IfOk result
+            (λ copy. machine_before tokens copy ≡ machine_before tokens self.now) }
     {
-        let states = self.states.try_clone()?;
+        let states = self.states.clone()?;
+        let pair_ends = self.pair_ends.clone()?;
         let anchors = self.anchors.try_clone()?;
         let prefixes = self.prefixes.try_clone()?;
         // The scanner comes last. So no copy of a scanner is dropped here, which would be expensive to prove.
         match self.scanner.try_clone() {
             Ok(scanner) => Ok(Machine {
                 scanner,
-                state: self.state.copied(),
+                state: self.state,
                 states,
+                pair_ends,
                 anchors,
                 prefixes,
                 keep_tags: self.keep_tags,

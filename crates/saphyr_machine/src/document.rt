@@ -192,7 +192,7 @@ impl<T: Input> Machine<T> {
         match self.peek()? {
             TokenKind::StreamStart => {
                 let span = self.skip();
-                self.state.set(State::ImplicitDocumentStart);
+                self.state = State::ImplicitDocumentStart;
                 self.emit(next, Event::StreamStart, span);
                 Ok(())
             }
@@ -215,7 +215,7 @@ impl<T: Input> Machine<T> {
     {
         self.anchors.forget();
         self.push(State::DocumentEnd)?;
-        self.state.set(state);
+        self.state = state;
         self.emit(next, Event::DocumentStart(explicit), span);
         Ok(())
     }
@@ -242,7 +242,7 @@ impl<T: Input> Machine<T> {
             ≡ Ok (emitted_of (machine_in more self.new) next.new)) }
     {
         let span = self.skip();
-        self.state.set(State::End);
+        self.state = State::End;
         self.emit(next, Event::StreamEnd, span);
     }
 
@@ -352,13 +352,13 @@ impl<T: Input> Machine<T> {
         match kind {
             TokenKind::DocumentEnd => {
                 self.skip();
-                self.state.set(State::ImplicitDocumentStart);
+                self.state = State::ImplicitDocumentStart;
             }
             TokenKind::VersionDirective | TokenKind::TagDirective | TokenKind::ReservedDirective =>
                 {
                     return Err(self.refuse_next(FaultText::DocumentEndExpected));
                 }
-            _ => self.state.set(State::DocumentStart),
+            _ => self.state = State::DocumentStart,
         }
         if !self.keep_tags {
             self.prefixes.forget();

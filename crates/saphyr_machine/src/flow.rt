@@ -91,7 +91,8 @@ impl<T: Input> Machine<T> {
             }
             _ => {
                 let end = self.span().end;
-                self.leave_out_here(State::FlowSequenceEntryMappingEnd(end), next);
+                self.push_pair_end(end)?;
+                self.leave_out_here(State::FlowSequenceEntryMappingEnd, next);
                 Ok(())
             }
         }
@@ -107,7 +108,9 @@ impl<T: Input> Machine<T> {
         ensures { EmitsBy spec.flow_sequence_entry_mapping_node self.old result next.new self.new }
     {
         let kind = self.peek()?;
-        let state = State::FlowSequenceEntryMappingEnd(self.span().end);
+        let end = self.span().end;
+        self.push_pair_end(end)?;
+        let state = State::FlowSequenceEntryMappingEnd;
         if state.is_left_out(kind) {
             self.leave_out_here(state, next);
             return Ok(());
@@ -119,18 +122,16 @@ impl<T: Input> Machine<T> {
     #[tactic(auto, unfolding(crate::specs::Steps::Flow::flow_sequence_entry_mapping_end))]
     pub(super) fn flow_sequence_entry_mapping_end<'input>(
         &mut self,
-        place: Marker,
         next: &mut (Event<'input>, Span),
     )
         ensures { (more : List ℕ)
-            → spec.flow_sequence_entry_mapping_end place (machine_in more self.old)
+            → spec.flow_sequence_entry_mapping_end (machine_in more self.old)
             ≡ Ok (emitted_of (machine_in more self.new) next.new) }
     {
-        self.state.set(State::FlowSequenceEntry);
-        let span = Span {
-            start: place,
-            end: place,
-        };
+        self.state = State::FlowSequenceEntry;
+        // There is always one.
+        let place = self.pair_ends.pop().unwrap_or(Marker::new(0, 1, 0));
+        let span = Span::empty(place);
         self.emit(next, Event::MappingEnd, span);
     }
 

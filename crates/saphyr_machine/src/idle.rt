@@ -48,7 +48,7 @@ impl<T: Input> EventReader<'_, T> {
     pub fn is_between(&self) -> bool
         ensures { IsTrue result → spec.IsBetweenDocuments (cursor self.now) }
     {
-        let between = matches!(self.machine.state.get(), State::ImplicitDocumentStart);
+        let between = matches!(self.machine.state, State::ImplicitDocumentStart);
         between && self.current.is_none() && self.kept.is_none()
     }
 

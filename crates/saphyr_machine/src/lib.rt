@@ -23,7 +23,6 @@ mod property;
 mod reader;
 mod receiver;
 mod state;
-mod states;
 mod step;
 mod tag;
 mod tags;

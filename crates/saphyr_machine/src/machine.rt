@@ -11,7 +11,6 @@ use crate::anchors::Anchors;
 use crate::event::Event;
 use crate::prefixes::Prefixes;
 use crate::state::State;
-use crate::states::{Expected, States};
 use crate::tag::Tag;
 use saphyr_input::input::Input;
 use saphyr_scalar::scalar::TagParts;
@@ -30,9 +29,11 @@ pub struct Machine<T: Input> {
     // Where the tokens come from.
     pub(super) scanner: Scanner<T>,
     // What is expected next.
-    pub(super) state: Expected,
+    pub(super) state: State,
     // What is expected after each node that is open.
-    pub(super) states: States,
+    pub(super) states: Vec<State>,
+    // Where the pairs of flow sequences end that are open in these.
+    pub(super) pair_ends: Vec<Marker>,
     // The anchors of the document, which its aliases name.
     pub(super) anchors: Anchors,
     // What the directives of the document declare and, if `keep_tags` is set, those of documents before it.
@@ -61,8 +62,9 @@ impl<T: Input> Machine<T> {
     {
         Machine {
             scanner,
-            state: Expected::new(),
-            states: States::new(alloc),
+            state: State::StreamStart,
+            states: Vec::new(alloc),
+            pair_ends: Vec::new(alloc),
             anchors: Anchors::new(alloc),
             prefixes: Prefixes::new(alloc),
             keep_tags: false,
@@ -261,11 +263,7 @@ impl<T: Input> Machine<T> {
             → machine_in more self.new ≡ spec.pop (machine_in more self.old) }
         ensures scanner { self.new.scanner ≡ self.old.scanner }
     {
-        let state = match self.states.pop() {
-            Some(state) => state,
-            None => State::End,
-        };
-        self.state.set(state);
+        self.state = self.states.pop().unwrap_or(State::End);
     }
 
     // What is expected after the node that begins.
@@ -277,6 +275,17 @@ impl<T: Input> Machine<T> {
         ensures failed { OnErr result (self.new.scanner.stop ≡ OutOfMemory) }
     {
         let pushed = self.states.push(state);
+        self.scanner.keep(pushed)
+    }
+
+    // A pair of a flow sequence ends here.
+    pub(super) fn push_pair_end(&mut self, place: Marker) -> Result<(), Stopped>
+        ensures moved { (more : List ℕ) → OnOk result
+            (machine_in more self.new ≡ spec.with_pair_end place (machine_in more self.old)) }
+        ensures state { OnOk result (self.new.scanner.state ≡ self.old.scanner.state) }
+        ensures failed { OnErr result (self.new.scanner.stop ≡ OutOfMemory) }
+    {
+        let pushed = self.pair_ends.push(place);
         self.scanner.keep(pushed)
     }
 
@@ -301,7 +310,7 @@ impl<T: Input> Machine<T> {
             spec.left_out_event taken.0 state next.old.1 taken.1
             ≡ Ok (emitted_of (machine_in more self.new) next.new)) }
     {
-        self.state.set(state);
+        self.state = state;
         let event = self.empty_scalar();
         self.write_over(&mut next.0, event);
     }

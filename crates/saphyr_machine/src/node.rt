@@ -61,7 +61,7 @@ impl<T: Input> Machine<T> {
             ≡ spec.begun_sequence state anchor (option_map resolved_tag tag) next.old.1
             (machine_in more self.old) }
     {
-        self.state.set(state);
+        self.state = state;
         // Many may begin one in another. The event is then there already.
         if anchor == 0 && tag.is_none() && matches!(next.0, Event::SequenceStart(0, None)) {
             return;
@@ -82,7 +82,7 @@ impl<T: Input> Machine<T> {
             ≡ spec.begun_mapping state anchor (option_map resolved_tag tag) next.old.1
             (machine_in more self.old) }
     {
-        self.state.set(state);
+        self.state = state;
         self.write_over(&mut next.0, Event::MappingStart(anchor, tag));
     }
 
@@ -254,11 +254,11 @@ impl<T: Input> Machine<T> {
         if let Event::Scalar(CowStr::Owned(text), _, _, None) = &mut next.0 {
             self.take_text_into(text)?;
             next.0.restyle(style);
-            self.state.set(state);
+            self.state = state;
             return Ok(());
         }
         let text = self.take_text()?;
-        self.state.set(state);
+        self.state = state;
         let event = Event::Scalar(CowStr::Owned(text), style, 0, None);
         self.write_over(&mut next.0, event);
         Ok(())

@@ -141,7 +141,7 @@ impl<'input, T: Input> EventReader<'input, T> {
     pub fn is_over(&self) -> bool
         ensures { result ≡ documents.is_over (cursor self.now).machine.state }
     {
-        matches!(self.machine.state.get(), State::End)
+        matches!(self.machine.state, State::End)
     }
 
     /// Sets whether prefixes of tags hold for later documents too. The setting takes effect from the next end of a

@@ -5,7 +5,6 @@ ghost use Rattle.saphyr_scanner.specs.Views.Tokens.{Parts, kind_with};
 ghost use Rattle.saphyr_machine.specs.Steps.Nodes as spec;
 
 use crate::context::NodeContext;
-use saphyr_scalar::Marker;
 use saphyr_scanner::TokenKind;
 
 /// What the machine expects next.
@@ -39,8 +38,8 @@ pub enum State {
     FlowSequenceEntryMappingKey,
     /// The value of such a pair, which may be left out.
     FlowSequenceEntryMappingValue,
-    /// The end of such a pair, which has no token, and the place of that end.
-    FlowSequenceEntryMappingEnd(Marker),
+    /// The end of such a pair, which has no token. The machine keeps its place.
+    FlowSequenceEntryMappingEnd,
     /// The first key of a flow mapping, or the mapping's end.
     FlowMappingFirstKey,
     /// The comma before a key of a flow mapping, or the mapping's end.
@@ -52,6 +51,9 @@ pub enum State {
     /// Nothing: the stream's end was given.
     End,
 }
+
+// A text may have one for each byte.
+const _: () = prove!(size_of::<State>() == 1);
 
 impl State {
     /// Whether a node, behind which this is expected, is left out before a token.
@@ -77,7 +79,7 @@ impl State {
                 kind,
                 TokenKind::Value | TokenKind::FlowEntry | TokenKind::FlowSequenceEnd
             ),
-            State::FlowSequenceEntryMappingEnd(_) => {
+            State::FlowSequenceEntryMappingEnd => {
                 matches!(kind, TokenKind::FlowEntry | TokenKind::FlowSequenceEnd)
             }
             State::FlowMappingKey => {

@@ -40,7 +40,7 @@ impl<T: Input> Machine<T> {
             (machine_in more self.old) (machine_in more self.new) }
         ensures own { is_foreign (item_at next.new fault.new result) ≡ false }
     {
-        if matches!(self.state.get(), State::End) {
+        if matches!(self.state, State::End) {
             return Progress::Over;
         }
         match self.event(next) {
@@ -59,7 +59,7 @@ impl<T: Input> Machine<T> {
         requires { self.old.state ≢ End }
         ensures { EmitsBy spec.event_step self.old result next.new self.new }
     {
-        let state = self.state.get();
+        let state = self.state;
         match state {
             State::StreamStart => self.stream_start(next),
             State::ImplicitDocumentStart => self.implicit_document_start(next),
@@ -77,8 +77,8 @@ impl<T: Input> Machine<T> {
             }
             State::FlowSequenceEntryMappingKey => self.flow_sequence_entry_mapping_key(next),
             State::FlowSequenceEntryMappingValue => self.flow_sequence_entry_mapping_value(next),
-            State::FlowSequenceEntryMappingEnd(place) => {
-                self.flow_sequence_entry_mapping_end(place, next);
+            State::FlowSequenceEntryMappingEnd => {
+                self.flow_sequence_entry_mapping_end(next);
                 Ok(())
             }
             State::FlowMappingFirstKey => self.flow_mapping_first_key(next),

@@ -23,7 +23,7 @@ use Rattle.saphyr_pieces.specs.declared.pieces.Source.{Source}
 use Rattle.saphyr_pieces.specs.declared.pieces.Source.TheVariants as source
 use Rattle.saphyr_pieces.specs.Pieces.{Pieces, at, cursor_from, reader_in, wants_more, wants_more_from}
 use Rattle.saphyr_pieces.specs.Passed.{passed_tokens}
-use Rattle.saphyr_pieces.specs.Views.{AdvancesBy, AreIdleBefore, GoesOnOver, IsReachedFrom, IsSoundFrom, IsSoundReader, ReadsOnOver, pieces_of, place_in}
+use Rattle.saphyr_pieces.specs.Views.{AdvancesBy, AreIdleBefore, GoesOnOver, IsReachedFrom, IsSoundFrom, IsSoundReader, ReadsOnBy, ReadsOnOver, pieces_of, place_in}
 
 -- ## The events of a cursor are those of its place
 
@@ -170,3 +170,9 @@ module _ (p : Pieces) (more later : List ℕ) where
   pub added : (q : Pieces) → wants_more p ≡ true → q ≡ record p { more = p.more ++ more }
       → at q later ≡ at p (more ++ later)
   added q wants is = ap (λ (v : Pieces). at v later) is ∙ added_from p.source wants
+
+-- by so many events, over what came since
+pub reads_over : (from over by : EventReader OwnedText) (since : List ℕ) (n : ℕ) → GoesOnOver since from over
+    → ReadsOnBy n over by → ReadsOnOver since n from by
+reads_over from over by since n on reads more =
+    subst (λ v. AdvancesBy n v (cursor_in more by)) (on more) (reads more)

@@ -5,7 +5,7 @@ use Rattle.saphyr_machine.specs.declared.state.State.TheVariants as state
 use Rattle.saphyr_machine.specs.Steps.Block.{block_sequence_entry, indentless_sequence_entry, block_mapping_key, block_mapping_value}
 use Rattle.saphyr_machine.specs.Steps.Nodes.{node_behind, node_here}
 use Rattle.saphyr_machine.specs.Steps.Expected.{event_step}
-use Rattle.event_laws.proofs.Emitted.Emitting.{SpansByKinds, Memory, at, span_of_token}
+use Rattle.event_laws.proofs.Emitted.Emitting.{SpansByKinds, Memory, Outer, at, span_of_token}
 use Rattle.event_laws.proofs.Remembering.{after_node, EmitsParts}
 use Rattle.event_laws.proofs.NodeStarts.{MayFollow, EachSays, skipped, EndsAt, SaysBehind, says_behind, marked_tokens}
 
@@ -38,7 +38,7 @@ mapping_ends k h = grind arith
 
 -- ## Pairs
 
-value_is_missing : (f : SpansByKinds) (k : Kind) (ks : List Kind) (ss : List State) (e : Memory)
+value_is_missing : (f : SpansByKinds) (k : Kind) (ks : List Kind) (ss : Outer) (e : Memory)
     → MayFollow InBlockMapping k → ¬ (BeginsWithValue (k ∷ ks))
     → event_step (at f (k ∷ ks) state.BlockMappingValue ss e)
     ≡ emit empty_scalar (f ks) (at f (k ∷ ks) state.BlockMappingKey ss e)
@@ -48,7 +48,7 @@ value_is_missing f k ks ss e h n = grind arith
 -- a pair whose value is left out
 alone_says : (key : Node) (t : List Kind) → YieldsMarkedKey key (YieldsNode key InBlockMapping) t
     → EachSays key InBlockMapping
-    → (f : SpansByKinds) (k : Kind) (ks : List Kind) (ss : List State) (e : Memory) (ps : List Part)
+    → (f : SpansByKinds) (k : Kind) (ks : List Kind) (ss : Outer) (e : Memory) (ps : List Part)
     → MayFollow InBlockMapping k → ¬ (BeginsWithValue (k ∷ ks))
     → EmitsParts f (k ∷ ks) state.BlockMappingKey ss (after_node key e) ps
     → EmitsParts f (t ++ k ∷ ks) state.BlockMappingKey ss e (node_parts key ++ (node_parts forest.left_out ++ ps))
@@ -62,7 +62,7 @@ alone_says key t h g f k ks ss e ps z n l =
 -- a pair whose key is left out
 keyless_says : (value : Node) (t : List Kind) → YieldsMarkedValue value (YieldsNode value InBlockMapping) t
     → EachSays value InBlockMapping
-    → (f : SpansByKinds) (k : Kind) (ks : List Kind) (ss : List State) (e : Memory) (ps : List Part)
+    → (f : SpansByKinds) (k : Kind) (ks : List Kind) (ss : Outer) (e : Memory) (ps : List Part)
     → MayFollow InBlockMapping k → EmitsParts f (k ∷ ks) state.BlockMappingKey ss (after_node value e) ps
     → EmitsParts f (t ++ k ∷ ks) state.BlockMappingKey ss e (node_parts forest.left_out ++ (node_parts value ++ ps))
 unfolding event_step block_mapping_key
@@ -76,7 +76,7 @@ keyless_says value t h g f k ks ss e ps z l =
 pub pair_says : (key value : Node) (others t : List Kind)
     → YieldsBlockPair key value (YieldsNode key InBlockMapping) (YieldsNode value InBlockMapping) others t
     → EachSays key InBlockMapping → EachSays value InBlockMapping
-    → (f : SpansByKinds) (k : Kind) (ks : List Kind) (ss : List State) (e : Memory) (ps : List Part)
+    → (f : SpansByKinds) (k : Kind) (ks : List Kind) (ss : Outer) (e : Memory) (ps : List Part)
     → MayFollow InBlockMapping k → (¬ (BeginsWithValue others) → ¬ (BeginsWithValue (k ∷ ks)))
     → EmitsParts f (k ∷ ks) state.BlockMappingKey ss (after_node value (after_node key e)) ps
     → EmitsParts f (t ++ k ∷ ks) state.BlockMappingKey ss e (node_parts key ++ (node_parts value ++ ps))

@@ -3,7 +3,7 @@ use Rattle.event_laws.proofs.Common.{◌≡◌, ◌≢◌, ℕ, Option, List, []
 use Rattle.saphyr_scanner.specs.Grammar.Forest as forest
 use Rattle.saphyr_scanner.specs.Grammar.TokenGrammar as grammar
 use Rattle.saphyr_machine.specs.declared.state.State.TheVariants as state
-use Rattle.event_laws.proofs.Emitted.Emitting.{SpansByKinds, Memory, at}
+use Rattle.event_laws.proofs.Emitted.Emitting.{SpansByKinds, Memory, Outer, expecting, at}
 use Rattle.event_laws.proofs.Remembering.{noted, after, after_nodes, after_pairs, with_properties, event_in, SaysParts, EmitsParts}
 use Rattle.event_laws.proofs.Emitted.Nodes.{next_node, node_opens, IsContentKind}
 use Rattle.event_laws.proofs.NodeStarts.{context_of, MayFollow, NodeSays}
@@ -14,8 +14,8 @@ use Rattle.event_laws.proofs.NodeStarts.{context_of, MayFollow, NodeSays}
 -- remembered changes by `after`.
 pub record SayUpTo (close : Kind) (x : State) (closing : Part) (inside : List Part) (after : Memory → Memory)
     (t : List Kind) : Type 0 where
-  pub by : (f : SpansByKinds) (ks : List Kind) (s : State) (ss : List State) (e : Memory) (ps : List Part)
-      → EmitsParts f ks s ss (after e) ps → EmitsParts f (t ++ close ∷ ks) x (s ∷ ss) e (inside ++ closing ∷ ps)
+  pub by : (f : SpansByKinds) (ks : List Kind) (s : State) (ss : Outer) (e : Memory) (ps : List Part)
+      → EmitsParts f ks s ss (after e) ps → EmitsParts f (t ++ close ∷ ks) x (expecting s ss) e (inside ++ closing ∷ ps)
 
 abbrev pub EntriesSay : Kind → State → Nodes → List Kind → Type 0
 EntriesSay close x ns = SayUpTo close x CloseSequence (entry_parts ns) (after_nodes ns)
@@ -42,9 +42,9 @@ abbrev pub BlockPairsSay : Pairs → List Kind → Type 0
 BlockPairsSay = PairsSay BlockEnd state.BlockMappingKey
 
 pub record IndentlessSay (ns : Nodes) (t : List Kind) : Type 0 where
-  pub by : (f : SpansByKinds) (k : Kind) (ks : List Kind) (s : State) (ss : List State) (e : Memory) (ps : List Part)
+  pub by : (f : SpansByKinds) (k : Kind) (ks : List Kind) (s : State) (ss : Outer) (e : Memory) (ps : List Part)
       → MayFollow InBlockMapping k → EmitsParts f (k ∷ ks) s ss (after_nodes ns e) ps
-      → EmitsParts f (t ++ k ∷ ks) state.IndentlessSequenceEntry (s ∷ ss) e (entry_parts ns ++ CloseSequence ∷ ps)
+      → EmitsParts f (t ++ k ∷ ks) state.IndentlessSequenceEntry (expecting s ss) e (entry_parts ns ++ CloseSequence ∷ ps)
 
 -- ## Collections
 
@@ -57,21 +57,21 @@ between front inside content t opening closing rest a b = grind (arith, append_a
 -- A collection between two tokens is told, after its properties, where what is inside is.
 opens : (opening close : Kind) (y : State) (first closing : Part) (make : ℕ → Option ResolvedTag → Happening)
     (inside : List Part) (later : Memory → Memory) (p : forest.Properties) (d : NodeContext)
-    (front u content t : List Kind) (f : SpansByKinds) (rest : List Kind) (m : Machine) (x s : State) (ss : List State)
+    (front u content t : List Kind) (f : SpansByKinds) (rest : List Kind) (m : Machine) (x s : State) (ss : Outer)
     (e : Memory) (ps : List Part) → grammar.YieldProperties p front → IsContentKind opening
     → content ≡ opening ∷ (u ++ close ∷ []) → t ≡ front ++ content → event_in e first ≡ with_properties make e p
     → noted p.anchor e ≡ after first e → ((q : NodeProperties) (l : List Kind)
-    → node_content_at opening q d (record { span = f l; kind = opening }) (at f l x (s ∷ ss) (noted p.anchor e))
-    ≡ emit (make q.anchor q.tag) (span_up_to q (f l).end) (at f l y (s ∷ ss) (noted p.anchor e)))
-    → m.state ≢ state.End → event_step m ≡ next_node d (at f (t ++ rest) x (s ∷ ss) e)
+    → node_content_at opening q d (record { span = f l; kind = opening }) (at f l x (expecting s ss) (noted p.anchor e))
+    ≡ emit (make q.anchor q.tag) (span_up_to q (f l).end) (at f l y (expecting s ss) (noted p.anchor e)))
+    → m.state ≢ state.End → event_step m ≡ next_node d (at f (t ++ rest) x (expecting s ss) e)
     → SayUpTo close y closing inside later u → EmitsParts f rest s ss (later (noted p.anchor e)) ps
     → SaysParts e m (first ∷ ((inside ++ closing ∷ []) ++ ps))
 opens opening close y first closing make inside later p d front u content t f rest m x s ss e ps h c k w v same step
     more q g l =
     let all : List Kind = u ++ close ∷ rest in
-    let emitted : EmitsParts f all y (s ∷ ss) (noted p.anchor e) ((inside ++ closing ∷ []) ++ ps) =
+    let emitted : EmitsParts f all y (expecting s ss) (noted p.anchor e) ((inside ++ closing ∷ []) ++ ps) =
     rw (append_assoc inside (closing ∷ []) ps) (g.by f rest s ss (noted p.anchor e) ps l) in
-    node_opens f d x (s ∷ ss) e m (at f all y (s ∷ ss) (noted p.anchor e)) p front opening all first
+    node_opens f d x (expecting s ss) e m (at f all y (expecting s ss) (noted p.anchor e)) p front opening all first
     ((inside ++ closing ∷ []) ++ ps) make h c more (cc (between front u content t opening close rest k w)) v
     (λ r has. (span_up_to r (f all).end, step r all)) (rw (← same) emitted)
 
@@ -128,13 +128,13 @@ indentless_sequence p ns InBlockMapping front content others t h b d a g = recor
       let rest : List Kind = others ++ k ∷ ks in
       let same : t ++ k ∷ ks ≡ front ++ BlockEntry ∷ rest = rw (a, d)
       (append_assoc front (BlockEntry ∷ others) (k ∷ ks)) in
-      let emitted : EmitsParts f (BlockEntry ∷ rest) state.IndentlessSequenceEntry (s ∷ ss) (noted p.anchor e)
+      let emitted : EmitsParts f (BlockEntry ∷ rest) state.IndentlessSequenceEntry (expecting s ss) (noted p.anchor e)
       (entry_parts ns ++ CloseSequence ∷ ps) = rw d at (g.by f k ks s ss (noted p.anchor e) ps z l) in
-      let inside : EmitsParts f (BlockEntry ∷ rest) state.IndentlessSequenceEntry (s ∷ ss) (noted p.anchor e)
+      let inside : EmitsParts f (BlockEntry ∷ rest) state.IndentlessSequenceEntry (expecting s ss) (noted p.anchor e)
       ((entry_parts ns ++ CloseSequence ∷ []) ++ ps) =
       rw (append_assoc (entry_parts ns) (CloseSequence ∷ []) ps) emitted in
-      node_opens f (context_of InBlockMapping) x (s ∷ ss) e m
-      (at f (BlockEntry ∷ rest) state.IndentlessSequenceEntry (s ∷ ss) (noted p.anchor e)) p front BlockEntry rest
+      node_opens f (context_of InBlockMapping) x (expecting s ss) e m
+      (at f (BlockEntry ∷ rest) state.IndentlessSequenceEntry (expecting s ss) (noted p.anchor e)) p front BlockEntry rest
       (OpenSequence p) ((entry_parts ns ++ CloseSequence ∷ []) ++ ps) SequenceStart h tt more (cc) refl
       (λ r has. (span_up_to r (f rest).end, refl)) inside;
 }

@@ -5,7 +5,7 @@ use Rattle.saphyr_machine.specs.Events as events
 use Rattle.saphyr_machine.specs.Steps.Documents.{is_end_or_mark, directives, none_declared, explicit_document_at, explicit_document, bare_document, implicit_start_at, implicit_start, explicit_start_at, explicit_start, document_content}
 use Rattle.saphyr_machine.specs.Steps.Block.{block_node}
 use Rattle.saphyr_machine.specs.Steps.Expected.{event_step}
-use Rattle.event_laws.proofs.Emitted.Emitting.{SpansByKinds, Memory, at, ends}
+use Rattle.event_laws.proofs.Emitted.Emitting.{SpansByKinds, Memory, top, expecting, at, ends}
 use Rattle.event_laws.proofs.Remembering.{opening, after_node, SaysParts, EmitsParts, plainly}
 use Rattle.event_laws.proofs.Emitted.Nodes.{next_node}
 use Rattle.event_laws.proofs.NodeStarts.{Starts, Head, node_head, MayFollow, enters_or_skips}
@@ -16,32 +16,33 @@ use Rattle.event_laws.proofs.DirectivesPass.{passes, ends_pass, all_directives_p
 -- ## The first token of a document, after what is passed
 
 pub implicitly : (front : List Kind) (f : SpansByKinds) (k : Kind) (ks : List Kind) (e : Memory) → AreEndsAndMarks front
-    → is_end_or_mark k ≡ false → event_step (at f (front ++ k ∷ ks) state.ImplicitDocumentStart [] e)
-    ≡ implicit_start_at k (record { span = f ks; kind = k }) (at f ks state.ImplicitDocumentStart [] e)
+    → is_end_or_mark k ≡ false → event_step (at f (front ++ k ∷ ks) state.ImplicitDocumentStart top e)
+    ≡ implicit_start_at k (record { span = f ks; kind = k }) (at f ks state.ImplicitDocumentStart top e)
 unfolding event_step implicit_start
-implicitly front f k ks e h n = grind (arith, passes, ends_pass)
+implicitly front f k ks e h n =
+    cc (passes is_end_or_mark front f k ks state.ImplicitDocumentStart top e (ends_pass front h) n)
 
 explicitly : (f : SpansByKinds) (k : Kind) (ks : List Kind) (e : Memory) → is_end_or_mark k ≡ false
-    → event_step (at f (k ∷ ks) state.DocumentStart [] e)
-    ≡ explicit_start_at k (record { span = f ks; kind = k }) (at f ks state.DocumentStart [] e)
+    → event_step (at f (k ∷ ks) state.DocumentStart top e)
+    ≡ explicit_start_at k (record { span = f ks; kind = k }) (at f ks state.DocumentStart top e)
 unfolding event_step explicit_start
-explicitly f k ks e n = cc (passes is_end_or_mark [] f k ks state.DocumentStart [] e tt n)
+explicitly f k ks e n = cc (passes is_end_or_mark [] f k ks state.DocumentStart top e tt n)
 
 -- ## The end of the stream
 
-over : (f : SpansByKinds) (e : Memory) → EmitsParts f [] state.End [] e []
+over : (f : SpansByKinds) (e : Memory) → EmitsParts f [] state.End top e []
 over f e es q = grind (arith, ends)
 
 pub stream_ends : (f : SpansByKinds) (front : List Kind) (e : Memory) → AreEndsAndMarks front
-    → EmitsParts f (front ++ StreamEnd ∷ []) state.ImplicitDocumentStart [] e (CloseStream ∷ [])
+    → EmitsParts f (front ++ StreamEnd ∷ []) state.ImplicitDocumentStart top e (CloseStream ∷ [])
 stream_ends f front e h =
-    plainly e (at f (front ++ StreamEnd ∷ []) state.ImplicitDocumentStart [] e) (at f [] state.End [] e) CloseStream []
+    plainly e (at f (front ++ StreamEnd ∷ []) state.ImplicitDocumentStart top e) (at f [] state.End top e) CloseStream []
     events.StreamEnd (f []) (λ q. cc) refl (implicitly front f StreamEnd [] e h refl) (over f e)
 
 pub stream_ends_at_once : (f : SpansByKinds) (e : Memory)
-    → EmitsParts f (StreamEnd ∷ []) state.DocumentStart [] e (CloseStream ∷ [])
+    → EmitsParts f (StreamEnd ∷ []) state.DocumentStart top e (CloseStream ∷ [])
 stream_ends_at_once f e =
-    plainly e (at f (StreamEnd ∷ []) state.DocumentStart [] e) (at f [] state.End [] e) CloseStream [] events.StreamEnd
+    plainly e (at f (StreamEnd ∷ []) state.DocumentStart top e) (at f [] state.End top e) CloseStream [] events.StreamEnd
     (f []) (λ q. cc) refl (explicitly f StreamEnd [] e refl) (over f e)
 
 -- ## What comes after a document
@@ -104,26 +105,26 @@ node_stops k h = grind arith
 
 bare_opens : (f : SpansByKinds) (front : List Kind) (j : Kind) (l : List Kind) (e : Memory) (ps : List Part)
     → AreEndsAndMarks front → Starts InBlock j
-    → EmitsParts f (j ∷ l) state.BlockNode (state.DocumentEnd ∷ []) (opening [] e) ps
-    → EmitsParts f (front ++ j ∷ l) state.ImplicitDocumentStart [] e (OpenDocument false [] ∷ ps)
+    → EmitsParts f (j ∷ l) state.BlockNode (expecting state.DocumentEnd top) (opening [] e) ps
+    → EmitsParts f (front ++ j ∷ l) state.ImplicitDocumentStart top e (OpenDocument false [] ∷ ps)
 unfolding bare_document
-bare_opens f front j l e ps h s r = plainly e (at f (front ++ j ∷ l) state.ImplicitDocumentStart [] e)
-    (at f (j ∷ l) state.BlockNode (state.DocumentEnd ∷ []) (opening [] e)) (OpenDocument false []) ps
+bare_opens f front j l e ps h s r = plainly e (at f (front ++ j ∷ l) state.ImplicitDocumentStart top e)
+    (at f (j ∷ l) state.BlockNode (expecting state.DocumentEnd top) (opening [] e)) (OpenDocument false []) ps
     (events.DocumentStart false) (f l) (λ q. cc) refl
     (implicitly front f j l e h (node_stops j s) ∙ node_is_bare j _ _ s) r
 
 pub bare_says : (n : Node) (t : List Kind) → YieldsNode n InBlock t
     → (f : SpansByKinds) (front : List Kind) (k : Kind) (ks : List Kind) (e : Memory) (ps : List Part)
     → AreEndsAndMarks front
-    → EndsDocument k → EmitsParts f (k ∷ ks) state.DocumentEnd [] (after_node n (opening [] e)) ps
-    → EmitsParts f (front ++ (t ++ k ∷ ks)) state.ImplicitDocumentStart [] e
+    → EndsDocument k → EmitsParts f (k ∷ ks) state.DocumentEnd top (after_node n (opening [] e)) ps
+    → EmitsParts f (front ++ (t ++ k ∷ ks)) state.ImplicitDocumentStart top e
     (OpenDocument false [] ∷ (node_parts n ++ ps))
 unfolding event_step block_node
 bare_says n t h f front k ks e ps a z l =
     let e' : Memory = opening [] e in
-    let m : Machine = at f (t ++ k ∷ ks) state.BlockNode (state.DocumentEnd ∷ []) e' in
+    let m : Machine = at f (t ++ k ∷ ks) state.BlockNode (expecting state.DocumentEnd top) e' in
     let inside : SaysParts e' m (node_parts n ++ ps) = (node_says n InBlock t h).by f k ks m state.BlockNode
-    state.DocumentEnd [] e' ps (document_end_follows k z) (λ q. cc) refl l in
+    state.DocumentEnd top e' ps (document_end_follows k z) (λ q. cc) refl l in
     let d : Head InBlock t = node_head n InBlock t h in
     let same : t ++ k ∷ ks ≡ d.first ∷ (d.others ++ k ∷ ks) = ap (λ u. u ++ k ∷ ks) d.is in
     rw same (bare_opens f front d.first (d.others ++ k ∷ ks) e (node_parts n ++ ps) a d.starts (rw same at inside))
@@ -135,8 +136,8 @@ opened m = directives none_declared m >>= (λ u. explicit_document_at u.0.kind u
 
 pub implicit_opens : (ds : List Directive) (f : SpansByKinds) (front rest : List Kind) (e : Memory)
     → AreEndsAndMarks front
-    → event_step (at f (front ++ (map directive_token ds ++ DocumentStart ∷ rest)) state.ImplicitDocumentStart [] e)
-    ≡ opened (at f (map directive_token ds ++ DocumentStart ∷ rest) state.ImplicitDocumentStart [] e)
+    → event_step (at f (front ++ (map directive_token ds ++ DocumentStart ∷ rest)) state.ImplicitDocumentStart top e)
+    ≡ opened (at f (map directive_token ds ++ DocumentStart ∷ rest) state.ImplicitDocumentStart top e)
 unfolding explicit_document
 implicit_opens [] f front rest e h = implicitly front f DocumentStart rest e h refl
 implicit_opens (Version major minor ∷ ds) f front rest e h =
@@ -146,20 +147,20 @@ implicit_opens (TagPrefix handle prefix ∷ ds) f front rest e h =
 implicit_opens (Reserved name ∷ ds) f front rest e h = implicitly front f (directive_token (Reserved name)) _ e h refl
 
 pub explicit_opens : (f : SpansByKinds) (rest : List Kind) (e : Memory)
-    → event_step (at f (DocumentStart ∷ rest) state.DocumentStart [] e)
-    ≡ opened (at f (DocumentStart ∷ rest) state.DocumentStart [] e)
+    → event_step (at f (DocumentStart ∷ rest) state.DocumentStart top e)
+    ≡ opened (at f (DocumentStart ∷ rest) state.DocumentStart top e)
 unfolding explicit_document
 explicit_opens f rest e = explicitly f DocumentStart rest e refl
 
 content_begins : (f : SpansByKinds) (j : Kind) (l : List Kind) (e : Memory) → Starts InBlock j
-    → event_step (at f (j ∷ l) state.DocumentContent (state.DocumentEnd ∷ []) e)
-    ≡ next_node Block (at f (j ∷ l) state.DocumentContent (state.DocumentEnd ∷ []) e)
+    → event_step (at f (j ∷ l) state.DocumentContent (expecting state.DocumentEnd top) e)
+    ≡ next_node Block (at f (j ∷ l) state.DocumentContent (expecting state.DocumentEnd top) e)
 unfolding event_step document_content
 content_begins f k l e h = grind arith
 
 content_is_left_out : (f : SpansByKinds) (k : Kind) (ks : List Kind) (e : Memory) → EndsDocument k
-    → event_step (at f (k ∷ ks) state.DocumentContent (state.DocumentEnd ∷ []) e)
-    ≡ emit empty_scalar (f ks) (at f (k ∷ ks) state.DocumentEnd [] e)
+    → event_step (at f (k ∷ ks) state.DocumentContent (expecting state.DocumentEnd top) e)
+    ≡ emit empty_scalar (f ks) (at f (k ∷ ks) state.DocumentEnd top e)
 unfolding event_step document_content
 content_is_left_out f k ks e h = grind arith
 
@@ -168,17 +169,17 @@ pub explicit_says : (n : Node) (ds : List Directive) (t : List Kind) → AreComp
     → YieldsOptional n (YieldsNode n InBlock) t
     → (f : SpansByKinds) (k : Kind) (ks : List Kind) (m : Machine) (x : State) (e : Memory) (ps : List Part)
     → EndsDocument k → m.state ≢ state.End
-    → event_step m ≡ opened (at f (map directive_token ds ++ DocumentStart ∷ (t ++ k ∷ ks)) x [] e)
-    → EmitsParts f (k ∷ ks) state.DocumentEnd [] (after_node n (opening ds e)) ps
+    → event_step m ≡ opened (at f (map directive_token ds ++ DocumentStart ∷ (t ++ k ∷ ks)) x top e)
+    → EmitsParts f (k ∷ ks) state.DocumentEnd top (after_node n (opening ds e)) ps
     → SaysParts e m (OpenDocument true ds ∷ (node_parts n ++ ps))
 explicit_says n ds t c h f k ks m x e ps z more q l =
     let e' : Memory = opening ds e in
     let rest : List Kind = t ++ k ∷ ks in
     let inside = enters_or_skips n InBlock t h (λ g. node_says n InBlock t g) f k ks
-    (λ l. at f l state.DocumentContent (state.DocumentEnd ∷ []) e') state.DocumentContent (λ l. state.DocumentEnd)
-    [] e' ps (document_end_follows k z) (λ l q. cc) (f ks) (content_is_left_out f k ks e' z)
+    (λ l. at f l state.DocumentContent (expecting state.DocumentEnd top) e') state.DocumentContent state.DocumentEnd
+    (λ l. top) e' ps (document_end_follows k z) (λ l q. cc) (f ks) (content_is_left_out f k ks e' z)
     (λ j l s. content_begins f j l e' s) l in
     let goes : event_step m ≡ emit (events.DocumentStart true) (f rest)
-    (at f rest state.DocumentContent (state.DocumentEnd ∷ []) e') = cc (all_directives_pass ds f rest x [] e c) in
-    plainly e m (at f rest state.DocumentContent (state.DocumentEnd ∷ []) e') (OpenDocument true ds)
+    (at f rest state.DocumentContent (expecting state.DocumentEnd top) e') = cc (all_directives_pass ds f rest x top e c) in
+    plainly e m (at f rest state.DocumentContent (expecting state.DocumentEnd top) e') (OpenDocument true ds)
     (node_parts n ++ ps) (events.DocumentStart true) (f rest) more refl goes inside

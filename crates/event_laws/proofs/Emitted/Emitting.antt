@@ -1,5 +1,5 @@
 -- Machines before tokens whose spans are told by the tokens after them, and the events that they give.
-use Rattle.event_laws.proofs.Common.{◌≡◌, ◌≢◌, ℕ, ◌<◌, ◌≤◌, Bool, false, List, [], ◌∷◌, length, None, Ok, refl, sym, ap, ◌∙◌, arith, if◌then◌else◌, Span, Kind, Piece, State, End, Happening, Names, Anchors, Machine, Emitted, event_step, remaining_answer, GivesExactly, kinds, unroll, over}
+use Rattle.event_laws.proofs.Common.{◌≡◌, ◌≢◌, ℕ, ◌<◌, ◌≤◌, Bool, false, List, [], ◌∷◌, length, None, Ok, refl, sym, ap, ◌∙◌, arith, if◌then◌else◌, Marker, Span, Kind, Piece, State, End, Happening, Names, Anchors, Machine, Emitted, event_step, remaining_answer, GivesExactly, kinds, unroll, over}
 use Rattle.std.proofs.Math.Dec.{eqb}
 use Rattle.std.proofs.lemmas.Bool.{eq-eqb, ne_eqb}
 
@@ -24,11 +24,26 @@ pub record Memory : Type 0 where
   pub prefixes : Names (List ℕ)
   pub keep : Bool
 
-abbrev pub at : SpansByKinds → List Kind → State → List State → Memory → Machine
+-- what is expected after each node that is open, and where the pairs of brackets end that are open
+pub record Outer : Type 0 where
+  pub states : List State
+  pub pair_ends : List Marker
+
+abbrev pub top : Outer
+top = record { states = []; pair_ends = [] }
+
+abbrev pub expecting : State → Outer → Outer
+expecting s ss = record ss { states = s ∷ ss.states }
+
+abbrev pub ending : Marker → Outer → Outer
+ending place ss = record ss { pair_ends = place ∷ ss.pair_ends }
+
+abbrev pub at : SpansByKinds → List Kind → State → Outer → Memory → Machine
 at f ks s ss e = record {
   tokens = record { pieces = dressed f ks; refusal = None };
   state = s;
-  states = ss;
+  states = ss.states;
+  pair_ends = ss.pair_ends;
   anchors = e.anchors;
   prefixes = e.prefixes;
   keep_tags = e.keep;

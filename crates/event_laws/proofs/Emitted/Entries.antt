@@ -4,7 +4,7 @@ use Rattle.saphyr_machine.specs.declared.state.State.TheVariants as state
 use Rattle.saphyr_machine.specs.Steps.Flow.{flow_sequence_first_entry, flow_sequence_entry, flow_mapping_first_key, flow_mapping_pair_behind_comma, flow_mapping_key}
 use Rattle.saphyr_machine.specs.Steps.Block.{block_sequence_entry, indentless_sequence_entry, block_mapping_key}
 use Rattle.saphyr_machine.specs.Steps.Expected.{event_step}
-use Rattle.event_laws.proofs.Emitted.Emitting.{SpansByKinds, Memory, at, span_of_token}
+use Rattle.event_laws.proofs.Emitted.Emitting.{SpansByKinds, Memory, Outer, expecting, at, span_of_token}
 use Rattle.event_laws.proofs.Remembering.{after_node, after_nodes, after_pairs, SaysParts, EmitsParts, plainly}
 use Rattle.event_laws.proofs.NodeStarts.{MayFollow, NodeSays, EachSays, EndsAt}
 use Rattle.event_laws.proofs.Emitted.SinglePairs.{EndsEntry, AtEntry, SaysEntry, entry_says}
@@ -60,18 +60,18 @@ no_block_pairs = record {
   by = λ f ks s ss e ps l. plainly e _ (at f ks s ss e) CloseMapping ps MappingEnd (f ks) (λ q. cc) refl refl l;
 }
 
-indentless_ends : (f : SpansByKinds) (k : Kind) (ks : List Kind) (s : State) (ss : List State) (e : Memory)
+indentless_ends : (f : SpansByKinds) (k : Kind) (ks : List Kind) (s : State) (ss : Outer) (e : Memory)
     (ps : List Part) → MayFollow InBlockMapping k → EmitsParts f (k ∷ ks) s ss e ps
-    → EmitsParts f (k ∷ ks) state.IndentlessSequenceEntry (s ∷ ss) e (CloseSequence ∷ ps)
+    → EmitsParts f (k ∷ ks) state.IndentlessSequenceEntry (expecting s ss) e (CloseSequence ∷ ps)
 unfolding event_step indentless_sequence_entry
 indentless_ends f Key ks s ss e ps z l =
-    plainly e (at f (Key ∷ ks) state.IndentlessSequenceEntry (s ∷ ss) e) (at f (Key ∷ ks) s ss e) CloseSequence ps
+    plainly e (at f (Key ∷ ks) state.IndentlessSequenceEntry (expecting s ss) e) (at f (Key ∷ ks) s ss e) CloseSequence ps
     SequenceEnd (f ks) (λ q. cc) refl refl l
 indentless_ends f Value ks s ss e ps z l =
-    plainly e (at f (Value ∷ ks) state.IndentlessSequenceEntry (s ∷ ss) e) (at f (Value ∷ ks) s ss e) CloseSequence ps
+    plainly e (at f (Value ∷ ks) state.IndentlessSequenceEntry (expecting s ss) e) (at f (Value ∷ ks) s ss e) CloseSequence ps
     SequenceEnd (f ks) (λ q. cc) refl refl l
 indentless_ends f BlockEnd ks s ss e ps z l =
-    plainly e (at f (BlockEnd ∷ ks) state.IndentlessSequenceEntry (s ∷ ss) e) (at f (BlockEnd ∷ ks) s ss e)
+    plainly e (at f (BlockEnd ∷ ks) state.IndentlessSequenceEntry (expecting s ss) e) (at f (BlockEnd ∷ ks) s ss e)
     CloseSequence ps SequenceEnd (f ks) (λ q. cc) refl refl l
 indentless_ends f _ ks s ss e ps z l = elim z [ ]
 
@@ -80,22 +80,22 @@ no_indentless_entries = record { by = indentless_ends }
 
 -- ## Where entries begin
 
-at_first_entry : (f : SpansByKinds) (ss : List State) (e : Memory)
+at_first_entry : (f : SpansByKinds) (ss : Outer) (e : Memory)
     → AtEntry f state.FlowSequenceFirstEntry ss e (λ l. at f l state.FlowSequenceFirstEntry ss e)
 unfolding event_step flow_sequence_first_entry
 at_first_entry f ss e = record { goes_on = λ l q. cc; steps = λ k l. refl }
 
-at_other_entry : (f : SpansByKinds) (ss : List State) (e : Memory)
+at_other_entry : (f : SpansByKinds) (ss : Outer) (e : Memory)
     → AtEntry f state.FlowSequenceEntry ss e (λ l. at f (FlowEntry ∷ l) state.FlowSequenceEntry ss e)
 unfolding event_step flow_sequence_first_entry flow_sequence_entry
 at_other_entry f ss e = record { goes_on = λ l q. cc; steps = λ k l. refl }
 
-at_first_pair : (f : SpansByKinds) (ss : List State) (e : Memory)
+at_first_pair : (f : SpansByKinds) (ss : Outer) (e : Memory)
     → AtPair f state.FlowMappingFirstKey ss e (λ l. at f l state.FlowMappingFirstKey ss e)
 unfolding event_step flow_mapping_first_key span_of_token
 at_first_pair f ss e = record { goes_on = λ l q. cc; span = span_of_token f; steps = λ k l. refl }
 
-at_other_pair : (f : SpansByKinds) (ss : List State) (e : Memory)
+at_other_pair : (f : SpansByKinds) (ss : Outer) (e : Memory)
     → AtPair f state.FlowMappingKey ss e (λ l. at f (FlowEntry ∷ l) state.FlowMappingKey ss e)
 unfolding event_step flow_mapping_key flow_mapping_pair_behind_comma
 at_other_pair f ss e = record { goes_on = λ l q. cc; span = f; steps = λ k l. refl }
@@ -103,7 +103,7 @@ at_other_pair f ss e = record { goes_on = λ l q. cc; span = f; steps = λ k l. 
 -- ## An entry, and those after it
 
 -- an entry, with the token after it shown
-entry_emitted : (Fits : Kind → Type 0) (f : SpansByKinds) (front v t rest : List Kind) (x y : State) (ss : List State)
+entry_emitted : (Fits : Kind → Type 0) (f : SpansByKinds) (front v t rest : List Kind) (x y : State) (ss : Outer)
     (e e' : Memory) (entry ps : List Part) → Next Fits (v ++ rest) → t ≡ front ++ v
     → ((k : Kind) (ks : List Kind) → v ++ rest ≡ k ∷ ks → Fits k → EmitsParts f (k ∷ ks) y ss e' ps
     → EmitsParts f (front ++ k ∷ ks) x ss e (entry ++ ps)) → EmitsParts f (v ++ rest) y ss e' ps
@@ -114,20 +114,20 @@ entry_emitted u0 f front v t rest x y ss e u1 entry ps n w go l = grind (arith, 
 first_and_others : (Fits : Kind → Type 0) (close : Kind) (x y : State) (closing : Part) (entry inside : List Part)
     (now later : Memory → Memory) (front v t : List Kind) → ((ks : List Kind) → Next Fits (v ++ close ∷ ks))
     → t ≡ front ++ v
-    → ((f : SpansByKinds) (k : Kind) (ls ks : List Kind) (ss : List State) (e : Memory) (ps : List Part)
+    → ((f : SpansByKinds) (k : Kind) (ls ks : List Kind) (ss : Outer) (e : Memory) (ps : List Part)
     → v ++ close ∷ ks ≡ k ∷ ls → Fits k → EmitsParts f (k ∷ ls) y ss (now e) ps
     → EmitsParts f (front ++ k ∷ ls) x ss e (entry ++ ps)) → SayUpTo close y closing inside later v
     → SayUpTo close x closing (entry ++ inside) (λ e. later (now e)) t
 first_and_others Fits close x y closing entry inside now later front v t next w go others = record {
   by = λ f ks s ss e ps l. rw (append_assoc entry inside (closing ∷ ps))
-      (entry_emitted Fits f front v t (close ∷ ks) x y (s ∷ ss) e (now e) entry (inside ++ closing ∷ ps) (next ks) w
-      (λ k ls same z r. go f k ls ks (s ∷ ss) e (inside ++ closing ∷ ps) same z r) (others.by f ks s ss (now e) ps l));
+      (entry_emitted Fits f front v t (close ∷ ks) x y (expecting s ss) e (now e) entry (inside ++ closing ∷ ps) (next ks) w
+      (λ k ls same z r. go f k ls ks (expecting s ss) e (inside ++ closing ∷ ps) same z r) (others.by f ks s ss (now e) ps l));
 }
 
 -- the same of a pair
 pair_and_others : (Fits : Kind → Type 0) (close : Kind) (x y : State) (key value : Node) (qs : Pairs)
     (front v t : List Kind) → ((ks : List Kind) → Next Fits (v ++ close ∷ ks)) → t ≡ front ++ v
-    → ((f : SpansByKinds) (k : Kind) (ls ks : List Kind) (ss : List State) (e : Memory) (ps : List Part)
+    → ((f : SpansByKinds) (k : Kind) (ls ks : List Kind) (ss : Outer) (e : Memory) (ps : List Part)
     → v ++ close ∷ ks ≡ k ∷ ls → Fits k → EmitsParts f (k ∷ ls) y ss (after_node value (after_node key e)) ps
     → EmitsParts f (front ++ k ∷ ls) x ss e (node_parts key ++ (node_parts value ++ ps))) → PairsSay close y qs v
     → PairsSay close x (MorePairs key value qs) t
@@ -221,9 +221,9 @@ indentless_entries n ns u v t d h w g others = record {
   by = λ f j js s ss e ps y l. rw (append_assoc (node_parts n) (entry_parts ns) (CloseSequence ∷ ps))
       (entry_emitted (EndsAt state.IndentlessSequenceEntry) f (BlockEntry ∷ u) v t (j ∷ js)
       state.IndentlessSequenceEntry
-      state.IndentlessSequenceEntry (s ∷ ss) e (after_node n e) (node_parts n) (entry_parts ns ++ CloseSequence ∷ ps)
+      state.IndentlessSequenceEntry (expecting s ss) e (after_node n e) (node_parts n) (entry_parts ns ++ CloseSequence ∷ ps)
       (block_entries_next (EndsAt state.IndentlessSequenceEntry) ns v j js refl (mapping_ends j y).2 h) w
-      (λ k ls same z r. indentless_says n u d g f k ls (s ∷ ss) e (entry_parts ns ++ CloseSequence ∷ ps) z r)
+      (λ k ls same z r. indentless_says n u d g f k ls (expecting s ss) e (entry_parts ns ++ CloseSequence ∷ ps) z r)
       (others.by f j js s ss (after_node n e) ps y l));
 }
 

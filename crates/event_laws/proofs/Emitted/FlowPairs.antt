@@ -5,7 +5,7 @@ use Rattle.saphyr_machine.specs.declared.state.State.TheVariants as state
 use Rattle.saphyr_machine.specs.Steps.Flow.{flow_mapping_pair_at, flow_mapping_value, flow_mapping_empty_value}
 use Rattle.saphyr_machine.specs.Steps.Nodes.{node_behind, node_here}
 use Rattle.saphyr_machine.specs.Steps.Expected.{event_step}
-use Rattle.event_laws.proofs.Emitted.Emitting.{SpansByKinds, Memory, at, span_of_token}
+use Rattle.event_laws.proofs.Emitted.Emitting.{SpansByKinds, Memory, Outer, at, span_of_token}
 use Rattle.event_laws.proofs.Remembering.{after_node, SaysParts, EmitsParts}
 use Rattle.event_laws.proofs.NodeStarts.{Starts, MayFollow, NodeSays, EachSays, enters, skipped, EndsAt, optional_says, SaysBehind, says_behind, marked_tokens}
 
@@ -17,7 +17,7 @@ pair_end_follows : (k : Kind) → EndsPair k → MayFollow InFlow k × EndsAt st
 pair_end_follows k h = grind arith
 
 -- the machine comes to an entry of braces; the span is the end's, if the mapping ends here
-pub record AtPair (f : SpansByKinds) (x : State) (ss : List State) (e : Memory) (machine : List Kind → Machine) : Type 0
+pub record AtPair (f : SpansByKinds) (x : State) (ss : Outer) (e : Memory) (machine : List Kind → Machine) : Type 0
   where
     pub goes_on : (l : List Kind) → (machine l).state ≢ state.End
     pub span : List Kind → Span
@@ -28,7 +28,7 @@ pub record AtPair (f : SpansByKinds) (x : State) (ss : List State) (e : Memory) 
 -- Where an entry of braces begins its tokens tell these parts before others. What is remembered changes by `later`.
 abbrev pub SaysPair : (List Part → List Part) → (Memory → Memory) → List Kind → Type 0
 SaysPair parts later t = (f : SpansByKinds) (k : Kind) (ks : List Kind) (machine : List Kind → Machine) (x : State)
-    (ss : List State) (e : Memory) (ps : List Part) → EndsPair k → AtPair f x ss e machine
+    (ss : Outer) (e : Memory) (ps : List Part) → EndsPair k → AtPair f x ss e machine
     → EmitsParts f (k ∷ ks) state.FlowMappingKey ss (later e) ps → SaysParts e (machine (t ++ k ∷ ks)) (parts ps)
 
 -- the parts of a pair, before others
@@ -44,7 +44,7 @@ bare_key_begins k s t m h = grind arith
 
 -- ## Values
 
-value_is_missing : (f : SpansByKinds) (k : Kind) (ks : List Kind) (ss : List State) (e : Memory) → EndsPair k
+value_is_missing : (f : SpansByKinds) (k : Kind) (ks : List Kind) (ss : Outer) (e : Memory) → EndsPair k
     → event_step (at f (k ∷ ks) state.FlowMappingValue ss e)
     ≡ emit empty_scalar (f ks) (at f (k ∷ ks) state.FlowMappingKey ss e)
 unfolding event_step flow_mapping_value
@@ -58,7 +58,7 @@ unfolding event_step flow_mapping_value node_behind
 value_says = says_behind Value state.FlowMappingValue state.FlowMappingKey (λ f. f) (λ q. cc) (λ f j l ss e. refl)
 
 -- no value
-missing_value_says : (f : SpansByKinds) (k : Kind) (ks : List Kind) (ss : List State) (e : Memory) (ps : List Part)
+missing_value_says : (f : SpansByKinds) (k : Kind) (ks : List Kind) (ss : Outer) (e : Memory) (ps : List Part)
     → EndsPair k → EmitsParts f (k ∷ ks) state.FlowMappingKey ss e ps
     → EmitsParts f (k ∷ ks) state.FlowMappingValue ss e (node_parts forest.left_out ++ ps)
 missing_value_says f k ks ss e ps z l =
@@ -68,13 +68,13 @@ missing_value_says f k ks ss e ps z l =
 -- the key, from its mark on
 key_says : (key : Node) (t : List Kind) → YieldsOptional key (YieldsNode key InFlow) t
     → (YieldsNode key InFlow t → NodeSays key InFlow t)
-    → (f : SpansByKinds) (k : Kind) (ks : List Kind) (machine : List Kind → Machine) (x : State) (ss : List State)
+    → (f : SpansByKinds) (k : Kind) (ks : List Kind) (machine : List Kind → Machine) (x : State) (ss : Outer)
     (e : Memory) (ps : List Part) → EndsAt state.FlowMappingValue k → AtPair f x ss e machine
     → EmitsParts f (k ∷ ks) state.FlowMappingValue ss (after_node key e) ps
     → SaysParts e (machine (Key ∷ (t ++ k ∷ ks))) (node_parts key ++ ps)
 unfolding node_here span_of_token
-key_says key t h g f k ks machine x ss e ps z a l = optional_says InFlow (λ l. state.FlowMappingValue) (λ l. refl) key t
-    h g f k ks (λ l. machine (Key ∷ l)) x ss e ps (span_of_token f) z (λ l. a.goes_on (Key ∷ l))
+key_says key t h g f k ks machine x ss e ps z a l = optional_says state.FlowMappingValue key t
+    h g f k ks (λ l. machine (Key ∷ l)) x (λ l. ss) e ps (span_of_token f) z (λ l. a.goes_on (Key ∷ l))
     (λ j l. a.steps Key (j ∷ l)) l
 
 -- a pair whose value is left out, by its key's tokens
@@ -89,7 +89,7 @@ alone_says key t (inr h) g f k ks machine x ss e ps z a l =
     let second : EmitsParts f (k ∷ ks) state.FlowMappingEmptyValue ss e' (node_parts forest.left_out ++ ps) =
     skipped e' (at f (k ∷ ks) state.FlowMappingEmptyValue ss e') (at f (k ∷ ks) state.FlowMappingKey ss e') ps
     (f ks) (λ q. cc) refl l in
-    enters key InFlow t h (g t h) f k ks machine x (λ l. state.FlowMappingEmptyValue) ss e
+    enters key InFlow t h (g t h) f k ks machine x state.FlowMappingEmptyValue (λ l. ss) e
     (node_parts forest.left_out ++ ps) (pair_end_follows k z).0 a.goes_on
     (λ j l s. a.steps j l ∙ bare_key_begins j _ _ _ s) second
 

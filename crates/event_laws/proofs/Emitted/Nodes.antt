@@ -6,7 +6,7 @@ use Rattle.saphyr_scanner.specs.Grammar.Tokens as tokens
 use Rattle.saphyr_machine.specs.declared.state.State.TheVariants as state
 use Rattle.saphyr_machine.specs.Steps.Tags.{declared_prefix, resolved_tag_at, declared_prefix_or, undeclared_prefix}
 use Rattle.saphyr_machine.specs.Steps.Nodes.{NodeProperties, no_node_properties, node_content_at, node_content, next_content, properties_behind_anchor_at, properties_behind_anchor, properties_behind_tag_at, properties_behind_tag, content_behind, node_at, node}
-use Rattle.event_laws.proofs.Emitted.Emitting.{SpansByKinds, Memory, at}
+use Rattle.event_laws.proofs.Emitted.Emitting.{SpansByKinds, Memory, Outer, at}
 use Rattle.event_laws.proofs.Remembering.{noted, after, own_id_in, resolve, resolve_any, with_properties, event_in, SaysParts, says}
 
 abbrev pub next_node : NodeContext → Machine → Result Emitted Refusal
@@ -102,14 +102,14 @@ made : (make : ℕ → Option ResolvedTag → Happening) (a b : ℕ) (t g : Opti
 made make a b t g w h k q = cc
 
 -- a node comes to its content, which begins with the token k
-pub record ComesToContent (f : SpansByKinds) (d : NodeContext) (x : State) (ss : List State) (e : Memory)
+pub record ComesToContent (f : SpansByKinds) (d : NodeContext) (x : State) (ss : Outer) (e : Memory)
     (anchor : Option (List ℕ))
     (tag : Option Tag) (k : Kind) (ks : List Kind) (r : Result Emitted Refusal) : Type 0 where
   pub properties : NodeProperties
   pub has : Has e anchor tag properties
   pub goes : r ≡ node_content_at k properties d (record { span = f ks; kind = k }) (at f ks x ss (noted anchor e))
 
-node_comes : (f : SpansByKinds) (d : NodeContext) (x : State) (ss : List State) (e : Memory) (anchor : Option (List ℕ))
+node_comes : (f : SpansByKinds) (d : NodeContext) (x : State) (ss : Outer) (e : Memory) (anchor : Option (List ℕ))
     (tag : Option Tag) (front : List Kind) (k : Kind) (ks : List Kind) (found : Option ResolvedTag)
     → AreBoth (option_map anchor_token anchor) (option_map tag_token tag) front → IsContentKind k
     → resolve_any e.prefixes tag ≡ Some found
@@ -173,7 +173,7 @@ emits_so : {a b c : Result Emitted Refusal} (u w : Happening) (span : Span) (n :
 emits_so u w span n p q r s = cc
 
 -- A node with properties is told, where its content is told of what the machine has read.
-pub node_opens : (f : SpansByKinds) (d : NodeContext) (x : State) (ss : List State) (e : Memory) (m n : Machine)
+pub node_opens : (f : SpansByKinds) (d : NodeContext) (x : State) (ss : Outer) (e : Memory) (m n : Machine)
     (p : forest.Properties) (front : List Kind) (k : Kind) (ks : List Kind) (part : Part) (ps : List Part)
     (make : ℕ → Option ResolvedTag → Happening) → YieldProperties p front → IsContentKind k → m.state ≢ state.End
     → event_step m ≡ next_node d (at f (front ++ k ∷ ks) x ss e) → event_in e part ≡ with_properties make e p

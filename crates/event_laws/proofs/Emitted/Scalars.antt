@@ -4,7 +4,7 @@ use Rattle.saphyr_scanner.specs.Grammar.Forest as forest
 use Rattle.saphyr_scanner.specs.Grammar.TokenGrammar as grammar
 use Rattle.saphyr_machine.specs.Events.{Happening, Alias, Scalar}
 use Rattle.saphyr_machine.specs.Steps.Nodes.{NodeProperties, has_property, span_up_to, node_without_content, alias_of, alias_node, node}
-use Rattle.event_laws.proofs.Emitted.Emitting.{Memory, at}
+use Rattle.event_laws.proofs.Emitted.Emitting.{Memory, expecting, at}
 use Rattle.event_laws.proofs.Remembering.{noted, says}
 use Rattle.event_laws.proofs.Emitted.Nodes.{Has, node_opens}
 use Rattle.event_laws.proofs.NodeStarts.{context_of, follow_is_content, follow_ends, NodeSays}
@@ -29,7 +29,7 @@ with_token p style value c front content t h a b = record {
   by = λ f k ks m x s ss e ps z more q l.
       let same : t ++ k ∷ ks ≡ front ++ scalar_token style value ∷ k ∷ ks =
       rw (b, a) (append_assoc front (scalar_token style value ∷ []) (k ∷ ks)) in
-      node_opens f (context_of c) x (s ∷ ss) e m (at f (k ∷ ks) s ss (noted p.anchor e)) p front
+      node_opens f (context_of c) x (expecting s ss) e m (at f (k ∷ ks) s ss (noted p.anchor e)) p front
       (scalar_token style value) (k ∷ ks) (Leaf p style value) ps (Scalar (encode_utf8_all value) style) h tt more
       (cc) refl (λ r has. (span_up_to r (f (k ∷ ks)).end, refl)) l;
 }
@@ -43,11 +43,11 @@ without_token p c front content t h some a b = record {
       let same : t ++ k ∷ ks ≡ front ++ k ∷ ks = rw (b, a) (append_assoc front [] (k ∷ ks)) in
       let n : Machine = at f (k ∷ ks) s ss (noted p.anchor e) in
       let piece : Piece = record { span = f ks; kind = k } in
-      node_opens f (context_of c) x (s ∷ ss) e m n p front k ks (Leaf p forest.Plain []) ps (Scalar [] forest.Plain) h
+      node_opens f (context_of c) x (expecting s ss) e m n p front k ks (Leaf p forest.Plain []) ps (Scalar [] forest.Plain) h
       (follow_is_content c k z) more (cc) refl (λ r has. (
         span_up_to r r.behind,
-        follow_ends c k r piece (at f ks x (s ∷ ss) (noted p.anchor e)) z
-            ∙ empty_is_emitted r piece (at f ks x (s ∷ ss) (noted p.anchor e)) (has_one e p.anchor p.tag r some has),
+        follow_ends c k r piece (at f ks x (expecting s ss) (noted p.anchor e)) z
+            ∙ empty_is_emitted r piece (at f ks x (expecting s ss) (noted p.anchor e)) (has_one e p.anchor p.tag r some has),
       )) l;
 }
 
@@ -69,7 +69,7 @@ alias_says name c t h = record {
       (λ w v. (
         f (k ∷ ks),
         cc (alias_is_emitted (meaning (encode_utf8_all name) e.anchors.ids) w (f (k ∷ ks))
-            (at f (k ∷ ks) x (s ∷ ss) e) v),
+            (at f (k ∷ ks) x (expecting s ss) e) v),
       ))
       l;
 }

@@ -1,10 +1,10 @@
 -- The promise on spans: those of all events are at places of the text, if those of the tokens are, in order.
-use Rattle.event_laws.proofs.Common.{◌≡◌, ℕ, suc, ◌≤◌, Bool, List, [], ◌∷◌, length, Option, Some, None, inl, refl, arith, if◌then◌else◌, Marker, Span, Piece, Remaining, AreAtPlaces, IsPlaceOf, Happening, Machine, emit, event_step, EventCursor, Kept, at_start, answer_behind, with_event_ahead, AdvancesFrom, FailsFrom, LooksFrom, ReadsAhead, KeepsSpans, Walk, HoldsBetween, between, Resumes, step, runs, goes_on}
+use Rattle.event_laws.proofs.Common.{◌≡◌, ℕ, suc, ◌≤◌, Bool, List, [], ◌∷◌, length, Option, Some, None, inl, refl, sym, ap, ◌∙◌, subst, arith, if◌then◌else◌, Marker, Span, Piece, Remaining, AreAtPlaces, IsPlaceOf, Happening, Machine, emit, event_step, EventCursor, Kept, at_start, answer_behind, with_event_ahead, AdvancesFrom, FailsFrom, LooksFrom, ReadsAhead, KeepsSpans, Walk, HoldsBetween, between, Resumes, step, runs, goes_on}
 use Rattle.std.proofs.lemmas.List.Elements.{All-cons}
-use Rattle.saphyr_scalar.specs.Views.Cursor as scalar
 use Rattle.saphyr_scanner.specs.SpansInOrder.{AreInOrder}
-use Rattle.saphyr_scanner.specs.TokensTaken as taken
 use Rattle.saphyr_machine.specs.declared.fault.Fault.{Fault}
+use Rattle.saphyr_machine.specs.Steps.Machine.{text_start}
+use Rattle.event_laws.proofs.Refusing.{starts_text}
 use Rattle.saphyr_machine.specs.Answer.{Answer, empty_answer, fault_alone, remaining_answer, machine_size}
 use Rattle.event_laws.specs.SpansWithin.{IsIn, HasSpansIn, IsLater, itself, advanced, failed, looked, set}
 
@@ -20,6 +20,7 @@ ordered text = record {
   Rests = λ s d r ts. AreInOrder (length text) 0 ts × AreAtPlaces text ts;
   Fails = λ f. Unit {0};
   joined = λ a b c s t. (let x = s.0 in let y = t.0 in omega (arith, x, y), s.1, t.2);
+  start = (omega arith, starts_text text, starts_text text);
   first = λ a b s. (omega arith, s.1, s.1);
   last = λ a b s. (omega arith, s.2, s.2);
   fails = λ text a s. tt;
@@ -33,9 +34,7 @@ ordered text = record {
 }
 
 resumes : (text : List ℕ) → Resumes (ordered text)
-resumes text s c d r ts n h =
-    let start : Marker = (scalar.start_cursor text).mark in
-    (start, ((scalar.start_cursor text, taken.nothing start text, inl refl, omega arith), h.0, h.1))
+resumes text s c d r ts n h = (text_start, (starts_text text, h.0, h.1))
 
 -- ## Whatever is called
 
@@ -51,7 +50,12 @@ stepped text m n e is h = rw is at (step (ordered text) (resumes text) m (goes_o
 
 advances : (text : List ℕ) (e : Happening × Span) (a : Option (Happening × Span)) (k : Option Kept) (c d : EventCursor)
     → c.current ≡ a → c.kept ≡ k → AdvancesFrom a k e c d → Stands text c → Stands text d
-advances text e u0 k c d is kept u1 h = grind (arith, between, step, stepped)
+advances text e (Some next) k c d is kept moved h = grind arith
+advances text e None (Some k) c d is kept moved h = absurd moved
+advances text e None None c d is kept moved h = record {
+  ahead = λ x shown. absurd (let same = ap (λ (c : EventCursor). c.current) moved.1 in cc);
+  between = λ _. (stepped text c.machine d.machine e moved.0 (h.between kept)).1;
+}
 
 fails : (text : List ℕ) (f : Fault) (a : Option (Happening × Span)) (k : Option Kept) (c d : EventCursor)
     → c.current ≡ a → c.kept ≡ k → FailsFrom a k f c d → Stands text c → Stands text d
@@ -59,7 +63,17 @@ fails text f u0 k c d is kept none h = grind arith
 
 reads : (text : List ℕ) (a : Option (Happening × Span)) (k : Option Kept) (c d : EventCursor)
     → c.kept ≡ None → ReadsAhead a k c d → Stands text c → Stands text d
-reads text u0 u1 c d kept read h = grind (arith, step, stepped, between)
+reads text (Some e) (Some k) c d kept read h = absurd read
+reads text (Some e) None c d kept read h =
+    let given = stepped text c.machine d.machine e read.0 (h.between kept) in record {
+      ahead = λ x shown.
+          let same = sym (ap (λ (c : EventCursor). c.current) read.1) ∙ shown in
+          let this : e ≡ x = cc in
+          subst (λ (y : Happening × Span). IsIn text y.1) this given.0;
+      between = λ _. given.1;
+    }
+reads text None (Some k) c d kept read h = grind arith
+reads text None None c d kept read h = grind arith
 
 looks : (text : List ℕ) (a : Option (Happening × Span)) (k : Option Kept) (c d : EventCursor)
     → c.kept ≡ k → LooksFrom a k c d → Stands text c → Stands text d
@@ -78,7 +92,7 @@ later_stands text start _ (set keep c l) h =
     record {
       ahead = s.ahead;
       between = λ k. (let b = s.between k in
-          between (ordered text) _ b.state b.rest.states b.rest.tokens.0);
+          between (ordered text) _ b.rest.pair_ends b.rest.tokens.0);
     }
 
 -- ## What comes
@@ -107,7 +121,7 @@ pub keeps_spans : (text : List ℕ) (tokens : Remaining) → AreInOrder (length 
     → AreAtPlaces text tokens.pieces → KeepsSpans text (at_start tokens)
 keeps_spans text tokens h a later is =
     let start : Stands text (at_start tokens) =
-    record { ahead = λ e g. absurd (cc); between = λ g. between (ordered text) _ refl refl (h, a) } in
+    record { ahead = λ e g. absurd (cc); between = λ g. between (ordered text) _ tt (h, a) } in
     let stands = later_stands text (at_start tokens) later is start in
     ahead_spans text later.current (answer_behind later.kept later.machine) stands.ahead
     (behind_spans text later.kept later.machine stands.between)

@@ -10,7 +10,7 @@ use Rattle.event_laws.proofs.Remembering.{after, event_in, noted, with_propertie
 use Rattle.event_laws.proofs.Emitted.Nodes.{Has}
 use Rattle.event_laws.proofs.NodeStarts.{place_of}
 use Rattle.event_laws.proofs.Turned.Following.{Then, Exactly, Claim, IsNodeOf, InBlockPairs, AtBlockValue, Behind, FollowsStates, IsInsideDocument, IsAlive, BeginsWithEntry}
-use Rattle.event_laws.proofs.Turned.Turning.{piece_of, machine, Goes, Turned, kinds_append, put, around}
+use Rattle.event_laws.proofs.Turned.Turning.{Aside, piece_of, machine, Goes, Turned, kinds_append, put, around}
 
 -- ## Where a node is
 
@@ -56,7 +56,7 @@ split front t u = cc (kinds_append front (t ∷ []), append_assoc (kinds front) 
 pub taken_one : (front : List Piece) (t : Piece) (ts : List Piece) → front ++ t ∷ ts ≡ (front ++ t ∷ []) ++ ts
 taken_one front t ts = sym (append_assoc front (t ∷ []) ts)
 
-module _ (p : forest.Properties) (q : NodeProperties) (front : List Piece) (r : Option Refusal) (s : State)
+module _ (p : forest.Properties) (q : NodeProperties) (front : List Piece) (r : Aside) (s : State)
     (ss : List State) (e : Memory) (h : Fronted e p q front) (a : IsAlive s ss) where
   pub leaf_goes : (own : List Piece) (style : ScalarStyle) (value : List ℕ) (span : Span) (c : grammar.Context)
       (ts : List Piece) → YieldsScalar p style value (kinds own)

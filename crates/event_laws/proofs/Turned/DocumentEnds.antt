@@ -8,7 +8,7 @@ use Rattle.saphyr_machine.specs.Steps.Block.{block_node}
 use Rattle.saphyr_machine.specs.Steps.Documents.{is_mark, unpassed_token_from, unpassed_token, no_content, document_content_at, document_content, token_behind_marks, token_behind_document_at, token_behind_document, without_prefixes, document_end_at, document_end}
 use Rattle.event_laws.proofs.Emitted.Emitting.{Memory}
 use Rattle.event_laws.proofs.Turned.Following.{Then, IsNodeOf, IsOptionalOf, AreExplicit, Outside, IsFree, BeginsFreely}
-use Rattle.event_laws.proofs.Turned.Turning.{machine, Turned, weaker}
+use Rattle.event_laws.proofs.Turned.Turning.{Aside, machine, Turned, weaker}
 use Rattle.event_laws.proofs.Turned.Content.{split, taken_one}
 use Rattle.event_laws.proofs.Turned.Nodes.{node_turned}
 use Rattle.event_laws.proofs.Turned.Entries.{Turns, TurnsBehind, TurnsAt, by_token, skip_optional, some_node}
@@ -81,7 +81,7 @@ document_at tokens.ByteOrderMark sp ts m =
     one_more_mark (record { span = sp; kind = tokens.ByteOrderMark }) ts m _ refl (behind_all sp.start ts m)
 document_at _ sp ts m = record { marks = []; rest = ts; are = refl; are_marks = tt; no_mark = refl; leaves = refl }
 
-behind_turned : (ts : List Piece) (r : Option Refusal) (x : State) (e : Memory)
+behind_turned : (ts : List Piece) (r : Aside) (x : State) (e : Memory)
     → MarkedBy ts (machine ts r x [] e) (token_behind_document (machine ts r x [] e))
 unfolding token_behind_document
 behind_turned [] r x e = tt
@@ -143,7 +143,7 @@ without_end marks ks ps a f b =
     let same : ks ≡ f.2 = no_front f.1 f.2 ks f.3 f.5 b in
     (f.0, (kinds marks, [], ks, a, inl (refl, next_documents f.0 ks (rw same f.4) b), refl), cc)
 
-end_at_turned : (k : Kind) (sp : Span) (n : Machine) (ts : List Piece) (r : Option Refusal) (x : State) (e : Memory)
+end_at_turned : (k : Kind) (sp : Span) (n : Machine) (ts : List Piece) (r : Aside) (x : State) (e : Memory)
     → Marked ts (machine ts r x [] e) (record { span = sp; kind = k }) n
     → Turned (Outside state.DocumentEnd) e ts (document_end_at k (record { span = sp; kind = k }) (without_prefixes n))
 end_at_turned tokens.DocumentEnd sp n ts r x e h = rw h.leaves (record {
@@ -177,13 +177,13 @@ end_at_turned k sp n ts r x e h = rw h.leaves (record {
   makes = λ ks ps f b. without_end h.marks ks ps h.are_marks f (b tt);
 })
 
-end_behind : (res : Result (Piece × Machine) Refusal) (ts : List Piece) (r : Option Refusal) (x : State) (e : Memory)
+end_behind : (res : Result (Piece × Machine) Refusal) (ts : List Piece) (r : Aside) (x : State) (e : Memory)
     → MarkedBy ts (machine ts r x [] e) res
     → Turned (Outside state.DocumentEnd) e ts (res >>= (λ t. document_end_at t.0.kind t.0 (without_prefixes t.1)))
 end_behind (Err f) ts r x e h = tt
 end_behind (Ok y) ts r x e h = end_at_turned y.0.kind y.0.span y.1 ts r x e h
 
-pub document_end_turned : (ts : List Piece) (r : Option Refusal) (x : State) (e : Memory)
+pub document_end_turned : (ts : List Piece) (r : Aside) (x : State) (e : Memory)
     → Turned (Outside state.DocumentEnd) e ts (document_end (machine ts r x [] e))
 unfolding document_end
 document_end_turned ts r x e = end_behind _ ts r x e (behind_turned ts r x e)

@@ -8,7 +8,7 @@ use Rattle.saphyr_machine.specs.Steps.Documents.{is_end_or_mark, unpassed_token_
 use Rattle.event_laws.proofs.Emitted.Emitting.{Memory}
 use Rattle.event_laws.proofs.Remembering.{event_in}
 use Rattle.event_laws.proofs.Turned.Following.{Claim, Then, IsNodeOf, IsOptionalOf, AreExplicit, Outside, BeginsFreely}
-use Rattle.event_laws.proofs.Turned.Turning.{machine, Goes, Turned, weaker, behind}
+use Rattle.event_laws.proofs.Turned.Turning.{Aside, machine, Goes, Turned, weaker, behind}
 use Rattle.event_laws.proofs.Turned.Content.{split, taken_one}
 use Rattle.event_laws.proofs.Turned.Entries.{Wanted}
 use Rattle.event_laws.proofs.Turned.Directives.{PassesDirectives, PassedBy, directives_passed}
@@ -122,7 +122,7 @@ explicit_makes ts ds used rest u ks ps e q k c h =
       begins_as used rest u ts ks e,
     )
 
-explicit_at_turned : (k : Kind) (sp : Span) (n : Machine) (ts : List Piece) (r : Option Refusal) (x : State)
+explicit_at_turned : (k : Kind) (sp : Span) (n : Machine) (ts : List Piece) (r : Aside) (x : State)
     (e : Memory) → PassesDirectives ts none_declared (machine ts r x [] e) (record { span = sp; kind = k }) n
     → Turned (Explicit (kinds ts)) e ts (explicit_document_at k (record { span = sp; kind = k }) n)
 explicit_at_turned tokens.DocumentStart sp n ts r x e h = rw h.leaves (record {
@@ -147,13 +147,13 @@ explicit_at_turned tokens.DocumentStart sp n ts r x e h = rw h.leaves (record {
 })
 explicit_at_turned _ sp n ts r x e h = tt
 
-explicit_behind : (res : Result (Piece × Machine) Refusal) (ts : List Piece) (r : Option Refusal) (x : State)
+explicit_behind : (res : Result (Piece × Machine) Refusal) (ts : List Piece) (r : Aside) (x : State)
     (e : Memory) → PassedBy ts none_declared (machine ts r x [] e) res
     → Turned (Explicit (kinds ts)) e ts (res >>= (λ u. explicit_document_at u.0.kind u.0 u.1))
 explicit_behind (Err f) ts r x e h = tt
 explicit_behind (Ok y) ts r x e h = explicit_at_turned y.0.kind y.0.span y.1 ts r x e h
 
-explicit_turned : (t : Piece) (us : List Piece) (r : Option Refusal) (x : State) (e : Memory) → AreWellFormed (t ∷ us)
+explicit_turned : (t : Piece) (us : List Piece) (r : Aside) (x : State) (e : Memory) → AreWellFormed (t ∷ us)
     → Turned (Explicit (kinds (t ∷ us))) e (t ∷ us) (explicit_document t (machine us r x [] e))
 unfolding explicit_document directives
 explicit_turned t us r x e w =
@@ -165,7 +165,7 @@ stream_makes : (ks : List Kind) (ps : List Part) → Outside state.ImplicitDocum
     → Outside state.StreamStart (tokens.StreamStart ∷ ks) (OpenStream ∷ ps)
 stream_makes ks ps f = grind arith
 
-stream_at_turned : (k : Kind) (sp : Span) (ts : List Piece) (r : Option Refusal) (x : State) (e : Memory)
+stream_at_turned : (k : Kind) (sp : Span) (ts : List Piece) (r : Aside) (x : State) (e : Memory)
     → Turned (Wanted state.StreamStart [] (k ∷ kinds ts)) e (record { span = sp; kind = k } ∷ ts)
     (stream_start_at k (record { span = sp; kind = k }) (machine ts r x [] e))
 stream_at_turned tokens.StreamStart sp ts r x e =
@@ -182,7 +182,7 @@ stream_at_turned tokens.StreamStart sp ts r x e =
     }
 stream_at_turned _ sp ts r x e = tt
 
-pub stream_turned : (ts : List Piece) (r : Option Refusal) (x : State) (e : Memory)
+pub stream_turned : (ts : List Piece) (r : Aside) (x : State) (e : Memory)
     → Turned (Wanted state.StreamStart [] (kinds ts)) e ts (stream_start (machine ts r x [] e))
 unfolding stream_start
 stream_turned [] r x e = tt
@@ -207,7 +207,7 @@ bare_makes ks ps h =
       simp (h.parts_are, h.begins.2, h.goes_on.2),
     )
 
-bare_turned : (t : Piece) (us : List Piece) (r : Option Refusal) (x : State) (e : Memory)
+bare_turned : (t : Piece) (us : List Piece) (r : Aside) (x : State) (e : Memory)
     → Turned (Wanted state.ImplicitDocumentStart [] (kinds (t ∷ us))) e (t ∷ us) (bare_document t (machine us r x [] e))
 unfolding bare_document
 bare_turned t us r x e =
@@ -243,7 +243,7 @@ stream_over F t us x e n k w o f = record {
   makes = rw (ap (λ (l : List Piece). t.kind ∷ kinds l) n ∙ ap (λ (l : Kind). l ∷ []) k) f;
 }
 
-explicit_there : (k : Kind) (sp : Span) (us : List Piece) (r : Option Refusal) (x : State) (e : Memory)
+explicit_there : (k : Kind) (sp : Span) (us : List Piece) (r : Aside) (x : State) (e : Memory)
     → AreWellFormed (record { span = sp; kind = k } ∷ us)
     → MovesOn (Wanted state.ImplicitDocumentStart [] (k ∷ kinds us)) e (record { span = sp; kind = k } ∷ us)
     (explicit_document (record { span = sp; kind = k }) (machine us r x [] e))
@@ -251,7 +251,7 @@ explicit_there k sp us r x e w = moves (Wanted state.ImplicitDocumentStart [] (k
     (weaker (Explicit (k ∷ kinds us)) (Wanted state.ImplicitDocumentStart [] (k ∷ kinds us)) e _ _
     (explicit_first (k ∷ kinds us)) (explicit_turned (record { span = sp; kind = k }) us r x e w))
 
-implicit_at_moves : (k : Kind) (sp : Span) (us : List Piece) (r : Option Refusal) (x : State) (e : Memory)
+implicit_at_moves : (k : Kind) (sp : Span) (us : List Piece) (r : Aside) (x : State) (e : Memory)
     → AreWellFormed (record { span = sp; kind = k } ∷ us)
     → MovesOn (Wanted state.ImplicitDocumentStart [] (k ∷ kinds us)) e (record { span = sp; kind = k } ∷ us)
     (implicit_start_at k (record { span = sp; kind = k }) (machine us r x [] e))
@@ -275,7 +275,7 @@ implicit_pass k ahead ks ps y h =
     let f : Outside state.ImplicitDocumentStart ks ps = h.0 in
     ((f.0, k ∷ f.1, f.2, (end_or_mark k y, f.3), f.4, ap (λ (l : List Kind). k ∷ l) f.5, f.6), tt)
 
-pub implicit_moves : (ts : List Piece) (r : Option Refusal) (x : State) (e : Memory) → AreWellFormed ts
+pub implicit_moves : (ts : List Piece) (r : Aside) (x : State) (e : Memory) → AreWellFormed ts
     → MovesOn (Wanted state.ImplicitDocumentStart [] (kinds ts)) e ts (implicit_start (machine ts r x [] e))
 unfolding implicit_start unpassed_token
 implicit_moves ts r x e w =
@@ -288,7 +288,7 @@ explicit_next : (ahead ks : List Kind) (ps : List Part) → Explicit ahead ks ps
     → Wanted state.DocumentStart [] ahead ks ps
 explicit_next ahead ks ps h = ((h.0, [], ks, tt, h.1, refl, h.2), h.3)
 
-explicit_at_moves : (k : Kind) (sp : Span) (us : List Piece) (r : Option Refusal) (x : State) (e : Memory)
+explicit_at_moves : (k : Kind) (sp : Span) (us : List Piece) (r : Aside) (x : State) (e : Memory)
     → AreWellFormed (record { span = sp; kind = k } ∷ us)
     → MovesOn (Wanted state.DocumentStart [] (k ∷ kinds us)) e (record { span = sp; kind = k } ∷ us)
     (explicit_start_at k (record { span = sp; kind = k }) (machine us r x [] e))
@@ -312,7 +312,7 @@ explicit_pass k ahead ks ps y h =
           (never_free k ahead y b),
     )
 
-pub explicit_moves : (ts : List Piece) (r : Option Refusal) (x : State) (e : Memory) → AreWellFormed ts
+pub explicit_moves : (ts : List Piece) (r : Aside) (x : State) (e : Memory) → AreWellFormed ts
     → MovesOn (Wanted state.DocumentStart [] (kinds ts)) e ts (explicit_start (machine ts r x [] e))
 unfolding explicit_start unpassed_token
 explicit_moves ts r x e w =

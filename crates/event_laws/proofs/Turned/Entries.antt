@@ -7,7 +7,7 @@ use Rattle.saphyr_machine.specs.Steps.Nodes.{context_before, is_left_out, node_b
 use Rattle.event_laws.proofs.Emitted.Emitting.{Memory}
 use Rattle.event_laws.proofs.Remembering.{after, event_in}
 use Rattle.event_laws.proofs.Turned.Following.{Claim, Then, Exactly, IsNodeOf, IsOptionalOf, IsValueOf, IsAnyValueOf, Behind, FollowsStates, IsInsideDocument, IsAlive, Starts}
-use Rattle.event_laws.proofs.Turned.Turning.{piece_of, machine, Turned, weaker, behind, replace, put}
+use Rattle.event_laws.proofs.Turned.Turning.{Aside, piece_of, machine, Turned, weaker, behind, replace, put}
 use Rattle.event_laws.proofs.NodeStarts.{place_of}
 use Rattle.event_laws.proofs.Turned.Content.{Suits}
 use Rattle.event_laws.proofs.Turned.Nodes.{node_turned}
@@ -18,7 +18,7 @@ abbrev pub Wanted : State → List State → List Kind → Claim
 Wanted s st ahead ks ps = FollowsStates s st ks ps × Starts s ahead ks
 
 -- a node is left out
-pub skipped : (F : Claim) (t : Piece) (sp : Span) (ts : List Piece) (r : Option Refusal)
+pub skipped : (F : Claim) (t : Piece) (sp : Span) (ts : List Piece) (r : Aside)
     (x s : State) (st : List State) (e : Memory) → IsAlive s st
     → ((ks : List Kind) (ps : List Part) → FollowsStates s st ks ps → Starts s (kinds (t ∷ ts)) ks
     → F ks (Leaf forest.no_properties Plain [] ∷ ps)) → Turned F e (t ∷ ts) (left_out_event t s sp (machine ts r x st
@@ -36,7 +36,7 @@ skipped F t sp ts r x s st e a go =
       makes = go;
     }
 
-pub skip_optional : (c : grammar.Context) (t : Piece) (sp : Span) (ts : List Piece) (r : Option Refusal) (x s : State)
+pub skip_optional : (c : grammar.Context) (t : Piece) (sp : Span) (ts : List Piece) (r : Aside) (x s : State)
     (st : List State) (e : Memory) → IsAlive s st
     → Turned (Then (IsOptionalOf c) (FollowsStates s st)) e (t ∷ ts) (left_out_event t s sp (machine ts r x st e))
 skip_optional c t sp ts r x s st e a = skipped (Then (IsOptionalOf c) (FollowsStates s st)) t sp ts r x s st e a
@@ -70,12 +70,12 @@ WantedIn s ahead R ks ps = Behind s R ks ps × Starts s ahead ks
 
 -- Inside a document a step turns its tokens: it makes what `F` says of these tokens and of what may follow after.
 abbrev pub Turns : (List Kind → Claim → Claim) → (Machine → Result Emitted Refusal) → Type 0
-Turns F step = (ts : List Piece) (r : Option Refusal) (x s : State) (ss : List State) (e : Memory) → AreWellFormed ts
+Turns F step = (ts : List Piece) (r : Aside) (x s : State) (ss : List State) (e : Memory) → AreWellFormed ts
     → IsAlive s ss → Turned (F (kinds ts) (FollowsStates s ss)) e ts (step (machine ts r x (s ∷ ss) e))
 
 -- so does a step that has taken a token of this kind
 abbrev pub TurnsBehind : (List Kind → Claim → Claim) → Kind → (Piece → Machine → Result Emitted Refusal) → Type 0
-TurnsBehind F k step = (sp : Span) (ts : List Piece) (r : Option Refusal) (x s : State) (ss : List State) (e : Memory)
+TurnsBehind F k step = (sp : Span) (ts : List Piece) (r : Aside) (x s : State) (ss : List State) (e : Memory)
     → AreWellFormed (piece_of k sp ∷ ts) → IsAlive s ss
     → Turned (F (k ∷ kinds ts) (FollowsStates s ss)) e (piece_of k sp ∷ ts)
     (step (piece_of k sp) (machine ts r x (s ∷ ss) e))

@@ -11,7 +11,7 @@ use Rattle.saphyr_machine.specs.Steps.Nodes.{NodeProperties, no_node_properties,
 use Rattle.event_laws.proofs.Emitted.Emitting.{Memory}
 use Rattle.event_laws.proofs.Remembering.{noted, resolve}
 use Rattle.event_laws.proofs.Turned.Following.{Claim, Then, Exactly, IsNodeOf, FirstEntries, FirstPairs, BlockEntries, BlockPairs, FollowsStates, IsAlive, BeginsWithEntry}
-use Rattle.event_laws.proofs.Turned.Turning.{piece_of, machine, Goes, Turned, put}
+use Rattle.event_laws.proofs.Turned.Turning.{Aside, piece_of, machine, Goes, Turned, put}
 use Rattle.event_laws.proofs.Turned.Tags.{ResolvesTo, stands}
 use Rattle.event_laws.proofs.NodeStarts.{place_of}
 use Rattle.event_laws.proofs.Turned.Content.{IsPairState, Suits, NodeThen, Fronted, with_emitted, leaf_goes, alone_turned, collection_goes, no_entry}
@@ -42,7 +42,7 @@ indentless_makes p front s ss ks ps h i g b =
     }
 
 indentless_goes : (t : Piece) (p : forest.Properties) (q : NodeProperties) (front : List Piece) (span : Span)
-    (ts : List Piece) (r : Option Refusal) (s : State) (ss : List State) (e : Memory) → t.kind ≡ tokens.BlockEntry
+    (ts : List Piece) (r : Aside) (s : State) (ss : List State) (e : Memory) → t.kind ≡ tokens.BlockEntry
     → IsPairState s → Fronted e p q front → IsAlive s ss → HasOwn front (SequenceStart q.anchor q.tag) span (t ∷ ts)
     → Goes (Then (IsNodeOf InBlockMapping) (FollowsStates s ss)) e (front ++ t ∷ ts)
     (record {
@@ -89,7 +89,7 @@ both_front text g v t u e u0 h = grind arith
 
 -- ## Nodes
 
-module _ (c : NodeContext) (r : Option Refusal) (x s : State) (ss : List State) (e : Memory) (z : Suits c s)
+module _ (c : NodeContext) (r : Aside) (x s : State) (ss : List State) (e : Memory) (z : Suits c s)
     (a : IsAlive s ss) where
   abbrev TurnedNode : List Piece → Result Emitted Refusal → Type 0
   TurnedNode = Turned (NodeThen c s ss) e

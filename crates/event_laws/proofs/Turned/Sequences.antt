@@ -3,9 +3,10 @@ use Rattle.event_laws.proofs.OwnTokens.{whole}
 use Rattle.event_laws.proofs.Common.{◌≡◌, List, [], ◌∷◌, ◌++◌, refl, ap, ◌∙◌, ◌⊎◌, inl, inr, append-nil, arith, Marker, Node, Map, Nodes, NoNode, MoreNodes, NoPair, MorePairs, Kind, FlowSequenceEnd, FlowEntry, Key, Value, InFlow, YieldsNode, YieldsPairEntry, YieldsSinglePair, YieldFlowEntries, YieldOtherFlowEntries, Flow, State, Part, CloseSequence, OpenMapping, CloseMapping, node_parts, SequenceEnd, is_left_out, node_or_nothing_at}
 use Rattle.saphyr_scanner.specs.Grammar.Forest as forest
 use Rattle.saphyr_machine.specs.declared.state.State.TheVariants as state
-use Rattle.saphyr_machine.specs.Steps.Flow.{flow_sequence_first_entry_at, flow_sequence_first_entry, flow_sequence_entry_at, flow_sequence_entry, flow_sequence_entry_mapping_key, flow_sequence_entry_mapping_node, flow_sequence_entry_mapping_value_at, flow_sequence_entry_mapping_value, flow_sequence_entry_mapping_end}
+use Rattle.saphyr_machine.specs.Steps.Machine.{with_pair_end}
+use Rattle.saphyr_machine.specs.Steps.Flow.{flow_sequence_first_entry_at, flow_sequence_first_entry, flow_sequence_entry_at, flow_sequence_entry, flow_sequence_entry_mapping_key, flow_sequence_entry_mapping_node, flow_sequence_entry_mapping_value_at, flow_sequence_entry_mapping_value, pair_ended_at, pair_ended_from, flow_sequence_entry_mapping_end}
 use Rattle.event_laws.proofs.Turned.Following.{Claim, Then, Exactly, IsNodeOf, IsOptionalOf, IsAnyValueOf, FirstEntries, OtherEntries, InSequence, AtPairEnd, AtPairValue, FollowsStates}
-use Rattle.event_laws.proofs.Turned.Turning.{regroup, replace, join_behind, put, both_parts}
+use Rattle.event_laws.proofs.Turned.Turning.{Aside, machine, Turned, regroup, replace, join_behind, put, both_parts}
 use Rattle.event_laws.proofs.Turned.Entries.{Turns, TurnsAt, by_token, passes, leaves_out, optional_turned, here_turned, enters, marked_value, any_value, closes}
 
 -- ## Entries
@@ -120,28 +121,31 @@ pair_key_turned = here_turned state.FlowSequenceEntryMappingValue tt tt
 abbrev AtValue : Claim → Claim
 AtValue R = Then (IsOptionalOf InFlow) (AtPairEnd R)
 
+abbrev ending : Marker → Aside → Aside
+ending place r = record r { pair_ends = place ∷ r.pair_ends }
+
 value_turned : Turns (λ _. AtValue) flow_sequence_entry_mapping_node
 unfolding flow_sequence_entry_mapping_node
 value_turned = by_token (λ _. AtValue)
-    (λ k t. let end : State = state.FlowSequenceEntryMappingEnd t.span.end in
-    node_or_nothing_at (is_left_out end k) end t.span t)
-    (λ k sp. let end : State = state.FlowSequenceEntryMappingEnd sp.end in
-    optional_turned (is_left_out end k) end k tt tt sp sp)
+    (λ k t m. node_or_nothing_at (is_left_out state.FlowSequenceEntryMappingEnd k) state.FlowSequenceEntryMappingEnd
+    t.span t (with_pair_end t.span.end m))
+    (λ k sp ts r. optional_turned (is_left_out state.FlowSequenceEntryMappingEnd k) state.FlowSequenceEntryMappingEnd k
+    tt tt sp sp ts (ending sp.end r))
 
 pair_value_at_turned : TurnsAt (λ _. AtPairValue) flow_sequence_entry_mapping_value_at
-pair_value_at_turned Value sp = passes (λ _. AtValue) (λ _. AtPairValue) Value flow_sequence_entry_mapping_node tt
+pair_value_at_turned Value sp ts r = passes (λ _. AtValue) (λ _. AtPairValue) Value flow_sequence_entry_mapping_node tt
     (λ _ R ks ps h. any_value InFlow (AtPairEnd R) _ ps (marked_value InFlow (AtPairEnd R) ks ps h)) value_turned sp
-pair_value_at_turned k sp = leaves_out (λ _. AtPairValue) (state.FlowSequenceEntryMappingEnd sp.end) k tt
+    ts r
+pair_value_at_turned k sp ts r = leaves_out (λ _. AtPairValue) state.FlowSequenceEntryMappingEnd k tt
     (λ _ R ks ps f b. put (IsAnyValueOf InFlow) (AtPairEnd R) [] (node_parts forest.left_out) ks ps
-    (inr (refl, refl)) f) sp sp
+    (inr (refl, refl)) f) sp sp ts (ending sp.end r)
 
 pub pair_value_turned : Turns (λ _. AtPairValue) flow_sequence_entry_mapping_value
 unfolding flow_sequence_entry_mapping_value
 pair_value_turned = by_token (λ _. AtPairValue) flow_sequence_entry_mapping_value_at pair_value_at_turned
 
-pub pair_end_turned : (place : Marker) → Turns (λ _. AtPairEnd) (flow_sequence_entry_mapping_end place)
-unfolding flow_sequence_entry_mapping_end
-pair_end_turned place ts r x s ss e w a = record {
+pair_ends_at : (place : Marker) (others : List Marker) → Turns (λ _. AtPairEnd) (pair_ended_at place others)
+pair_ends_at place others ts r x s ss e w a = record {
   used = [];
   part = CloseMapping;
   taken = refl;
@@ -153,3 +157,12 @@ pair_end_turned place ts r x s ss e w a = record {
   makes = λ ks ps f b. put (Exactly [] (CloseMapping ∷ [])) (InSequence (FollowsStates s ss)) [] (CloseMapping ∷ []) ks
       ps (refl, refl) f;
 }
+
+pub pair_end_turned : Turns (λ _. AtPairEnd) flow_sequence_entry_mapping_end
+unfolding flow_sequence_entry_mapping_end
+pair_end_turned ts r x s ss e w a = by r.pair_ends
+  where
+    by : (ps : List Marker)
+        → Turned (AtPairEnd (FollowsStates s ss)) e ts (pair_ended_from ps (machine ts r x (s ∷ ss) e))
+    by [] = pair_ends_at _ [] ts r x s ss e w a
+    by (place ∷ others) = pair_ends_at place others ts r x s ss e w a

@@ -1,6 +1,6 @@
 -- What a step of the machine makes of what may follow.
 use Rattle.event_laws.proofs.OwnTokens.{HasOwn, behind_own}
-use Rattle.event_laws.proofs.Common.{BelongsToNone, ◌≡◌, ◌≤◌, List, [], ◌∷◌, ◌++◌, length, Option, Some, Result, Ok, Err, refl, ap, append_assoc, arith, Span, Refusal, Kind, Piece, State, anchors, Part, kinds, Machine, Emitted}
+use Rattle.event_laws.proofs.Common.{BelongsToNone, ◌≡◌, ◌≤◌, List, [], ◌∷◌, ◌++◌, length, Option, Some, Result, Ok, Err, refl, ap, append_assoc, arith, Marker, Span, Refusal, Kind, Piece, State, anchors, Part, kinds, Machine, Emitted}
 use Rattle.event_laws.proofs.Emitted.Emitting.{Memory}
 use Rattle.event_laws.proofs.Remembering.{after, event_in}
 use Rattle.event_laws.proofs.Turned.Following.{Claim, Then, Exactly, FollowsStates, IsAlive, Starts}
@@ -8,11 +8,17 @@ use Rattle.event_laws.proofs.Turned.Following.{Claim, Then, Exactly, FollowsStat
 abbrev pub piece_of : Kind → Span → Piece
 piece_of k sp = record { span = sp; kind = k }
 
-abbrev pub machine : List Piece → Option Refusal → State → List State → Memory → Machine
+-- what ends the tokens, and where the pairs of brackets end that are open
+pub record Aside : Type 0 where
+  pub refusal : Option Refusal
+  pub pair_ends : List Marker
+
+abbrev pub machine : List Piece → Aside → State → List State → Memory → Machine
 machine ts r s ss e = record {
-  tokens = record { pieces = ts; refusal = r };
+  tokens = record { pieces = ts; refusal = r.refusal };
   state = s;
   states = ss;
+  pair_ends = r.pair_ends;
   anchors = e.anchors;
   prefixes = e.prefixes;
   keep_tags = e.keep;

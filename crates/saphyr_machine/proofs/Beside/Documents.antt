@@ -19,7 +19,7 @@ use Rattle.saphyr_machine.specs.Steps.Block.{block_node}
 use Rattle.saphyr_machine.specs.Steps.Flow as flow
 use Rattle.saphyr_machine.specs.Steps.Expected.{event_step_at}
 use Rattle.saphyr_machine.specs.Answer.{begins_with_value, weight_before, total_weight}
-use Rattle.saphyr_machine.proofs.Beside.Machines.{Beside, Expected, AllExpected, With, Near, Held, GivesAlike, Awaits, IsMarkers, Left, Alike, EmitsAlike, Both, AtBoth, facing, changed, less, taken, taken_by, refuses, expects, emits, emits_end, enters_emitted}
+use Rattle.saphyr_machine.proofs.Beside.Machines.{Beside, With, Near, Held, GivesAlike, Awaits, IsMarkers, Left, Alike, EmitsAlike, Both, AtBoth, facing, changed, less, taken, taken_by, refuses, expects, emits, emits_end, enters_emitted}
 use Rattle.saphyr_machine.proofs.Beside.Nodes.{node_beside}
 use Rattle.saphyr_machine.proofs.Beside.Collections as steps
 use Rattle.saphyr_machine.proofs.Beside.Passing.{Has, PassesAlike, passes, has, goes_by_marks, goes_by_ends, behind_both, directives_beside}
@@ -43,16 +43,16 @@ module _ (w : Beside) where
 
   -- after a document's marker these states are expected
   left_behind_marker : (k : Kind) (what : Happening) {a x : Marker} {d : ℕ} (s : State) (ss rs : List State)
-      (m n : Machine) → Expected w s s → AllExpected w ss rs
+      (m n : Machine) → rs ≡ ss
       → 10 + weight_before s m.tokens.pieces + total_weight ss ≤ d
       → Awaits k (record m { state = s; states = ss }) → IsMarkers k what
       → With w (λ r q. w.Ahead a x d r q ⊎ w.Over k r q) m n
       → Left w what (record m { state = s; states = ss }) (record n { state = s; states = rs })
-  left_behind_marker k what {a} {x} {d} s ss rs m n e es l awaits is near = grind (arith, expects, changed)
+  left_behind_marker k what {a} {x} {d} s ss rs m n es l awaits is near = grind (arith, expects, changed)
 
   stream_at : AtBoth w 10 (Alike w) document.stream_start_at document.stream_start_at
   stream_at tokens.StreamStart t u m n h =
-      enters_emitted w _ _ _ t.span u.span m n refl h.span (omega arith) h.behind tt
+      enters_emitted w _ _ t.span u.span m n h.span (omega arith) h.behind tt
   stream_at _ t u m n h = refuses w _ t u h.span
 
   explicit_at : AtBoth w 10 (Alike w) document.explicit_document_at document.explicit_document_at
@@ -61,8 +61,8 @@ module _ (w : Beside) where
         what = refl;
         span = h.span;
         machine = left_behind_marker tokens.DocumentStart _ state.DocumentContent (state.DocumentEnd ∷ m.states)
-            (state.DocumentEnd ∷ n.states) (without_anchors m) (without_anchors n) refl (refl, h.behind.states)
-            (omega arith) (refl, (m.states, refl)) refl (forgets_anchors _ m n h.behind);
+            (state.DocumentEnd ∷ n.states) (without_anchors m) (without_anchors n)
+            (ap (λ ss. state.DocumentEnd ∷ ss) h.behind.states) (omega arith) (refl, (m.states, refl)) refl (forgets_anchors _ m n h.behind);
         closes = tt;
       }
   explicit_at tokens.ByteOrderMark t u m n h = refuses w _ t u h.span
@@ -90,8 +90,9 @@ module _ (w : Beside) where
   implicit_at (tokens.ReservedDirective name) t u m n h = explicit_document 13 (omega arith) _ t u m n h
   implicit_at tokens.DocumentStart t u m n h = explicit_document 13 (omega arith) _ t u m n h
   implicit_at _ t u m n h = emits w _ t.span u.span _ _ h.span
-      (expects w state.BlockNode state.BlockNode (state.DocumentEnd ∷ m.states) (state.DocumentEnd ∷ n.states)
-      (without_anchors (put_back t m)) (without_anchors (put_back u n)) refl (refl, h.back.states) (omega arith)
+      (expects w state.BlockNode (state.DocumentEnd ∷ m.states) (state.DocumentEnd ∷ n.states)
+      (without_anchors (put_back t m)) (without_anchors (put_back u n))
+      (ap (λ ss. state.DocumentEnd ∷ ss) h.back.states) (omega arith)
       (forgets_anchors _ (put_back t m) (put_back u n) h.back)) tt
 
   start_at : AtBoth w 10 (Alike w) document.explicit_start_at document.explicit_start_at
@@ -170,7 +171,7 @@ module _ (w : Beside) where
       record {
         what = refl;
         span = h.span;
-        machine = left_behind_marker tokens.DocumentEnd _ state.ImplicitDocumentStart m.states n.states m n refl
+        machine = left_behind_marker tokens.DocumentEnd _ state.ImplicitDocumentStart m.states n.states m n
             h.behind.states (omega arith) refl refl h.behind;
         closes = tt;
       }
@@ -178,7 +179,7 @@ module _ (w : Beside) where
   end_at (tokens.TagDirective handle prefix) t u m n h = refuses w _ t u h.span
   end_at (tokens.ReservedDirective name) t u m n h = refuses w _ t u h.span
   end_at _ t u m n h =
-      enters_emitted w _ _ _ t.span u.span (put_back t m) (put_back u n) refl h.span (omega arith) h.back tt
+      enters_emitted w _ _ t.span u.span (put_back t m) (put_back u n) h.span (omega arith) h.back tt
 
   end_beside : KeepsSetting w → Both w 11 (Alike w) document.document_end document.document_end
   unfolding document.document_end
@@ -197,56 +198,56 @@ start_passed (inl a) = inl a
 start_passed (inr b) = inr (tt, b)
 
 -- A step of both, but that at the end of a document where the settings differ.
-pub steps_beside : (w : Beside) (s r : State) (a x : Marker) (m n : Machine) → Expected w s r → s ≢ state.End
+pub steps_beside : (w : Beside) (s : State) (a x : Marker) (m n : Machine) → s ≢ state.End
     → (s ≡ state.DocumentEnd → KeepsSetting w) → Near w a x (9 + weight_before s m.tokens.pieces) m n
-    → EmitsAlike w (event_step_at s m) (event_step_at r n)
+    → EmitsAlike w (event_step_at s m) (event_step_at s n)
     ⊎ (IsBetweenDocuments s × PassedAll w m n (event_step_at s))
 unfolding block_node document.stream_start document.document_content block.block_sequence_entry
     block.indentless_sequence_entry block.block_mapping_key block.block_mapping_value
     flow.flow_sequence_first_entry flow.flow_sequence_entry flow.flow_sequence_entry_mapping_key
     flow.flow_sequence_entry_mapping_value flow.flow_mapping_first_key flow.flow_mapping_key flow.flow_mapping_value
     flow.flow_mapping_empty_value
-steps_beside w state.StreamStart r a x m n e on keeps near =
-    rw e (inl (taken w _ 10 document.stream_start_at document.stream_start_at (stream_at w) a x m n near))
-steps_beside w state.ImplicitDocumentStart r a x m n e on keeps near =
-    rw e (start_passed (implicit_start w a x m n near))
-steps_beside w state.DocumentStart r a x m n e on keeps near = rw e (start_passed (explicit_start w a x m n near))
-steps_beside w state.DocumentContent r a x m n e on keeps near =
-    rw e (inl (taken w _ 10 document.document_content_at document.document_content_at (content_at w) a x m n near))
-steps_beside w state.DocumentEnd r a x m n e on keeps near = rw e (inl (end_beside w (keeps refl) a x m n near))
-steps_beside w state.BlockNode r a x m n e on keeps near =
-    rw e (inl (taken w _ 10 (λ k. node Block) (λ k. node Block) (node_beside w 10 Block (omega arith)) a x m n near))
-steps_beside w state.BlockSequenceEntry r a x m n e on keeps near =
-    rw e (inl (steps.take w 10 _ (steps.sequence_entries w) a x m n near))
-steps_beside w state.IndentlessSequenceEntry r a x m n e on keeps near =
-    rw e (inl (steps.take w 10 _ (steps.indentless_entries w) a x m n near))
-steps_beside w state.BlockMappingKey r a x m n e on keeps near =
-    rw e (inl (taken_by w (Alike w) (λ ts. 9 + (if begins_with_value ts then 3 else 1)) block.block_mapping_key_at
-    block.block_mapping_key_at a x m n near (λ t u m n g h. steps.mapping_keys w t.kind t u m n h)))
-steps_beside w state.BlockMappingValue r a x m n e on keeps near =
-    rw e (inl (steps.take w 11 _ (steps.mapping_values w) a x m n near))
-steps_beside w state.FlowSequenceFirstEntry r a x m n e on keeps near =
-    rw e (inl (steps.take w 10 _ (steps.first_entries w) a x m n near))
-steps_beside w state.FlowSequenceEntry r a x m n e on keeps near =
-    rw e (inl (steps.take w 10 _ (steps.other_entries w) a x m n near))
-steps_beside w state.FlowSequenceEntryMappingKey r a x m n e on keeps near =
-    rw e (inl (steps.pair_keys w a x m n near))
-steps_beside w state.FlowSequenceEntryMappingValue r a x m n e on keeps near =
-    rw e (inl (steps.take w 12 _ (steps.pair_values w) a x m n near))
-steps_beside w (state.FlowSequenceEntryMappingEnd p) r a x m n e on keeps near =
-    rw e.2 (inl (steps.pair_ends w p e.0 e.1 a x m n near))
-steps_beside w state.FlowMappingFirstKey r a x m n e on keeps near =
-    rw e (inl (steps.take w 12 _ (steps.first_pairs w) a x m n near))
-steps_beside w state.FlowMappingKey r a x m n e on keeps near =
-    rw e (inl (steps.take w 10 _ (steps.other_pairs w) a x m n near))
-steps_beside w state.FlowMappingValue r a x m n e on keeps near =
-    rw e (inl (steps.take w 11 _ (steps.values_in_braces w) a x m n near))
-steps_beside w state.FlowMappingEmptyValue r a x m n e on keeps near = rw e (inl
-    (steps.take w 11 (λ k t. left_out_event t state.FlowMappingKey t.span) (steps.empty_values w) a x m n near))
-steps_beside w state.End r a x m n e on keeps near = rw e (absurd (on refl))
+steps_beside w state.StreamStart a x m n on keeps near =
+    inl (taken w _ 10 document.stream_start_at document.stream_start_at (stream_at w) a x m n near)
+steps_beside w state.ImplicitDocumentStart a x m n on keeps near =
+    start_passed (implicit_start w a x m n near)
+steps_beside w state.DocumentStart a x m n on keeps near = start_passed (explicit_start w a x m n near)
+steps_beside w state.DocumentContent a x m n on keeps near =
+    inl (taken w _ 10 document.document_content_at document.document_content_at (content_at w) a x m n near)
+steps_beside w state.DocumentEnd a x m n on keeps near = inl (end_beside w (keeps refl) a x m n near)
+steps_beside w state.BlockNode a x m n on keeps near =
+    inl (taken w _ 10 (λ k. node Block) (λ k. node Block) (node_beside w 10 Block (omega arith)) a x m n near)
+steps_beside w state.BlockSequenceEntry a x m n on keeps near =
+    inl (steps.take w 10 _ (steps.sequence_entries w) a x m n near)
+steps_beside w state.IndentlessSequenceEntry a x m n on keeps near =
+    inl (steps.take w 10 _ (steps.indentless_entries w) a x m n near)
+steps_beside w state.BlockMappingKey a x m n on keeps near =
+    inl (taken_by w (Alike w) (λ ts. 9 + (if begins_with_value ts then 3 else 1)) block.block_mapping_key_at
+    block.block_mapping_key_at a x m n near (λ t u m n g h. steps.mapping_keys w t.kind t u m n h))
+steps_beside w state.BlockMappingValue a x m n on keeps near =
+    inl (steps.take w 11 _ (steps.mapping_values w) a x m n near)
+steps_beside w state.FlowSequenceFirstEntry a x m n on keeps near =
+    inl (steps.take w 10 _ (steps.first_entries w) a x m n near)
+steps_beside w state.FlowSequenceEntry a x m n on keeps near =
+    inl (steps.take w 10 _ (steps.other_entries w) a x m n near)
+steps_beside w state.FlowSequenceEntryMappingKey a x m n on keeps near =
+    inl (steps.pair_keys w a x m n near)
+steps_beside w state.FlowSequenceEntryMappingValue a x m n on keeps near =
+    inl (steps.take w 12 _ (steps.pair_values w) a x m n near)
+steps_beside w state.FlowSequenceEntryMappingEnd a x m n on keeps near =
+    inl (steps.pair_ends w a x m n near)
+steps_beside w state.FlowMappingFirstKey a x m n on keeps near =
+    inl (steps.take w 12 _ (steps.first_pairs w) a x m n near)
+steps_beside w state.FlowMappingKey a x m n on keeps near =
+    inl (steps.take w 10 _ (steps.other_pairs w) a x m n near)
+steps_beside w state.FlowMappingValue a x m n on keeps near =
+    inl (steps.take w 11 _ (steps.values_in_braces w) a x m n near)
+steps_beside w state.FlowMappingEmptyValue a x m n on keeps near = inl
+    (steps.take w 11 (λ k t. left_out_event t state.FlowMappingKey t.span) (steps.empty_values w) a x m n near)
+steps_beside w state.End a x m n on keeps near = absurd (on refl)
 
 -- The same where no marker that is the first machine's last token may be passed.
-pub steps_alike : (w : Beside) → ((r q : Remaining) → w.Over tokens.DocumentEnd r q → ⊥) → (s r : State) (a x : Marker)
-    (m n : Machine) → Expected w s r → s ≢ state.End → (s ≡ state.DocumentEnd → KeepsSetting w)
-    → Near w a x (9 + weight_before s m.tokens.pieces) m n → EmitsAlike w (event_step_at s m) (event_step_at r n)
-steps_alike w never s r a x m n e on keeps near = grind (arith, steps_beside)
+pub steps_alike : (w : Beside) → ((r q : Remaining) → w.Over tokens.DocumentEnd r q → ⊥) → (s : State) (a x : Marker)
+    (m n : Machine) → s ≢ state.End → (s ≡ state.DocumentEnd → KeepsSetting w)
+    → Near w a x (9 + weight_before s m.tokens.pieces) m n → EmitsAlike w (event_step_at s m) (event_step_at s n)
+steps_alike w never s a x m n on keeps near = grind (arith, steps_beside)

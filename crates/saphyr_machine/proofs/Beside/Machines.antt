@@ -1,6 +1,7 @@
 -- Two machines side by side, and what is done to both.
-use Rattle.std.proofs.Common.{◌≡◌, ℕ, ◌+◌, ◌≤◌, Bool, true, false, List, [], ◌∷◌, Option, Result, Ok, Err, refl, arith, ◌⊎◌, inl, inr}
+use Rattle.std.proofs.Common.{◌≡◌, ℕ, ◌+◌, ◌≤◌, Bool, true, false, List, [], ◌∷◌, Option, Result, Ok, Err, refl, sym, subst, arith, ◌⊎◌, inl, inr}
 use Rattle.std.specs.Prelude.{if◌then◌else◌}
+use Rattle.std.specs.List.{AllZip}
 use Rattle.saphyr_scalar.specs.declared.scalar.position.Marker.{Marker}
 use Rattle.saphyr_scalar.specs.declared.scalar.position.Span.{Span}
 use Rattle.saphyr_scalar.specs.declared.scalar.fault.Refusal.{Refusal}
@@ -12,7 +13,7 @@ use Rattle.saphyr_machine.specs.declared.state.State.{State}
 use Rattle.saphyr_machine.specs.declared.state.State.TheVariants as state
 use Rattle.saphyr_machine.specs.Events as events
 use Rattle.saphyr_machine.specs.Events.{Happening}
-use Rattle.saphyr_machine.specs.Steps.Machine.{◌>>=◌, Machine, Emitted, emit, refusal_at, ending_refusal, with_pieces, taken_token, taken_token_from, put_back, pop, pop_from, with_state, push, with_anchor}
+use Rattle.saphyr_machine.specs.Steps.Machine.{◌>>=◌, Machine, Emitted, emit, refusal_at, ending_refusal, with_pieces, taken_token, taken_token_from, put_back, pop, pop_from, with_state, push, with_pair_end, text_start, with_anchor}
 use Rattle.saphyr_machine.specs.Steps.Nodes.{register}
 use Rattle.saphyr_machine.specs.Answer.{weight, weight_before, begins_with_value, total_weight}
 use Rattle.saphyr_machine.specs.Calls.{LeavesEnd}
@@ -67,6 +68,7 @@ pub record Beside : Type 1 where
   pub Early : Refusal → Type 0
   pub Refused : Refusal → Refusal → Type 0
   pub joined : (a b c x y z : Marker) → Spans a b x y → Spans b c y z → Spans a c x z
+  pub start : Spans text_start text_start text_start text_start
   pub first : (a b x y : Marker) → Spans a b x y → Spans a a x x
   pub last : (a b x y : Marker) → Spans a b x y → Spans b b y y
   pub refused : (text : FaultText) (a x : Marker) → Spans a a x x
@@ -85,20 +87,14 @@ pub record Beside : Type 1 where
 abbrev pub SpansAlike : Beside → Span → Span → Type 0
 SpansAlike w s r = w.Spans s.start s.end r.start r.end
 
-abbrev pub Expected : Beside → State → State → Type 0
-Expected w (state.FlowSequenceEntryMappingEnd p) r =
-    (q : Marker) × w.Spans p p q q × (r ≡ state.FlowSequenceEntryMappingEnd q)
-Expected w s r = r ≡ s
-
-abbrev pub AllExpected : Beside → List State → List State → Type 0
-AllExpected w [] rs = rs ≡ []
-AllExpected w (s ∷ ss) [] = ⊥
-AllExpected w (s ∷ ss) (r ∷ rs) = Expected w s r × AllExpected w ss rs
+abbrev pub EndsAlike : Beside → List Marker → List Marker → Type 0
+EndsAlike w = AllZip (λ p q. w.Spans p p q q)
 
 -- two machines, of whose tokens T holds, whatever is expected next
 pub record With (w : Beside) (T : Remaining → Remaining → Type 0) (m n : Machine) : Type 0 where
   pub tokens : T m.tokens n.tokens
-  pub states : AllExpected w m.states n.states
+  pub states : n.states ≡ m.states
+  pub pair_ends : EndsAlike w m.pair_ends n.pair_ends
   pub anchors : n.anchors ≡ m.anchors
   pub prefixes : n.prefixes ≡ m.prefixes
   pub setting : w.Setting m.keep_tags n.keep_tags
@@ -109,9 +105,14 @@ Near w a x d m n = With w (w.Ahead a x (d + total_weight m.states)) m n
 
 -- other tokens, and something else is expected
 pub changed : (w : Beside) (T U : Remaining → Remaining → Type 0) (m n : Machine) (r q : Remaining) (s x : State)
-    (ss xs : List State) → U r q → AllExpected w ss xs → With w T m n
+    (ss xs : List State) → U r q → xs ≡ ss → With w T m n
     → With w U (record m { tokens = r; state = s; states = ss }) (record n { tokens = q; state = x; states = xs })
 changed w u0 u1 m n r q s x ss xs rest es near = grind arith
+
+-- the pairs that are open end elsewhere
+pub with_ends : (w : Beside) (T : Remaining → Remaining → Type 0) (m n : Machine) (ps qs : List Marker)
+    → EndsAlike w ps qs → With w T m n → With w T (record m { pair_ends = ps }) (record n { pair_ends = qs })
+with_ends w T m n ps qs e near = grind arith
 
 -- with less room
 pub less : (w : Beside) {a x : Marker} {c d : ℕ} (m n : Machine) → c ≤ d → With w (w.Ahead a x d) m n
@@ -156,7 +157,7 @@ either w R false p r q s g h = h
 
 -- between two steps
 pub record Between (w : Beside) (m n : Machine) : Type 0 where
-  pub state : Expected w m.state n.state
+  pub state : n.state ≡ m.state
   pub rest :
       With w (w.Rests m.state (10 + weight_before m.state m.tokens.pieces + total_weight m.states)) m n
 
@@ -176,7 +177,7 @@ IsMarkers _ what = ⊥
 -- two machines after an event: tokens are left as before, or the event is that of a marker which was the last token
 abbrev pub Left : Beside → Happening → Machine → Machine → Type 0
 Left w what m n = Between w m n
-    ⊎ ((k : Kind) × Expected w m.state n.state × With w (w.Over k) m n × Awaits k m × IsMarkers k what)
+    ⊎ ((k : Kind) × (n.state ≡ m.state) × With w (w.Over k) m n × Awaits k m × IsMarkers k what)
 
 -- the same event, and machines side by side, which the end of the stream ends
 pub record Alike (w : Beside) (x y : Emitted) : Type 0 where
@@ -281,9 +282,9 @@ pub refuses : (w : Beside) (text : FaultText) (t u : Piece) → SpansAlike w t.s
 refuses w text t u s = inr (w.refused text t.span.start u.span.start (w.first _ _ _ _ s))
 
 -- what is expected after a node that is opened takes some of the room
-pushes : (w : Beside) (a x : Marker) (c d : ℕ) (s r : State) (m n : Machine) → Expected w s r → weight s + c ≤ d
-    → Near w a x d m n → Near w a x c (push s m) (push r n)
-pushes w a x c d s r m n e l near = grind arith
+pushes : (w : Beside) (a x : Marker) (c d : ℕ) (s : State) (m n : Machine) → weight s + c ≤ d → Near w a x d m n
+    → Near w a x c (push s m) (push s n)
+pushes w a x c d s m n l near = grind arith
 
 after_less : (w : Beside) (c d : ℕ) (k : Kind) (b y : Marker) (r q : Remaining) → c ≤ d → After w d k b y r q
     → After w c k b y r q
@@ -295,9 +296,13 @@ after_less w c d tokens.StreamEnd b y r q l h = λ e i. h e (omega (arith, l, i)
 after_less w c d _ b y r q l h = w.less b y _ _ r q (omega (arith, l)) h
 
 -- after a token, something is expected later
-pub holds : (w : Beside) (c d : ℕ) (s r : State) (k : Kind) (t u : Piece) (m n : Machine) → Expected w s r
-    → weight s + c ≤ d → Held w d k t u m n → Held w c k t u (push s m) (push r n)
-holds w c d s r k t u m n e l h = grind (arith, pushes, changed, after_less)
+pub holds : (w : Beside) (c d : ℕ) (s : State) (k : Kind) (t u : Piece) (m n : Machine) → weight s + c ≤ d
+    → Held w d k t u m n → Held w c k t u (push s m) (push s n)
+holds w c d s k t u m n l h = grind (arith, pushes, changed, after_less)
+
+pub holds_end : (w : Beside) (d : ℕ) (k : Kind) (t u : Piece) (m n : Machine) (p q : Marker) → w.Spans p p q q
+    → Held w d k t u m n → Held w d k t u (with_pair_end p m) (with_pair_end q n)
+holds_end w d k t u m n p q e h = grind (arith, with_ends)
 
 -- one more anchor
 pub registers : (w : Beside) (T : Remaining → Remaining → Type 0) (name : List ℕ) (m n : Machine) → With w T m n
@@ -313,32 +318,30 @@ weight_before_is_less state.BlockMappingKey ts = key_weight (begins_with_value t
 weight_before_is_less _ ts = omega arith
 
 -- these states are expected
-pub expects : (w : Beside) {a x : Marker} {d : ℕ} (s r : State) (ss rs : List State) (m n : Machine) → Expected w s r
-    → AllExpected w ss rs → 10 + weight_before s m.tokens.pieces + total_weight ss ≤ d → With w (w.Ahead a x d) m n
-    → Between w (record m { state = s; states = ss }) (record n { state = r; states = rs })
-expects w {a} {x} {d} s r ss rs m n e es l near =
+pub expects : (w : Beside) {a x : Marker} {d : ℕ} (s : State) (ss rs : List State) (m n : Machine) → rs ≡ ss
+    → 10 + weight_before s m.tokens.pieces + total_weight ss ≤ d → With w (w.Ahead a x d) m n
+    → Between w (record m { state = s; states = ss }) (record n { state = s; states = rs })
+expects w {a} {x} {d} s ss rs m n es l near =
     record {
-      state = e;
-      rest = changed w (w.Ahead a x d) _ m n m.tokens n.tokens s r ss rs
+      state = refl;
+      rest = changed w (w.Ahead a x d) _ m n m.tokens n.tokens s s ss rs
           (w.rests a x s _ m.tokens n.tokens (w.less a x _ d m.tokens n.tokens l near.tokens)) es near;
     }
 
-pub enters : (w : Beside) {a x : Marker} {d : ℕ} (s r : State) (m n : Machine) → Expected w s r
+pub enters : (w : Beside) {a x : Marker} {d : ℕ} (s : State) (m n : Machine)
     → 10 + weight s + total_weight m.states ≤ d → With w (w.Ahead a x d) m n
-    → Between w (with_state s m) (with_state r n)
-enters w s r m n e l near = expects w s r m.states n.states m n e near.states
+    → Between w (with_state s m) (with_state s n)
+enters w s m n l near = expects w s m.states n.states m n near.states
     (let i = weight_before_is_less s m.tokens.pieces in omega (arith, i, l)) near
 
 pub pops : (w : Beside) {a x : Marker} {d : ℕ} (m n : Machine) → 10 + total_weight m.states ≤ d
     → With w (w.Ahead a x d) m n → Between w (pop m) (pop n)
-pops w {a} {x} {d} m n l near = by m.states n.states near.states l
+pops w {a} {x} {d} m n l near =
+    subst (λ (rs : List State). Between w (pop m) (pop_from rs n)) (sym near.states) (by m.states l)
   where
-    by : (ss rs : List State) → AllExpected w ss rs → 10 + total_weight ss ≤ d
-        → Between w (pop_from ss m) (pop_from rs n)
-    by [] [] e l = expects w state.End state.End [] [] m n refl refl (omega (arith, l)) near
-    by [] (r ∷ rs) e l = absurd (cc)
-    by (s ∷ ss) [] e l = absurd e
-    by (s ∷ ss) (r ∷ rs) e l = expects w s r ss rs m n e.0 e.1
+    by : (ss : List State) → 10 + total_weight ss ≤ d → Between w (pop_from ss m) (pop_from ss n)
+    by [] l = expects w state.End [] [] m n refl (omega (arith, l)) near
+    by (s ∷ ss) l = expects w s ss ss m n refl
         (let i = weight_before_is_less s m.tokens.pieces in omega (arith, i, l)) near
 
 pub emits : (w : Beside) (what : Happening) (s r : Span) (m n : Machine) → SpansAlike w s r → Between w m n
@@ -351,7 +354,7 @@ pub emits_end : (w : Beside) {a x : Marker} {d : ℕ} (what : Happening) (s r : 
     → EmitsAlike w (emit what s (pop m)) (emit what r (pop n))
 emits_end w what s r m n e l near c = emits w what s r _ _ e (pops w m n l near) c
 
-pub enters_emitted : (w : Beside) {a x : Marker} {d : ℕ} (what : Happening) (y z : State) (s r : Span) (m n : Machine)
-    → Expected w y z → SpansAlike w s r → 10 + weight y + total_weight m.states ≤ d → With w (w.Ahead a x d) m n
-    → LeavesEnd what y → EmitsAlike w (emit what s (with_state y m)) (emit what r (with_state z n))
-enters_emitted w what y z s r m n i e l near c = emits w what s r _ _ e (enters w y z m n i l near) c
+pub enters_emitted : (w : Beside) {a x : Marker} {d : ℕ} (what : Happening) (y : State) (s r : Span) (m n : Machine)
+    → SpansAlike w s r → 10 + weight y + total_weight m.states ≤ d → With w (w.Ahead a x d) m n
+    → LeavesEnd what y → EmitsAlike w (emit what s (with_state y m)) (emit what r (with_state y n))
+enters_emitted w what y s r m n e l near c = emits w what s r _ _ e (enters w y m n l near) c

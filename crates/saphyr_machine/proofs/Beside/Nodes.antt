@@ -95,17 +95,17 @@ module _ (w : Beside) (d : ℕ) (a b x y : Marker) (id : ℕ) (tag : Option Reso
   content (tokens.Scalar style text) t u m n g h =
       emits_end w _ _ _ m n (up t u g h.span) (omega arith) h.behind tt
   content tokens.FlowSequenceStart t u m n g h =
-      enters_emitted w _ _ _ _ _ m n refl (up t u g h.span) (omega (arith, enough)) h.behind tt
+      enters_emitted w _ _ _ _ m n (up t u g h.span) (omega (arith, enough)) h.behind tt
   content tokens.FlowMappingStart t u m n g h =
-      enters_emitted w _ _ _ _ _ m n refl (up t u g h.span) (omega (arith, enough)) h.behind tt
+      enters_emitted w _ _ _ _ m n (up t u g h.span) (omega (arith, enough)) h.behind tt
   content tokens.BlockSequenceStart t u m n g h = either w _ (allows_block c) _ _ _ _
-      (λ e. enters_emitted w _ _ _ _ _ m n refl (up t u g h.span) (omega (arith, enough)) h.behind tt)
+      (λ e. enters_emitted w _ _ _ _ m n (up t u g h.span) (omega (arith, enough)) h.behind tt)
       (none _ t u m n h)
   content tokens.BlockMappingStart t u m n g h = either w _ (allows_block c) _ _ _ _
-      (λ e. enters_emitted w _ _ _ _ _ m n refl (up t u g h.span) (omega (arith, enough)) h.behind tt)
+      (λ e. enters_emitted w _ _ _ _ m n (up t u g h.span) (omega (arith, enough)) h.behind tt)
       (none _ t u m n h)
   content tokens.BlockEntry t u m n g h = either w _ (allows_indentless c) _ _ _ _
-      (λ e. enters_emitted w _ _ _ _ _ (put_back t m) (put_back u n) refl (up t u g h.span)
+      (λ e. enters_emitted w _ _ _ _ (put_back t m) (put_back u n) (up t u g h.span)
       (let j = indented c e in omega (arith, j, l)) h.back tt) (none _ t u m n h)
   content _ t u m n g h = none _ t u m n h
 

@@ -1,5 +1,5 @@
 -- The steps inside flow collections (YAML 1.2.2, 7.4).
-use Rattle.std.specs.Prelude.{Bool, true, false, None, Result}
+use Rattle.std.specs.Prelude.{Bool, true, false, List, [], ◌∷◌, None, Result}
 use Rattle.saphyr_scalar.specs.declared.scalar.position.Marker.{Marker}
 use Rattle.saphyr_scalar.specs.declared.scalar.position.Span.{Span}
 use Rattle.saphyr_scalar.specs.declared.scalar.fault.Refusal.{Refusal}
@@ -9,7 +9,7 @@ use Rattle.saphyr_scanner.specs.Views.Tokens.{Piece}
 use Rattle.saphyr_machine.specs.declared.context.NodeContext.TheVariants.{Flow}
 use Rattle.saphyr_machine.specs.declared.state.State.TheVariants as state
 use Rattle.saphyr_machine.specs.Events.{SequenceEnd, MappingStart, MappingEnd}
-use Rattle.saphyr_machine.specs.Steps.Machine.{◌>>=◌, Machine, Emitted, emit, refusal_at, taken_token, pop, with_state, left_out_event}
+use Rattle.saphyr_machine.specs.Steps.Machine.{◌>>=◌, Machine, Emitted, emit, refusal_at, taken_token, pop, with_state, with_pair_end, text_start, left_out_event}
 use Rattle.saphyr_machine.specs.Steps.Nodes.{node_behind, node_here, node_inside, node_or_nothing}
 
 -- ## Sequences
@@ -51,20 +51,29 @@ flow_sequence_entry_mapping_key m = node_here state.FlowSequenceEntryMappingValu
 unfoldable pub flow_sequence_entry_mapping_node : Machine → Result Emitted Refusal
 flow_sequence_entry_mapping_node m = do
   t ← taken_token m
-  node_or_nothing (state.FlowSequenceEntryMappingEnd t.0.span.end) t.0.span t.0 t.1
+  node_or_nothing state.FlowSequenceEntryMappingEnd t.0.span t.0 (with_pair_end t.0.span.end t.1)
 
 abbrev pub flow_sequence_entry_mapping_value_at : Kind → Piece → Machine → Result Emitted Refusal
 flow_sequence_entry_mapping_value_at Value t m = flow_sequence_entry_mapping_node m
-flow_sequence_entry_mapping_value_at _ t m = left_out_event t (state.FlowSequenceEntryMappingEnd t.span.end) t.span m
+flow_sequence_entry_mapping_value_at _ t m =
+    left_out_event t state.FlowSequenceEntryMappingEnd t.span (with_pair_end t.span.end m)
 
 unfoldable pub flow_sequence_entry_mapping_value : Machine → Result Emitted Refusal
 flow_sequence_entry_mapping_value m = do
   t ← taken_token m
   flow_sequence_entry_mapping_value_at t.0.kind t.0 t.1
 
-unfoldable pub flow_sequence_entry_mapping_end : Marker → Machine → Result Emitted Refusal
-flow_sequence_entry_mapping_end place m = emit MappingEnd (record { start = place; end = place })
-    (with_state state.FlowSequenceEntry m)
+abbrev pub pair_ended_at : Marker → List Marker → Machine → Result Emitted Refusal
+pair_ended_at place others m = emit MappingEnd (record { start = place; end = place })
+    (record m { state = state.FlowSequenceEntry; pair_ends = others })
+
+-- There is always a place, so the first case doesn't come.
+abbrev pub pair_ended_from : List Marker → Machine → Result Emitted Refusal
+pair_ended_from [] m = pair_ended_at text_start [] m
+pair_ended_from (place ∷ others) m = pair_ended_at place others m
+
+unfoldable pub flow_sequence_entry_mapping_end : Machine → Result Emitted Refusal
+flow_sequence_entry_mapping_end m = pair_ended_from m.pair_ends m
 
 -- ## Mappings
 

@@ -6,6 +6,7 @@ use Rattle.std.specs.List.{list_any}
 use Rattle.std.specs.Cmp.Lexicographic.{slice_cmp}
 use Rattle.std.specs.Map.{lookup}
 use Rattle.std.specs.Ordering.{nat_cmp}
+use Rattle.saphyr_scalar.specs.declared.scalar.position.Marker.{Marker}
 use Rattle.saphyr_scalar.specs.declared.scalar.position.Span.{Span}
 use Rattle.saphyr_scalar.specs.declared.scalar.fault.Refusal.{Refusal}
 use Rattle.saphyr_scalar.specs.declared.scalar.fault.FaultText.{FaultText}
@@ -61,12 +62,13 @@ with_anchor name a = record { ids = with_meaning name (next_id a) a.ids; last = 
 
 -- ## The state
 
--- the tokens still to be read, what is expected now, and what is expected after each node that is open, the innermost
--- first
+-- the tokens still to be read, what is expected now, what is expected after each node that is open, and where the pairs
+-- of flow sequences end that are open, the innermost first
 pub record Machine : Type 0 where
   pub tokens : Remaining
   pub state : State
   pub states : List State
+  pub pair_ends : List Marker
   pub anchors : Anchors
   pub prefixes : Names (List ℕ)
   pub keep_tags : Bool
@@ -117,9 +119,16 @@ with_state s m = record m { state = s }
 abbrev pub push : State → Machine → Machine
 push s m = record m { states = s ∷ m.states }
 
+-- a pair of a flow sequence, which is open, ends there
+abbrev pub with_pair_end : Marker → Machine → Machine
+with_pair_end place m = record m { pair_ends = place ∷ m.pair_ends }
+
 -- a node is left out before the token
 abbrev pub left_out_event : Piece → State → Span → Machine → Result Emitted Refusal
 left_out_event t s span m = emit empty_scalar span (with_state s (put_back t m))
+
+abbrev pub text_start : Marker
+text_start = record { index = 0; line = 1; col = 0 }
 
 -- at the start of a stream
 abbrev pub fresh_machine : Remaining → Machine
@@ -127,6 +136,7 @@ fresh_machine r = record {
   tokens = r;
   state = state.StreamStart;
   states = [];
+  pair_ends = [];
   anchors = no_anchors;
   prefixes = [];
   keep_tags = false;

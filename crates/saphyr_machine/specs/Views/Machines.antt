@@ -1,5 +1,5 @@
 -- What contracts see of a machine and of events.
-use Rattle.std.specs.Prelude.{◌≡◌, ℕ, List, [], Result, Ok, Err}
+use Rattle.std.specs.Prelude.{◌≡◌, ℕ, List, [], reverse, Result, Ok, Err}
 use Rattle.saphyr_scalar.specs.declared.scalar.fault.Refusal.{Refusal}
 use Rattle.saphyr_scalar.specs.declared.scalar.position.Span.{Span}
 use Rattle.saphyr_scalar.specs.Views.Reader.{Fails, Moves}
@@ -18,7 +18,8 @@ abbrev pub machine_before : {T : Type 0} → Remaining → declared.Machine T �
 machine_before tokens m = record {
   tokens = tokens;
   state = m.state;
-  states = m.states;
+  states = reverse m.states.items;
+  pair_ends = reverse m.pair_ends.items;
   anchors = m.anchors;
   prefixes = m.prefixes;
   keep_tags = m.keep_tags;
