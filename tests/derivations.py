@@ -82,11 +82,12 @@ def is_value_ahead(column, text):
 
 
 class Derivation:
-    """A text of the grammar, and of each of its documents what the directives declare, and the parts of its node."""
+    """A text of the grammar, its scalars in quotes with line feeds as breaks, and of each of its documents what the
+    directives declare, and the parts of its node."""
 
     def __init__(self, seed):
         self.random, self.hits, self.names, self.handles = random.Random(seed), [], set(), set()
-        self.one_of, self.declares, self.fuel = self.random.choice, False, 0
+        self.one_of, self.declares, self.fuel, self.quotes = self.random.choice, False, 0, []
         text, self.forest = self.documents(True, self.one_of((0, 1, 1, 1, 2, 2, 3, 4)))
         self.text = self.broken(self.prefix(text) + text)
 
@@ -249,7 +250,8 @@ class Derivation:
             piece, c = {"itself": (piece, piece), "two_quotes": ("''", "'"), "escaped": escaped, "broken": (line, line),
                         "escaped_break": ("\\" + line, "\ue003" + line)}[kind]
             text, read = text + piece, read + c
-        return quote + text + quote, quote + folded(read)
+        self.quotes.append(quote + text + quote)
+        return self.quotes[-1], quote + folded(read)
 
     # ## FlowNodes.antt
     def flow_node(self, room, in_flow, indent, is_adjacent=False):

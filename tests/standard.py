@@ -48,6 +48,9 @@ SEVERAL = (
     ("? [|]\n: [|]\n? a\n: [?]\nb: [>]\n", "1 block-indicator-in-flow, 4 question-in-flow, 5 block-indicator-in-flow"),
     ("a: [|,\n  b: c,\n  d]\ne:\r\n- [?]\r- f\a\n",
      "1 block-indicator-in-flow, 5 question-in-flow, 6 unprintable-character"),
+    ("a\x7f: '\x7f'\n'\x7f': \x80 # \x7f\n",
+     "1 unprintable-character, 2 unprintable-character, 2 unprintable-character"),
+    ("- [?, '\x7f', \x7f]\n- '\x7f'\n- \x7f\n", "1 question-in-flow, 3 unprintable-character"),
     ("- |\n  a\n\t\n- \"\n\"\n- b\n", "3 tab-behind-block-scalar, 5 quoted-indentation"),
     ("a: [|]\n---\nb\n--- |\n c\n...\n%TAG !!a\n--- [?]\n",
      "1 block-indicator-in-flow, 7 prefix-without-blank, 8 question-in-flow"),
@@ -57,7 +60,9 @@ SEVERAL = (
 # Keys behind a `?` in one another, and as many comments behind the last: each key asks for what comes next.
 DEEP = "? " * 20000 + "a\n" + ("# " + "x" * 38 + "\n") * 20000
 PART = re.compile(r"`([^`]*)`|\b(LF|TAB|BOM)\b|U\+([0-9A-F]{4})|(a key of 1,025 characters)")
+# [1] c-printable, and [2] nb-json with breaks
 UNPRINTABLE = re.compile("[^\t\n\r -~\x85\xa0-\ud7ff\ue000-\ufffd\U00010000-\U0010ffff]")
+CONTROL = re.compile("[^\t\n\r -\U0010ffff]")
 # what the grammar derives and the standard doesn't: a handle with `_`, and a line of a scalar that is an escaped break
 WIDER = re.compile(r"![A-Za-z0-9-]*_[A-Za-z0-9_-]*!|[\r\n][ \t]*\\[\r\n]")
 OF_WIDER = "underscore-in-handle", "escaped-empty-line"
@@ -109,6 +114,14 @@ def judged(program, unasked, texts):
     found = first_rules(program, texts)
     return [(text, rule, rule is None if rule in unasked else bool(recognizer.Grammar(text).forests()))
             for text, rule in zip(texts, found)]
+
+
+def is_printable(made):
+    """Whether a derivation has no C0 control character, and outside quotes each character is printable."""
+    rest = re.sub("\r\n?", "\n", made.text)
+    for quoted in sorted(made.quotes, key=len, reverse=True):
+        rest = rest.replace(quoted, "", 1)
+    return not UNPRINTABLE.search(rest) and not CONTROL.search(made.text)
 
 
 def is_right(text, rule, derived):
@@ -169,8 +182,8 @@ def main():
     if any(checked(given.program, [DEEP])):
         wrong.append("20,000 keys behind a `?`: not standard")
 
-    made = [derivations.Derivation(seed).text for seed in range(1, given.derivations + 1)]
-    made = [text for text in made if not UNPRINTABLE.search(text) and not WIDER.search(text)]
+    made = [derivations.Derivation(seed) for seed in range(1, given.derivations + 1)]
+    made = [it.text for it in made if is_printable(it) and not WIDER.search(it.text)]
     for text, found in zip(made, first_rules(given.program, made)):
         counts["derivations"] += 1
         if found:

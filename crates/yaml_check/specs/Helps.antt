@@ -2,6 +2,8 @@
 use Rattle.std.specs.Prelude.{ℕ, ◌+◌, ◌<◌, ◌≤◌, ◌≡◌, ◌⊎◌, ◌==◌, ◌||◌, Bool, true, false, if◌then◌else◌, List, length, drop, slice_index, Option, Some, None, codes}
 use Rattle.std.specs.Str.{bytes_eq}
 use Rattle.saphyr_parser.specs.Words.Marker.{Marker}
+use Rattle.saphyr_scalar.specs.Texts.{words}
+use Rattle.saphyr_scalar.specs.declared.scalar.fault.FaultText.TheVariants as fault
 use Rattle.yaml_check.specs.declared.open.Start.{Start}
 use Rattle.yaml_check.specs.declared.finding.Note.{Note}
 use Rattle.yaml_check.specs.declared.finding.Remark.{Remark}
@@ -13,43 +15,43 @@ use Rattle.yaml_check.specs.Shown.{is_end_of_line, place_index}
 -- ## By the message
 
 abbrev pub is_on_quotes : List ℕ → Bool
-is_on_quotes m = bytes_eq m (codes "invalid indentation in quoted scalar")
-    || (bytes_eq m (codes "while scanning a quoted scalar, found unexpected end of stream")
-    || bytes_eq m (codes "while scanning a quoted scalar, found unexpected document indicator"))
+is_on_quotes m = bytes_eq m (words fault.QuotedIndentation)
+    || (bytes_eq m (words fault.EndInsideQuotes)
+    || bytes_eq m (words fault.DocumentIndicatorInsideQuotes))
 
 abbrev pub is_on_escape : List ℕ → Bool
-is_on_escape m = bytes_eq m (codes "while parsing a quoted scalar, found unknown escape character")
-    || (bytes_eq m (codes "while parsing a quoted scalar, did not find expected hexadecimal number")
-    || bytes_eq m (codes "while parsing a quoted scalar, found invalid Unicode character escape code"))
+is_on_escape m = bytes_eq m (words fault.UnknownEscape)
+    || (bytes_eq m (words fault.HexadecimalDigitExpected)
+    || bytes_eq m (words fault.EscapedCodePoint))
 
 abbrev pub is_on_tab : List ℕ → Bool
-is_on_tab m = bytes_eq m (codes "tabs disallowed within this context (block indentation)")
-    || (bytes_eq m (codes "tab cannot be used as indentation")
-    || bytes_eq m (codes "tabs disallowed in this context"))
+is_on_tab m = bytes_eq m (words fault.TabInBlockIndentation)
+    || (bytes_eq m (words fault.TabAsIndentation)
+    || bytes_eq m (words fault.TabNotAllowed))
 
 abbrev pub is_on_first_character : List ℕ → Bool
 is_on_first_character m = bytes_eq m (codes "unexpected character: `@'")
     || (bytes_eq m (codes "unexpected character: ``'") || bytes_eq m (codes "unexpected character: `%'"))
 
 abbrev pub remark_on_structure : List ℕ → Option Remark
-remark_on_structure m = if bytes_eq m (codes "simple key expect ':'") then Some remark.NoColon
-    else (if bytes_eq m (codes "block sequence entries are not allowed in this context") then Some remark.SequenceLine
-    else (if bytes_eq m (codes "while parsing a block mapping, did not find expected key")
+remark_on_structure m = if bytes_eq m (words fault.KeyWithoutColon) then Some remark.NoColon
+    else (if bytes_eq m (words fault.SequenceEntryNotAllowed) then Some remark.SequenceLine
+    else (if bytes_eq m (words fault.BlockMappingKeyExpected)
     then Some remark.MappingColumn
-    else (if bytes_eq m (codes "while parsing a block collection, did not find expected '-' indicator")
+    else (if bytes_eq m (words fault.SequenceEntryExpected)
     then Some remark.SequenceColumn
-    else (if bytes_eq m (codes "while parsing node, found unknown anchor") then Some remark.UnknownAlias
+    else (if bytes_eq m (words fault.UnknownAnchor) then Some remark.UnknownAlias
     else (if is_on_first_character m then Some remark.FirstCharacter
-    else (if bytes_eq m (codes "invalid indentation") then Some remark.BracketColumn else None))))))
+    else (if bytes_eq m (words fault.InvalidIndentation) then Some remark.BracketColumn else None))))))
 
 -- the help for a fault with a message, where a colon comes before it on its line or not
 abbrev pub remark_on : Bool → List ℕ → Option Remark
 remark_on after_colon m = if is_on_quotes m then Some remark.QuotesOpen
     else (if is_on_escape m then Some remark.Escape
     else (if is_on_tab m then Some remark.Tab
-    else (if bytes_eq m (codes "mapping values are not allowed in this context")
+    else (if bytes_eq m (words fault.ValueNotAllowed)
     then Some (if after_colon then remark.ColonInText else remark.LineGoesOn)
-    else (if bytes_eq m (codes "invalid trailing content after double-quoted scalar") then Some remark.QuotesEnd
+    else (if bytes_eq m (words fault.ContentAfterQuotes) then Some remark.QuotesEnd
     else remark_on_structure m))))
 
 -- ## Places of the text

@@ -9,6 +9,7 @@ use crate::lines::{conflict_marker, has_colon, line_before, quote_before};
 use crate::open::Open;
 use crate::places::place_of_index;
 use saphyr_parser::{Marker, ScanError};
+use saphyr_scalar::FaultText;
 
 /// Help on a fault, if there is any.
 pub(crate) fn help_on(text: &[char], collections: &Open, error: &ScanError) -> Option<Note>
@@ -70,13 +71,13 @@ fn remark_on(message: &str, after_colon: bool) -> Option<Remark>
         Some(Remark::Escape)
     } else if is_on_tab(message) {
         Some(Remark::Tab)
-    } else if message == "mapping values are not allowed in this context" {
+    } else if message == FaultText::ValueNotAllowed.words() {
         Some(if after_colon {
             Remark::ColonInText
         } else {
             Remark::LineGoesOn
         })
-    } else if message == "invalid trailing content after double-quoted scalar" {
+    } else if message == FaultText::ContentAfterQuotes.words() {
         Some(Remark::QuotesEnd)
     } else {
         remark_on_structure(message)
@@ -87,19 +88,19 @@ fn remark_on(message: &str, after_colon: bool) -> Option<Remark>
 fn remark_on_structure(message: &str) -> Option<Remark>
     ensures { result ≡ spec.remark_on_structure message.now }
 {
-    if message == "simple key expect ':'" {
+    if message == FaultText::KeyWithoutColon.words() {
         Some(Remark::NoColon)
-    } else if message == "block sequence entries are not allowed in this context" {
+    } else if message == FaultText::SequenceEntryNotAllowed.words() {
         Some(Remark::SequenceLine)
-    } else if message == "while parsing a block mapping, did not find expected key" {
+    } else if message == FaultText::BlockMappingKeyExpected.words() {
         Some(Remark::MappingColumn)
-    } else if message == "while parsing a block collection, did not find expected '-' indicator" {
+    } else if message == FaultText::SequenceEntryExpected.words() {
         Some(Remark::SequenceColumn)
-    } else if message == "while parsing node, found unknown anchor" {
+    } else if message == FaultText::UnknownAnchor.words() {
         Some(Remark::UnknownAlias)
     } else if is_on_first_character(message) {
         Some(Remark::FirstCharacter)
-    } else if message == "invalid indentation" {
+    } else if message == FaultText::InvalidIndentation.words() {
         Some(Remark::BracketColumn)
     } else {
         None
@@ -117,23 +118,23 @@ fn is_on_first_character(message: &str) -> bool
 fn is_on_quotes(message: &str) -> bool
     ensures { result ≡ spec.is_on_quotes message.now }
 {
-    message == "invalid indentation in quoted scalar"
-        || message == "while scanning a quoted scalar, found unexpected end of stream"
-        || message == "while scanning a quoted scalar, found unexpected document indicator"
+    message == FaultText::QuotedIndentation.words()
+        || message == FaultText::EndInsideQuotes.words()
+        || message == FaultText::DocumentIndicatorInsideQuotes.words()
 }
 
 fn is_on_escape(message: &str) -> bool
     ensures { result ≡ spec.is_on_escape message.now }
 {
-    message == "while parsing a quoted scalar, found unknown escape character"
-        || message == "while parsing a quoted scalar, did not find expected hexadecimal number"
-        || message == "while parsing a quoted scalar, found invalid Unicode character escape code"
+    message == FaultText::UnknownEscape.words()
+        || message == FaultText::HexadecimalDigitExpected.words()
+        || message == FaultText::EscapedCodePoint.words()
 }
 
 fn is_on_tab(message: &str) -> bool
     ensures { result ≡ spec.is_on_tab message.now }
 {
-    message == "tabs disallowed within this context (block indentation)"
-        || message == "tab cannot be used as indentation"
-        || message == "tabs disallowed in this context"
+    message == FaultText::TabInBlockIndentation.words()
+        || message == FaultText::TabAsIndentation.words()
+        || message == FaultText::TabNotAllowed.words()
 }

@@ -1,14 +1,12 @@
--- What the standard asks of a text beyond the grammar (YAML 1.2.2, 5.1).
-use Rattle.std.specs.Prelude.{ℕ, Bool, ◌||◌, ◌==◌, List}
-use Rattle.saphyr_input.specs.Classes.{carriage_return, is_from, line_feed, tab}
+-- What the standard asks of a text's characters beyond the grammar (YAML 1.2.2, 5.1).
+use Rattle.std.specs.Prelude.{ℕ, Bool, ◌||◌, ◌==◌, nat_le, List}
+use Rattle.saphyr_input.specs.Classes.{carriage_return, line_feed, tab}
 use Rattle.saphyr_scalar.specs.Spelling.Tag.{AreIn}
 
--- 5.1 [1]: printable characters
-abbrev pub is_printable : ℕ → Bool
-is_printable c =
-    (c == tab) || (c == line_feed) || (c == carriage_return) || is_from 0x20 0x7e c || (c == 0x85) || is_from 0xa0 0xd7ff c
-    || is_from 0xe000 0xfffd c || is_from 0x10000 0x10ffff c
+-- 5.1 [2], 5.4 [24], [25]: characters in quotes, and breaks
+abbrev pub is_allowed : ℕ → Bool
+is_allowed c = (c == tab) || (c == line_feed) || (c == carriage_return) || nat_le 0x20 c
 
--- each character is printable
+-- each character is allowed
 abbrev pub IsStrict : List ℕ → Type 0
-IsStrict t = AreIn is_printable t
+IsStrict t = AreIn is_allowed t

@@ -1,11 +1,13 @@
 //! What the parser says of the next node. Its events decide where the grammar has a choice. Nothing is claimed of
 //! them: a wrong hint leads to a refusal, and never to a wrong derivation.
 
+use crate::front::front_before;
 use crate::goal::{Goal, Kind};
+use crate::strict::{Part, first_unprintable};
 use saphyr_parser::{
     Event, Fault, Marker, Parser, Progress, ScalarStyle, Span, StrInput, no_event,
 };
-use std::alloc::Global;
+use std::alloc::{AllocError, Global};
 
 /// What the next event is of.
 #[derive(Clone, Copy)]
@@ -89,6 +91,10 @@ pub(crate) struct Guide<'a> {
     pub depth: usize,
     /// What is open where the text can't be read on.
     pub open: Vec<Goal<'a>>,
+    /// Whether each character of the text is printable, in quotes too.
+    pub is_printable: bool,
+    /// The parts of the text where a character that isn't printable is not told, in their order.
+    parts: Vec<Part>,
 }
 
 impl<'a> Guide<'a> {
@@ -102,9 +108,32 @@ impl<'a> Guide<'a> {
             hint: Hint::NONE,
             depth: 0,
             open: Vec::new(alloc),
+            is_printable: first_unprintable(text, &[], &mut 0).is_none(),
+            parts: Vec::new(alloc),
         };
         guide.pass();
         guide
+    }
+
+    /// Leaves a part of the text out, from `start` up to `end`, if some character in it isn't printable.
+    pub(crate) fn leave_out(&mut self, start: &str, end: &str) -> Result<(), AllocError> {
+        let part = front_before(start, end).unwrap_or("");
+        if first_unprintable(part, &[], &mut 0).is_some() {
+            self.parts.push(Part {
+                start: start.len(),
+                end: end.len(),
+            })?;
+        }
+        Ok(())
+    }
+
+    /// What follows some place of the text, from the first character on that isn't printable and is in no part that was
+    /// left out. The parts before `next` end earlier.
+    pub(crate) fn next_unprintable<'b>(&self, text: &'b str, next: &mut usize) -> Option<&'b str> {
+        if self.is_printable {
+            return None;
+        }
+        first_unprintable(text, self.parts.as_slice(), next)
     }
 
     /// What the next event is.
@@ -150,8 +179,10 @@ impl<'a> Guide<'a> {
             hint: _hint,
             depth: _depth,
             open,
+            is_printable: _is_printable,
+            parts,
         } = self;
-        drop((parser, next, open));
+        drop((parser, next, open, parts));
         if is_refused {
             Some(fault)
         } else {

@@ -47,8 +47,8 @@ pub(crate) fn behind_front(text: &str, indent: usize) -> &str
     }
 }
 
-// What follows a scalar in quotes.
-fn behind_some_quoted(text: &str, indent: usize) -> Option<&str>
+/// What follows a scalar in quotes.
+pub(crate) fn behind_some_quoted(text: &str, indent: usize) -> Option<&str>
     ensures { IfSome result (λ rest. TakesOff (spec.IsSomeQuoted indent) (chars text.now)
         (chars rest.now)) }
 {

@@ -9,7 +9,6 @@ use crate::hint::{Guide, HintKind};
 use crate::place::Here;
 use crate::rule::Rule;
 use crate::stream::read_stream;
-use crate::strict::first_unprintable;
 use crate::walk::{Stuck, close};
 use std::alloc::{AllocError, Global};
 use std::mem;
@@ -92,6 +91,7 @@ fn resume<'a>(
             line = line.behind(index);
             if let Some(count) = count_left(&goals, guide, line.rest) {
                 goals.truncate(count);
+                guide.leave_out(here.rest, line.rest)?;
                 *here = line;
                 return read_on(alloc, goals, line.rest, guide);
             }
@@ -99,6 +99,7 @@ fn resume<'a>(
         guide.pass();
     }
     drop(goals);
+    guide.leave_out(here.rest, "")?;
     Ok(None)
 }
 
@@ -106,11 +107,13 @@ fn resume<'a>(
 fn push_unprintable(
     found: &mut Vec<(Rule, usize)>,
     text: &str,
+    guide: &Guide<'_>,
     most: usize,
 ) -> Result<(), AllocError> {
     let mut here = Here::new(text);
+    let mut next = 0usize;
     for _ in 0..most {
-        let Some(rest) = first_unprintable(here.rest) else {
+        let Some(rest) = guide.next_unprintable(here.rest, &mut next) else {
             break;
         };
         here = here.before(rest);
@@ -140,8 +143,11 @@ pub(crate) fn broken_rules(
         here = here.before(stuck.text);
         next = resume(alloc, &mut here, &mut guide)?;
     }
+    if let Some(stuck) = next {
+        guide.leave_out(stuck.text, "")?;
+    }
+    push_unprintable(&mut found, text, &guide, most)?;
     drop(guide);
-    push_unprintable(&mut found, text, most)?;
     found.sort_by_cached_key(|(_, count)| *count)?;
     found.truncate(most);
     Ok(found)

@@ -73,7 +73,8 @@ impl Rule {
                 "[169] l-trail-comments: what follows a block scalar is indented by spaces alone",
             Rule::CommentWithoutBlank =>
                 "[149] c-ns-flow-map-adjacent-value: a blank parts a comment from the colon before it",
-            Rule::UnprintableCharacter => "[1] c-printable: each character of a text is printable",
+            Rule::UnprintableCharacter =>
+                "[1] c-printable, [2] nb-json: each character is printable, or in quotes and above U+001F",
             Rule::EscapedEmptyLine =>
                 "[115], [116]: a later line of a quoted scalar has a character before an escaped break",
             Rule::LongKeyInFlow =>

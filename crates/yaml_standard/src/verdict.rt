@@ -13,7 +13,7 @@ use crate::place::Here;
 use crate::resume::broken_rules;
 use crate::rule::Rule;
 use crate::stream::read_stream;
-use crate::strict::first_unprintable;
+use crate::strict::is_strict;
 use saphyr_parser::{Fault, Marker, ScanError};
 use std::alloc::{AllocError, Global};
 
@@ -65,6 +65,7 @@ fn judge(alloc: Global, text: &str, lines: &str) -> Result<Verdict, AllocError>
 {
     let mut guide = Guide::new(alloc, lines);
     let stuck = read_stream(alloc, lines, &mut guide)?;
+    let unprintable = guide.next_unprintable(lines, &mut 0);
     if let Some(fault) = guide.into_fault() {
         drop(fault);
         return refusal(alloc, text);
@@ -73,13 +74,11 @@ fn judge(alloc: Global, text: &str, lines: &str) -> Result<Verdict, AllocError>
         let (rule, rest) = broken_rule(lines, stuck);
         return Ok(deviates(text, lines, rule, rest));
     }
-    match first_unprintable(text) {
-        None => Ok(Verdict::Standard),
-        Some(_) => {
-            let rest = first_unprintable(lines).unwrap_or(lines);
-            Ok(deviates(text, lines, Rule::UnprintableCharacter, rest))
-        }
+    if unprintable.is_none() && is_strict(text) {
+        return Ok(Verdict::Standard);
     }
+    let rest = unprintable.unwrap_or(lines);
+    Ok(deviates(text, lines, Rule::UnprintableCharacter, rest))
 }
 
 /// Says whether a text is YAML 1.2.2. Of one that isn't, the verdict tells the first place that shows it, and the rule

@@ -10,10 +10,11 @@ ghost use Rattle.yaml_standard.specs.declared.goal.Goal.{Goal};
 use crate::ahead::{Ahead, look_ahead};
 use crate::block::{after_marked_key, block_entries, block_entry, block_node};
 use crate::flow::{after_entry, after_key, entries, key_or_value, node, pair, value};
-use crate::front::strip;
+use crate::front::{is_past, strip};
 use crate::goal::{Goal, Goals, Step};
 use crate::hint::Guide;
-use crate::leaf::is_short_line;
+use crate::lead::behind_gap_at;
+use crate::leaf::{behind_front, behind_some_quoted, is_short_line};
 use crate::spaces::{behind_blanks, behind_eol};
 use std::alloc::{AllocError, Global};
 
@@ -109,6 +110,34 @@ fn open<'a>(goals: &mut Vec<Goal<'a>>, added: Goals<'a>) -> Result<(), AllocErro
     Ok(())
 }
 
+// The scalar in quotes that a goal's piece may begin with, and what follows it.
+fn quoted_at<'a>(goal: Goal<'_>, text: &'a str) -> Option<(&'a str, &'a str)> {
+    let leaf = match goal {
+        Goal::BlockNode(place) => behind_gap_at(text, place)?,
+        _ => text,
+    };
+    let scalar = behind_front(leaf, 0);
+    let rest = behind_some_quoted(scalar, 0)?;
+    Some((scalar, rest))
+}
+
+// Leaves the scalar in quotes out that a step took off the text, with its properties before it or the colon behind it:
+// in quotes a character need not be printable.
+fn leave_out_quoted(
+    goal: Goal<'_>,
+    text: &str,
+    behind: &str,
+    guide: &mut Guide<'_>,
+) -> Result<(), AllocError> {
+    if guide.is_printable || !is_past(text, behind) {
+        return Ok(());
+    }
+    match quoted_at(goal, text) {
+        Some((scalar, rest)) if rest.len() >= behind.len() => guide.leave_out(scalar, rest),
+        _ => Ok(()),
+    }
+}
+
 /// What follows the goal's piece, or the goal that can't be closed. The guide keeps that one and those behind it.
 pub(crate) fn close<'a>(
     alloc: Global,
@@ -136,6 +165,7 @@ pub(crate) fn close<'a>(
             }));
         };
         ahead = kept(ahead, rest, behind, added);
+        leave_out_quoted(next, rest, behind, guide)?;
         rest = behind;
         open(&mut goals, added)?;
     }

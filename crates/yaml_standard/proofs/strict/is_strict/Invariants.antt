@@ -3,7 +3,7 @@ use Rattle.std.specs.Str.{chars}
 use denote.Shadow.{shadow}
 use denote.Text.{Utf8}
 use Rattle.yaml_standard.specs.Strict.{IsStrict}
-use Rattle.yaml_standard.proofs.strict.first_unprintable.Given as goal
+use Rattle.yaml_standard.proofs.strict.is_strict.Given as goal
 
 abbrev pub invariant-loop-c : goal.invariant-loop-c
 invariant-loop-c l = record {
