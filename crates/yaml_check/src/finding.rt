@@ -180,7 +180,8 @@ impl Remark {
             Remark::QuotesEnd => {
                 "the quotes from here on end before that: is a comma, a colon or an escape missing?"
             }
-            Remark::Escape => "this is no character's escape; in single quotes a backslash stands for itself",
+            Remark::Escape =>
+                "this is no character's escape; in single quotes a backslash stands for itself",
             Remark::Tab => "indent with spaces: a tab is no indentation",
             Remark::SequenceLine => "a sequence begins on a line of its own, below its key",
             Remark::BracketColumn => "indent each line between brackets, and the closing one",
