@@ -12,6 +12,8 @@ that gate, `rt lib` in crates/saphyr_parser_c makes the library, and `rt run` in
 crates/dump_events the programs; those that are not built are left out.
 
 SAPHYR_PARSER_LIB   another folder with libsaphyr_parser_c.a and liblibc_c.a
+PYTHON              the Python from 3.8 on whose headers the package for Python is compiled with, if not python3. It
+                    then serves all of them. Without the headers, Python.h among them, it is left out
 REPOSITORY          the address at which this repository is published, as https://HOST/NAME: the page README, the
                     crate'\''s manifest, the file for pkg-config and the pages for man say it. Without it they name none
 SOURCE_DATE_EPOCH   the time of the files in the .tar.gz; if it is not set, that of the last commit'
@@ -79,6 +81,22 @@ make_libraries() {
     "${CC:-cc}" -shared -o "$shared" -Wl,--whole-archive libsaphyr_parser.a -Wl,--no-whole-archive \
         -Wl,--gc-sections,--version-script=exported,-soname="$shared",-z,defs,-z,relro,-z,now
     cd "$top"
+}
+
+# Leaves in $work the wheel of the package for Python, which has the library in it.
+make_wheel() {
+    local python=${PYTHON:-python3} include package=$work/saphyr_parser
+    include=$("$python" -c 'import sysconfig; print(sysconfig.get_path("include"))' || true)
+    if [ ! -f "$include/Python.h" ]; then
+        echo "release.sh: without the package for Python, since $python has no Python.h" >&2
+        return
+    fi
+    install -Dm644 -t "$package" python/saphyr_parser/{__init__.py,_saphyr_parser.pyi,py.typed}
+    echo '{ global: PyInit__saphyr_parser; local: *; };' >"$work/exported"
+    "${CC:-cc}" -O2 -fPIC -shared -I"$include" -I"$(dirname "$header")" python/saphyr_parser/_saphyr_parser.c \
+        "$work/libsaphyr_parser.a" -o "$package/_saphyr_parser.abi3.so" \
+        -Wl,--gc-sections,--version-script="$work/exported",-z,relro,-z,now
+    "$python" python/make_wheel.py "$package" "$version" "$work" LICENSE-MIT LICENSE-APACHE >/dev/null
 }
 
 # Puts FILE of release/ into a folder, and fills in what differs from release to release. A line that would name the
@@ -149,7 +167,7 @@ lay_out() {
     lay_out_library "$1"
     lay_out_programs "$1"
     install -Dm644 -t "$share" LICENSE-MIT LICENSE-APACHE
-    install -Dm644 -t "$share/python" python/saphyr_parser.py
+    [ ! -d "$work/saphyr_parser" ] || install -Dm644 -t "$share/python" "$work"/saphyr_parser-*.whl
     install -Dm644 -t "$share/examples" release/examples/*
     install -Dm644 -t "$share/rust" rust/{Cargo.toml,build.rs,LICENSE-MIT,LICENSE-APACHE}
     [ -z "$repository" ] || sed -i "/^license = /a repository = \"$repository\"" "$share/rust/Cargo.toml"
@@ -162,6 +180,7 @@ lay_out() {
 }
 
 make_libraries
+make_wheel
 if [ -z "$folder" ]; then
     beside=
     lay_out "$to"

@@ -35,8 +35,8 @@ class Case:
     def __init__(self, block):
         self.block = f"= {block}"
         title, *lines = block.rstrip("\n").split("\n")
-        self.name = title.removesuffix(" keep_tags")
-        self.keeps_tags = self.name != title
+        self.keeps_tags = title.endswith(" keep_tags")
+        self.name = title[: -len(" keep_tags")] if self.keeps_tags else title
         self.text, self.events, self.fault = "", [], ""
         for line in map(unescaped, lines):
             if line.startswith("< "):

@@ -6,12 +6,14 @@
 The examples of release/examples print the events of a small text: in C99 and C++17 with the archive, in C through
 `pkg-config` and through CMake with the shared library, and in Python; and the crate's example in a cargo project with a
 `[patch]`. Their lines are to be those of `dump_events`. The programs of the release's README, and the one of its page
-on the faces, print what they say. The Python module is run over all cases (tests/release/python_module.py), and the
-pages are read (release_pages.py). The shared library exports the header's calls alone. The version is the same wherever
-it stands, and so is the address of the repository, if one is given. Where there is no compiler of C, the script says
-so, and tests nothing; what else is missing it says, and tests the rest. Without that compiler or cargo it fails, unless
-the variable SKIP_MISSING is set.
+on the faces, print what they say. The package for Python is installed in an empty environment of each CPython from 3.8
+on that is found on the PATH or that pyenv has, and run there over all cases (tests/release/python_module.py). The pages
+are read (release_pages.py). The shared library exports the header's calls alone. The version is the same wherever it
+stands, and so is the address of the repository, if one is given. Where there is no compiler of C, the script says so,
+and tests nothing; what else is missing it says, and tests the rest. Without that compiler, cargo, Python's headers or
+a Python that can make an environment it fails, unless the variable SKIP_MISSING is set.
 """
+import glob
 import json
 import os
 import re
@@ -75,6 +77,11 @@ foreach(kind IN ITEMS saphyr_parser static)
     target_link_libraries(${kind} saphyr_parser::${kind})
 endforeach()
 """
+# What a Python says of itself: its version, and whether the wheel is for it.
+PROBE = """import platform, sys, sysconfig
+print("%d.%d" % sys.version_info[:2], sys.version_info >= (3, 8) and platform.python_implementation() == "CPython"
+      and not sysconfig.get_config_var("Py_GIL_DISABLED"))
+"""
 ADDRESS = "https://example.com/saphyr-parser"
 # Where the address of the repository stands: a file of the release, and what is around it there.
 ADDRESSES = {
@@ -131,6 +138,8 @@ class Release:
         self.at, self.share = f"{folder}/{name}", f"{folder}/{name}/share/saphyr_parser"
         self.rust, self.examples = f"{self.share}/rust", f"{self.share}/examples"
         self.readme, self.faces = f"{self.at}/README.md", f"{self.share}/docs/FACES.md"
+        self.wheels = glob.glob(f"{self.share}/python/*.whl")
+        os.makedirs(f"{self.share}/python", exist_ok=True)  # which pages name
         self.env, self.built = environment(folder), []
         self.wanted = self.run([dump])
 
@@ -243,33 +252,52 @@ def check_cargo(release, tools):
     del release.env["SAPHYR_PARSER_LIB"]
 
 
+def pythons():
+    """Each CPython from 3.8 on that the wheel is for, by its version: the ones on the PATH, and those of pyenv."""
+    names = [sys.executable, *map(shutil.which, ("python3", *(f"python3.{it}" for it in range(8, 30))))]
+    known = {}
+    for path in (*filter(None, names), *sorted(glob.glob(os.path.expanduser("~/.pyenv/versions/*/bin/python3")))):
+        ran = subprocess.run([path, "-c", PROBE], capture_output=True, text=True)
+        version, _, is_fit = ran.stdout.strip().partition(" ")
+        if is_fit == "True":
+            known.setdefault(version, path)
+    return known
+
+
 def check_python(release):
-    """The module, in the release and away from it: its examples, those of the pages, and all cases."""
-    away = f"{release.folder}/away"
-    os.makedirs(away)
-    shutil.copy(f"{release.share}/python/saphyr_parser.py", away)
-    ways = ({"PYTHONPATH": f"{release.share}/python"}, {"PYTHONPATH": away, "SAPHYR_PARSER_LIB": f"{release.at}/lib"})
-    for number, variables in enumerate(ways):
-        release.env.update(variables, PYTHONDONTWRITEBYTECODE="1")
-        release.check(f"Python, {number + 1}", [sys.executable, f"{release.examples}/events.py"])
-    for page, printed in ((release.readme, b"1:9 80\n1:13 443\n"), (release.faces, None)):
-        written = release.run([sys.executable, "-c", block(page, "python")])
-        wanted = printed or b"1:1 STREAM_START None\n"
-        if not isinstance(written, bytes) or not written.startswith(wanted):
-            fail(f"the program in Python of {page} prints {written!r}")
-    if not isinstance(written, bytes) or not written.endswith(b"1:13: x is no number\n"):
-        fail(f"the program in Python of {page} ends with {written!r}")
+    """The package in each Python. Returns in how many."""
+    tested = 0
+    for version, path in pythons().items() if release.wheels else ():
+        folder = f"{release.folder}/python{version}"
+        ran = subprocess.run([path, "-m", "venv", folder], env=release.env, capture_output=True, text=True)
+        if ran.returncode:
+            print(f"Python {version}: not tested, since it makes no environment")
+            continue
+        python = f"{folder}/bin/python"
+        words = [python, "-m", "pip", "install", "-q", "--no-index", "--disable-pip-version-check", *release.wheels]
+        release.call(words)
+        check_python_programs(release, version, python)
+        tested += 1
+    return tested
+
+
+def check_python_programs(release, version, python):
+    """The examples, the programs of the pages, and all cases, in a Python that has the package."""
+    release.check(f"Python {version}", [python, f"{release.examples}/events.py"])
+    for page, first, last in ((release.readme, b"1:9 80\n", b"1:13 443\n"),
+                              (release.faces, b"1:1 STREAM_START None\n", b"1:13: x is no number\n")):
+        written = release.run([python, "-c", block(page, "python")])
+        if not isinstance(written, bytes) or not written.startswith(first) or not written.endswith(last):
+            fail(f"the program of {page} in Python {version} prints {written!r}")
     write(f"{release.folder}/config.yaml", "name: x\nports: [80, y]\n")
-    ran = subprocess.run([sys.executable, f"{release.examples}/config.py", "config.yaml"], cwd=release.folder,
-                         env=release.env, capture_output=True, text=True)
-    if (ran.returncode, ran.stderr) != (1, "config.yaml:2:13: y is no port\n"):
-        fail(f"config.py says {ran.stderr}")
-    ran = subprocess.run([sys.executable, f"{ROOT}/tests/release/python_module.py"], env=release.env,
+    ran = subprocess.run([python, f"{release.examples}/config.py", "config.yaml"], cwd=release.folder, env=release.env,
                          capture_output=True, text=True)
+    if (ran.returncode, ran.stderr) != (1, "config.yaml:2:13: y is no port\n"):
+        fail(f"config.py in Python {version} says {ran.stderr}")
+    ran = subprocess.run([python, f"{ROOT}/tests/release/python_module.py"], env=release.env, capture_output=True,
+                         text=True)
     if ran.returncode:
-        fail(f"the Python module: {ran.stdout}{ran.stderr}")
-    for name in ways[1]:
-        del release.env[name]
+        fail(f"the package in Python {version}: {ran.stdout}{ran.stderr}")
 
 
 def check_checker(release):
@@ -383,13 +411,16 @@ def main():
         tools |= {"cc": compiler, "c++": shutil.which("c++") or shutil.which("clang++")}
         check_c(release, tools)
         check_checker(release)
-        check_python(release)
+        tested = check_python(release)
         for name, check in (("pkg-config", check_pkg_config), ("cmake", check_cmake), ("cargo", check_cargo)):
             if tools[name]:
                 check(release, tools)
     lacking = "".join(f"; there is no {name}" for name, tool in tools.items() if not tool)
     print(f"release: {len(release.built)} programs ({', '.join(release.built)}){lacking}; {len(FAILED)} faults")
     skipped = 0 if tools["cargo"] else without("the crate of the release", ["cargo"])
+    if not tested:
+        lacking = "Python that makes an environment" if release.wheels else "Python.h"
+        skipped |= without("the package for Python", [lacking])
     return 1 if FAILED else skipped
 
 

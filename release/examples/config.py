@@ -1,6 +1,6 @@
 """Reads a configuration, and says at which place a value is wrong.
 
-    PYTHONPATH=RELEASE/share/saphyr_parser/python python3 config.py FILE
+    python3 config.py FILE
 """
 import sys
 

@@ -1,6 +1,6 @@
 """Prints the events of a YAML text, each with its place: a line such as `1:1-1:5 =VAL :name`.
 
-    PYTHONPATH=RELEASE/share/saphyr_parser/python python3 events.py < FILE
+    python3 events.py < FILE
 """
 import sys
 

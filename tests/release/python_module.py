@@ -1,24 +1,34 @@
-"""Runs the Python module of a release over all cases: their events and places, and trees that have the same events.
+"""Runs the package of a release over all cases: their events and places, and trees that have the same events.
 
-    PYTHONPATH=RELEASE/share/saphyr_parser/python python3 tests/release/python_module.py
+    PYTHON tests/release/python_module.py [ROUNDS]
 
-Prints what is not a case's, and how many cases there are.
+PYTHON is one in which the package is installed. Prints what is not a case's, and how many cases there are. Then it
+tries what a caller may do: copies, files, limits, faults, threads, and readers that are closed half way, 200 times or
+ROUNDS, after which no memory may be lost. With ROUNDS the cases are left out, so that valgrind can watch.
 """
 import copy
+import gc
 import io
 import os
+import pathlib
 import pickle
 import sys
+import tempfile
+import threading
 
 sys.path.insert(0, os.path.dirname(os.path.dirname(os.path.abspath(__file__))))
 
 import saphyr_parser  # noqa: E402
-from refused_memory import DATA, cases_of, unescaped  # noqa: E402
+from refused_memory import DATA, ROOT, cases_of, unescaped  # noqa: E402
 from saphyr_parser import Kind, Mapping, Scalar, Sequence  # noqa: E402
 
 NAMES = " +STR -STR +DOC -DOC =ALI =VAL +SEQ -SEQ +MAP -MAP".split(" ")
 MARKS = ":'\"|>"
 ESCAPES = str.maketrans({"\\": "\\\\", "\n": "\\n", "\r": "\\r", "\t": "\\t", "\b": "\\b"})
+TREES = "a: &a [1, !t 'x', *a, !<u> y]\nb: \u00e9\nb: 3\n? [x]\n: {q: w}\n---\n- |\n  text\n- &b {k: *b}\n"
+MERGES = "a: &a {x: 1, y: 2}\nb: &b {<<: *a, y: 3}\nc: {<<: [*b, *a], z: 4}\nd: &d {<<: *d, '<<': e}"
+FAULTS = ("a: [1, {b: 'x", "a: b: c", "- *none", b"\xff", b"\xff\xfea\0", "x: [\n---\n")
+LIMITS = ({"nodes": 3}, {"depth": 1}, {"most_characters": 10})
 FAILED = []
 
 
@@ -119,7 +129,8 @@ def check_values():
         expect(load(text), ["a"], type(text).__name__)
     expect(raised(lambda: load(3))[:9], "TypeError", "a number in place of a text")
     expect(raised(lambda: load("a\n---\nb")), "ValueError: the text has 2 documents: load_all gives them", "documents")
-    expect(raised(lambda: load("[a")), "Refused: 2:1: while parsing a flow sequence, expected ',' or ']'", "a fault")
+    said = "Refused: 2:1: while parsing a flow sequence, expected ',' or ']'\n"
+    expect(raised(lambda: load("[a")), f"{said}1:1: the collection that is open there begins here", "a fault")
     expect(raised(lambda: load(b"\xff")), "NotUtf8: the text is not UTF-8", "a bad byte")
     expect(raised(lambda: load(io.BytesIO(b"\xff\xfea\0"))), "NotUtf8: the text is UTF-16, and not UTF-8", "UTF-16")
     deep = load("[" * 200 + "]" * 200)
@@ -131,11 +142,152 @@ def check_values():
     expect(len(deepest), 1, "a very deep tree")
 
 
+def check_faults():
+    """What a fault says, in which file, and which line it shows."""
+    load = saphyr_parser.load
+    with tempfile.TemporaryDirectory() as folder:
+        path = pathlib.Path(folder, "config.yaml")
+        said = f"Refused: {path}:3:1: invalid indentation in flow construct\n    name: x\n    ^\n"
+        said += f"{path}:2:8: the collection that is open there begins here"
+        for front in ("", "k: v\n" * 50_000):
+            path.write_text(f"{front}a: b\nports: [80,\nname: x\n")
+            lines = front.count("\n")
+            wanted = said.replace(":3:1", f":{lines + 3}:1").replace(":2:8", f":{lines + 2}:8")
+            expect(raised(lambda: load(path)), wanted, f"a fault of a file behind {lines} lines")
+            with open(path) as file:
+                expect(raised(lambda: load(file)), wanted, f"a fault of a file of texts behind {lines} lines")
+        path.write_bytes(b"\xff")
+        expect(raised(lambda: load(path)), f"NotUtf8: {path}: the text is not UTF-8", "a file that is not UTF-8")
+        said = f"NotUtf8: {path}: the text is not UTF-8"
+        expect(raised(lambda: saphyr_parser.check_standard(path)), said, "a file that is not UTF-8, by check_standard")
+    shown = raised(lambda: load("- x\n- a: '" + "\u4f60\t" * 500 + "' b" + "c" * 500, name="N"))
+    place, line, caret = shown.split("\n")[:3]
+    expect(place[:18], "Refused: N:2:1009:", "the place of a long line")
+    part = (line[:7], line.count("\u4f60"), line.count("c"), line[-3:], len(caret))
+    expect(part, ("    ...", 31, 94, "...", 103), "the part that is shown, of 200 columns")
+
+
+def check_calls():
+    """Limits, merge keys, and whether a text is YAML 1.2.2."""
+    for options in LIMITS:
+        for text in (TREES, io.StringIO(TREES)):
+            said = raised(lambda: list(saphyr_parser.load_all(text, **options)))
+            expect(said[:9], "TooLarge:", f"{options} of a {type(text).__name__}")
+    most = {"nodes": 16, "depth": 2, "most_characters": len(TREES)}
+    expect(len(list(saphyr_parser.load_all(TREES, **most))), 2, "limits that just suffice")
+    endless = io.BytesIO(b"'" + b"a" * 99_999)
+    shown = raised(lambda: list(saphyr_parser.events(endless, most_waiting=9_999))).split("\n")
+    expect((shown[0], len(shown[1])), ("TooLarge: 1:1: more than 9999 bytes wait for the next event", 102), "a quote")
+    tree = saphyr_parser.load(MERGES)
+    expect(saphyr_parser.merged(tree["c"]), {"x": "1", "y": "3", "z": "4"}, "merge keys")
+    expect(saphyr_parser.merged(tree["d"]), {"<<": "e"}, "a mapping that is merged into itself")
+    expect(raised(lambda: saphyr_parser.merged(saphyr_parser.load("<<: x"))),
+           "ValueError: 1:5: a key `<<` names what is no mapping", "a scalar that is merged")
+    found = saphyr_parser.check_standard(io.StringIO("a: [x\n]\n"))
+    expect((found.rule, str(found.place)), ("flow-indentation", "2:1"), "a text that is not YAML 1.2.2")
+    expect(saphyr_parser.check_standard(b"a: []"), None, "a text that is")
+    expect(raised(lambda: saphyr_parser.check_standard("- [a"))[:12], "Refused: 2:1", "a text that is refused")
+    with open(f"{ROOT}/VERSION") as file:
+        expect(saphyr_parser.__version__, file.read().strip(), "the version")
+
+
+class Raises:
+    """A file whose read fails, or returns no text, or calls its own reader."""
+
+    def __init__(self, how):
+        self.how, self.reader = how, saphyr_parser.events(self)
+
+    def read(self, size):
+        if self.how == "again":
+            next(self.reader)
+        if self.how == "raises":
+            raise OSError("gone")
+        return 5
+
+
+def one_round(number):
+    """Readers that are read, closed half way or dropped, and that end by a fault or a limit."""
+    for event in saphyr_parser.events(TREES):
+        assert event == saphyr_parser.Event(*event)
+    first, second = saphyr_parser.load_all(TREES)
+    assert first.pairs[1] == ("b", "\u00e9") and second[1]["k"] is second[1]
+    first["b"].start, first["b"].tag, first["b"].anchor = (1, 2, 3), f"!{number}", 7
+    assert str(first["b"].start) == "2:4" and first["b"].tag == f"!{number}"
+    assert len(copy.deepcopy(first)["a"]) == 4 and pickle.loads(pickle.dumps(second))[1].keys() == {"k"}
+    for text in (io.BytesIO(TREES.encode()), io.StringIO(TREES)):
+        assert len(list(saphyr_parser.load_all(text))) == 2
+    for make in (saphyr_parser.events, saphyr_parser.load_all):
+        half = make(TREES)
+        next(half)
+        half.close()
+        assert list(half) == []
+        next(make(io.StringIO(TREES)))
+    for text in FAULTS:
+        for make in (saphyr_parser.events, saphyr_parser.load_all):
+            assert raised(lambda: list(make(text))).startswith(("Refused", "NotUtf8"))
+            in_pieces = io.BytesIO(text if isinstance(text, bytes) else text.encode())
+            assert raised(lambda: list(make(in_pieces))).startswith(("Refused", "NotUtf8"))
+    for options in LIMITS:
+        assert raised(lambda: list(saphyr_parser.load_all(TREES, **options))).startswith("TooLarge")
+    for how, wanted in (("raises", OSError), ("again", ValueError), ("number", TypeError)):
+        try:
+            list(Raises(how).reader)
+            raise AssertionError(how)
+        except wanted:
+            pass
+
+
+def check_rounds(rounds):
+    """Rounds that lose memory take more blocks in each batch of them. Python's own caches grow and shrink."""
+    growths, blocks = [], 0
+    for batch in range(6):
+        for number in range(rounds // 5 + 1):
+            one_round(number)
+        gc.collect()
+        growths.append(sys.getallocatedblocks() - blocks)
+        blocks += growths[-1]
+    if min(growths[1:]) > rounds // 10:
+        expect(growths[1:], 0, f"the blocks that each of five batches of {rounds // 5} rounds takes")
+
+
+def check_threads(times):
+    """Eight threads, each with readers of its own, and then with one reader."""
+    text = "- {a: 1, b: [x, 'y']}\n" * 1000
+    wanted, events = saphyr_parser.load(text), list(saphyr_parser.events(text))
+    given, others = [], []
+
+    def read_all():
+        for _ in range(times):
+            if saphyr_parser.load(text) != wanted or list(saphyr_parser.events(text)) != events:
+                others.append("another answer")
+            saphyr_parser.check_standard(text)
+
+    def read_shared():
+        try:
+            given.extend(shared)
+        except ValueError:
+            pass
+
+    for call in (read_all, read_shared):
+        shared = saphyr_parser.events(text)
+        threads = [threading.Thread(target=call) for _ in range(8)]
+        for it in threads:
+            it.start()
+        for it in threads:
+            it.join()
+    expect((others, sorted(given) == sorted(events)), ([], True), "threads")
+
+
 def main():
-    cases = [case for file in sorted(os.listdir(DATA)) for case in cases_of(file)]
+    rounds = int(sys.argv[1]) if sys.argv[1:] else 0
+    cases = [] if rounds else [case for file in sorted(os.listdir(DATA)) for case in cases_of(file)]
     for case in cases:
         check_case(case)
     check_values()
+    check_faults()
+    check_calls()
+    check_rounds(rounds or 200)
+    check_threads(1 if rounds else 3)
     print(f"{len(cases)} cases, {len(FAILED)} answered otherwise")
     return 1 if FAILED else 0
 

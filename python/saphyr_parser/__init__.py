@@ -1,0 +1,264 @@
+"""A proved parser of YAML 1.2, for Python: its events and trees, with their places.
+
+    import saphyr_parser
+
+    for event in saphyr_parser.events("name: parser"):
+        print(event.kind.name, event.value, event.start)
+
+    config = saphyr_parser.load("ports: [80, 443]")
+    for port in config["ports"]:
+        print(int(port), port.start.line)
+
+A text is a `str`, or bytes in UTF-8, or a `pathlib.Path`, or a file. The last two are read in pieces. Scalars are not
+resolved: `80`, `true` and `"80"` are texts, whose `style` and `tag` tell how they are written.
+
+The library is proved. This package and its extension, which calls the library, are tested.
+"""
+import enum
+import os
+import unicodedata
+from typing import Any, Callable, Dict, Iterable, Iterator, List, NamedTuple, Optional, Tuple, Type, Union
+
+from . import _saphyr_parser
+from ._saphyr_parser import Mapping, Scalar, Sequence
+
+__all__ = ["Deviation", "Event", "Kind", "Mapping", "Marker", "Node", "NotUtf8", "Refused", "Scalar", "Sequence",
+           "Style", "Text", "TooLarge", "check_standard", "events", "load", "load_all", "merged"]
+__version__: str = _saphyr_parser.VERSION
+
+COLUMNS = 200  # of a fault's line, at most
+MERGE_TAGS = (None, "tag:yaml.org,2002:merge")
+
+Node = Union[Scalar, Sequence, Mapping]
+# Or any other file: what has a `read` that returns a `str` or bytes, and nothing at the end.
+Text = Union[str, bytes, bytearray, memoryview, "os.PathLike[str]", "_saphyr_parser.File"]
+
+
+class Kind(enum.IntEnum):
+    """What happens in a text."""
+    STREAM_START = 1
+    STREAM_END = 2
+    DOCUMENT_START = 3
+    DOCUMENT_END = 4
+    ALIAS = 5
+    SCALAR = 6
+    SEQUENCE_START = 7
+    SEQUENCE_END = 8
+    MAPPING_START = 9
+    MAPPING_END = 10
+
+
+class Style(enum.IntEnum):
+    """How a scalar is written."""
+    PLAIN = 0
+    SINGLE_QUOTED = 1
+    DOUBLE_QUOTED = 2
+    LITERAL = 3
+    FOLDED = 4
+
+
+class Marker(NamedTuple):
+    """A place: how many characters of the text are before it, its line from 1, and how many of the line are before."""
+    index: int
+    line: int
+    column: int
+
+    def __str__(self) -> str:
+        """The line and the column, both from 1, as an editor counts them."""
+        return f"{self.line}:{self.column + 1}"
+
+
+class Event(NamedTuple):
+    """An event. What doesn't belong to its kind is None, False or 0."""
+    kind: Kind
+    start: Marker
+    end: Marker
+    value: Optional[str] = None  # of a scalar
+    style: Optional[Style] = None  # of a scalar
+    tag: Optional[str] = None  # of a scalar or a collection
+    anchor: int = 0  # the number of a node's anchor. Of an alias, that of the anchor that it names
+    is_explicit: bool = False  # whether a document begins with `---`
+
+
+class Deviation(NamedTuple):
+    """Where a text that is read departs from YAML 1.2.2: the name of the rule that it breaks, and what that asks."""
+    place: Marker
+    rule: str
+    sentence: str
+
+
+class _Fault(ValueError):
+    """`reason` says why, and `start` where. `name` is the text's, `opened` where the innermost collection begins that is
+    open by the events so far, and `shown` the line with a caret below the place. Each of these three may be None."""
+
+    def __init__(self, reason: str, start: Marker, name: Optional[str] = None, opened: Optional[Marker] = None,
+                 shown: Optional[str] = None) -> None:
+        super().__init__(reason, start, name, opened, shown)
+        self.reason, self.start, self.name, self.opened, self.shown = reason, start, name, opened, shown
+
+    def __str__(self) -> str:
+        lines = [f"{_place(self.name, self.start)}: {self.reason}"]
+        if self.shown:
+            lines.append(self.shown)
+        if self.opened:
+            lines.append(f"{_place(self.name, self.opened)}: the collection that is open there begins here")
+        return "\n".join(lines)
+
+
+class Refused(_Fault):
+    """The text is refused."""
+
+
+class TooLarge(_Fault):
+    """The text has more of something than a limit allows."""
+
+
+class NotUtf8(ValueError):
+    """The bytes are not UTF-8. `is_utf16` tells whether they begin as UTF-16 does. `name` is the text's, or None."""
+
+    def __init__(self, is_utf16: bool, name: Optional[str] = None) -> None:
+        super().__init__(is_utf16, name)
+        self.is_utf16, self.name = is_utf16, name
+
+    def __str__(self) -> str:
+        said = "the text is UTF-16, and not UTF-8" if self.is_utf16 else "the text is not UTF-8"
+        return f"{self.name}: {said}" if self.name else said
+
+
+def _place(name: Optional[str], place: Marker) -> str:
+    return f"{name}:{place}" if name else str(place)
+
+
+def _width(character: str) -> int:
+    """How many columns it takes."""
+    if unicodedata.combining(character):
+        return 0
+    return 2 if unicodedata.east_asian_width(character) in "WF" else 1
+
+
+def _fitting(characters: Iterable[str], columns: int) -> Tuple[str, int]:
+    """As many of the characters as fit, without what could move the cursor, and how many columns they take."""
+    taken, used = "", 0
+    for it in characters:
+        it = it if it.isprintable() else " " if it == "\t" else "\N{REPLACEMENT CHARACTER}"
+        if used + _width(it) > columns:
+            break
+        taken, used = taken + it, used + _width(it)
+    return taken, used
+
+
+def _shown(column: int, before: str, behind: str) -> Optional[str]:
+    """A line with a caret, of what stands before and behind a place of this column; or None if that is nothing. Behind
+    a last line without an end the place is in a line of its own."""
+    if len(before) > column or not (before + behind).strip():
+        return None
+    indent, dots = "    ", "..."
+    most = (COLUMNS - len(indent + 2 * dots)) // 2
+    left, used = _fitting(reversed(before), most)
+    right, _ = _fitting(behind, most)
+    head = indent + (dots if len(left) < column else "")
+    return f"{head}{left[::-1]}{right}{dots if len(right) < len(behind) else ''}\n{' ' * (len(head) + used)}^"
+
+
+def _fault(is_too_large: bool, reason: str, start: Marker, name: Optional[str], opened: Optional[Marker],
+           line: Optional[Tuple[str, str]]) -> _Fault:
+    """What the extension raises. It tells the line as the parts before and behind the place."""
+    fault: Type[_Fault] = TooLarge if is_too_large else Refused
+    return fault(reason, start, name, opened, line and _shown(start.column, *line))
+
+
+_saphyr_parser.use(Kind, Style, Marker, Event, _fault, NotUtf8)
+
+
+def _read(text: Text, name: Optional[str], *how: Any) -> Any:
+    """A reader of the text. A file that is opened here is closed by the reader."""
+    close: Optional[Callable[[], None]] = None
+    if isinstance(text, os.PathLike):
+        name = name or os.fspath(text)
+        text = open(text, "rb", buffering=0)
+        close = text.close
+    elif name is None:
+        name = getattr(text, "name", None)
+    return _saphyr_parser.read(text, name if isinstance(name, str) else None, close, *how)
+
+
+def events(text: Text, *, keep_tags: bool = False, name: Optional[str] = None, most_characters: Optional[int] = None,
+           most_waiting: Optional[int] = None) -> Iterator[Event]:
+    """Yields the events of a text, and raises `Refused`, `NotUtf8` or `TooLarge` where they end by a fault.
+
+    With `keep_tags` the prefixes of tags that a document declares hold for later documents too; in YAML they don't.
+    `name` is what faults call the text; of a file it is the file's. `most_characters` is how many the text may have,
+    and `most_waiting` how many bytes of a file may wait for an event.
+    """
+    return _read(text, name, False, keep_tags, None, None, most_characters, most_waiting)
+
+
+def load_all(text: Text, *, keep_tags: bool = False, name: Optional[str] = None, nodes: Optional[int] = None,
+             depth: Optional[int] = None, most_characters: Optional[int] = None,
+             most_waiting: Optional[int] = None) -> Iterator[Node]:
+    """Yields the root of each document: a `Scalar`, a `Sequence` or a `Mapping`.
+
+    An alias is the node that it names, the same object. So a collection may be an entry of itself. A document may have
+    `nodes` nodes, of which an alias is one, and `depth` collections open at once. The rest is as for `events`.
+    """
+    return _read(text, name, True, keep_tags, nodes, depth, most_characters, most_waiting)
+
+
+def load(text: Text, **options: Any) -> Optional[Node]:
+    """The root of a text's one document, or None if there is no document. Raises ValueError if there are more.
+
+    The options are those of `load_all`.
+    """
+    roots = list(load_all(text, **options))
+    if len(roots) > 1:
+        raise ValueError(f"the text has {len(roots)} documents: load_all gives them")
+    return roots[0] if roots else None
+
+
+def check_standard(text: Text, *, name: Optional[str] = None) -> Optional[Deviation]:
+    """None if the text is YAML 1.2.2, or where it departs from it. Raises `Refused` or `NotUtf8` if it isn't read."""
+    if isinstance(text, os.PathLike):
+        name = name or os.fspath(text)
+        with open(text, "rb") as file:
+            text = file.read()
+    elif hasattr(text, "read"):
+        name = name or getattr(text, "name", None)
+        text = text.read(-1)
+    answer = _saphyr_parser.standard(text)
+    if isinstance(answer, int):
+        for _ in events(text, name=name):
+            pass
+        raise MemoryError("there is no memory to tell whether the text is YAML 1.2.2")
+    return answer and Deviation(*answer)
+
+
+def _is_merge(key: Node) -> bool:
+    return isinstance(key, Scalar) and key == "<<" and key.style is Style.PLAIN and key.tag in MERGE_TAGS
+
+
+def merged(mapping: Mapping) -> Dict[Node, Node]:
+    """The items of a mapping as a new dict, with those of the mappings that its keys `<<` name, as in YAML 1.1.
+
+    A mapping's own items count before those of what it names, and among these the first. YAML 1.2 has no such keys.
+    """
+    items: Dict[Node, Node] = {}
+    seen, waiting = set(), [mapping]
+    while waiting:
+        it = waiting.pop()
+        if it in seen:
+            continue
+        seen.add(it)
+        own: Dict[Node, Node] = {}
+        named: List[Mapping] = []
+        for key, value in it.pairs:
+            if _is_merge(key):
+                named += value if isinstance(value, Sequence) else [value]
+            else:
+                own[key] = value
+        for one in named:
+            if not isinstance(one, Mapping):
+                raise ValueError(f"{one.start}: a key `<<` names what is no mapping")
+        for key, value in own.items():
+            items.setdefault(key, value)
+        waiting += reversed(named)
+    return items
