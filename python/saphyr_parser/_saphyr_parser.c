@@ -351,8 +351,8 @@ static void free_reader(PyObject *self) {
 
 /* The line of the character at `index`, as the part before it and the part from it on, or None if it is gone. */
 static PyObject *line_of(const char *at, size_t len, size_t passed, size_t index) {
-    static const char mark[] = "\xEF\xBB\xBF"; /* of the byte order, which the library doesn't count */
-    size_t here = !passed && len >= 3 && !memcmp(at, mark, 3) ? 3 : 0, first = here;
+    static const char mark[] = "\xEF\xBB\xBF"; /* of the byte order, which counts for no column */
+    size_t here = 0, first = !passed && len >= 3 && !memcmp(at, mark, 3) ? 3 : 0;
     if (index < passed) {
         Py_RETURN_NONE;
     }
