@@ -17,21 +17,37 @@ The library is proved. This package and its extension, which calls the library, 
 import enum
 import os
 import unicodedata
-from typing import Any, Callable, Dict, Iterable, Iterator, List, NamedTuple, Optional, Tuple, Type, Union
+from typing import (Any, Callable, Dict, Iterable, Iterator, List, NamedTuple, Optional, Protocol, Tuple, Type, TypeVar,
+                    Union)
 
 from . import _saphyr_parser
 from ._saphyr_parser import Mapping, Scalar, Sequence
 
-__all__ = ["Deviation", "Event", "Kind", "Mapping", "Marker", "Node", "NotUtf8", "Refused", "Scalar", "Sequence",
-           "Style", "Text", "TooLarge", "check_standard", "events", "load", "load_all", "merged"]
+__all__ = ["Deviation", "Event", "File", "Kind", "Mapping", "Marker", "Node", "NotUtf8", "Reader", "Refused", "Scalar",
+           "Sequence", "Style", "Text", "TooLarge", "check_standard", "events", "load", "load_all", "merged"]
 __version__: str = _saphyr_parser.VERSION
 
 COLUMNS = 200  # of a fault's line, at most
 MERGE_TAGS = (None, "tag:yaml.org,2002:merge")
 
+T = TypeVar("T", covariant=True)
+
+
+class File(Protocol):
+    """What is read in pieces: each call returns the next part of the text, and an empty one at its end."""
+
+    def read(self, size: int, /) -> Union[str, bytes, bytearray, memoryview]: ...
+
+
+class Reader(Iterator[T], Protocol[T]):
+    """What `events` and `load_all` return."""
+
+    def close(self) -> None:
+        """Ends the reading, and frees the parser."""
+
+
 Node = Union[Scalar, Sequence, Mapping]
-# Or any other file: what has a `read` that returns a `str` or bytes, and nothing at the end.
-Text = Union[str, bytes, bytearray, memoryview, "os.PathLike[str]", "_saphyr_parser.File"]
+Text = Union[str, bytes, bytearray, memoryview, "os.PathLike[str]", File]
 
 
 class Kind(enum.IntEnum):
@@ -183,7 +199,7 @@ def _read(text: Text, name: Optional[str], *how: Any) -> Any:
 
 
 def events(text: Text, *, keep_tags: bool = False, name: Optional[str] = None, most_characters: Optional[int] = None,
-           most_waiting: Optional[int] = None) -> Iterator[Event]:
+           most_waiting: Optional[int] = None) -> Reader[Event]:
     """Yields the events of a text, and raises `Refused`, `NotUtf8` or `TooLarge` where they end by a fault.
 
     With `keep_tags` the prefixes of tags that a document declares hold for later documents too; in YAML they don't.
@@ -195,7 +211,7 @@ def events(text: Text, *, keep_tags: bool = False, name: Optional[str] = None, m
 
 def load_all(text: Text, *, keep_tags: bool = False, name: Optional[str] = None, nodes: Optional[int] = None,
              depth: Optional[int] = None, most_characters: Optional[int] = None,
-             most_waiting: Optional[int] = None) -> Iterator[Node]:
+             most_waiting: Optional[int] = None) -> Reader[Node]:
     """Yields the root of each document: a `Scalar`, a `Sequence` or a `Mapping`.
 
     An alias is the node that it names, the same object. So a collection may be an entry of itself. A document may have

@@ -1,11 +1,8 @@
-from typing import Any, Callable, Dict, List, Optional, Protocol, Tuple, Type, Union
+from typing import Any, Callable, Dict, List, Optional, Tuple, Type, Union
 
 from . import Event, Kind, Marker, Node, NotUtf8, Style
 
 VERSION: str
-
-class File(Protocol):
-    def read(self, size: int, /) -> Union[str, bytes, bytearray, memoryview]: ...
 
 class _Node:
     start: Marker

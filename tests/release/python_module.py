@@ -15,6 +15,7 @@ import pickle
 import sys
 import tempfile
 import threading
+import typing
 
 sys.path.insert(0, os.path.dirname(os.path.dirname(os.path.abspath(__file__))))
 
@@ -189,6 +190,9 @@ def check_calls():
     expect((found.rule, str(found.place)), ("flow-indentation", "2:1"), "a text that is not YAML 1.2.2")
     expect(saphyr_parser.check_standard(b"a: []"), None, "a text that is")
     expect(raised(lambda: saphyr_parser.check_standard("- [a"))[:12], "Refused: 2:1", "a text that is refused")
+    # an older one can't evaluate `os.PathLike[str]`
+    for call in ("events", "load_all", "load", "check_standard", "merged") if sys.version_info > (3, 9) else ():
+        expect("return" in typing.get_type_hints(getattr(saphyr_parser, call)), True, f"the hints of {call}")
     with open(f"{ROOT}/VERSION") as file:
         expect(saphyr_parser.__version__, file.read().strip(), "the version")
 
