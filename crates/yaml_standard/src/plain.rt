@@ -110,8 +110,8 @@ fn behind_word_gap(text: &str, indent: usize) -> Option<&str>
     }
 }
 
-// What follows a gap and a lone `-`, which is no word inside flow.
-fn behind_lone_dash(text: &str, in_flow: bool, indent: usize) -> Option<&str>
+/// What follows a gap and a lone `-`, which is no word inside flow.
+pub(crate) fn behind_lone_dash(text: &str, in_flow: bool, indent: usize) -> Option<&str>
     ensures { IfSome result (λ rest. TakesOff (grammar.IsLoneDash indent) (chars text.now)
         (chars rest.now)) }
 {
