@@ -64,6 +64,7 @@ SEVERAL = (
     ("- &a\n\tb\n- c\n", "2 tab-behind-property"),
     ("- [a\n\t\n a]\n- {a\n\t\n a}\n", "2 tab-in-empty-line, 5 tab-in-empty-line"),
     ("- &a\n '\n'\n- &a\n \"b\nc\"\n", "3 quoted-indentation, 6 quoted-indentation"),
+    ("- - &a\n   \"b\n  c\"\n  - d\n", "3 quoted-indentation"),
     (": {a\n%}\nk: {a\n%b}\n", "2 flow-indentation, 4 flow-indentation"),
     ("?\n \"\n\"\n", "3 quoted-indentation"),
     ("?\n &a\n\ta\n", "3 tab-behind-property"),

@@ -5,7 +5,7 @@ ghost use Rattle.std.specs.Str.{chars};
 ghost use Rattle.yaml_standard.specs.Goals as spec;
 ghost use Rattle.yaml_standard.specs.Leads.{IsWhatComes};
 ghost use Rattle.yaml_standard.specs.Leaves.{IsLeaf};
-ghost use Rattle.yaml_standard.specs.Takes.{TakesOff};
+ghost use Rattle.yaml_standard.specs.Takes.{IfTakes};
 ghost use Rattle.yaml_standard.specs.declared.goal.Goal.TheVariants as variant;
 ghost use Rattle.yaml_standard.specs.declared.goal.Kind.TheVariants.{Mapping};
 
@@ -30,8 +30,7 @@ const MOST_OPEN: usize = 255;
 // What follows a leaf in flow style. One without content is its properties alone: what comes next may be a document
 // marker.
 fn behind_leaf_in_block(text: &str, indent: usize, is_empty: bool) -> Option<&str>
-    ensures { IfSome result (λ rest. TakesOff (IsLeaf false indent) (chars text.now)
-        (chars rest.now)) }
+    ensures { IfTakes (IsLeaf false indent) (chars text.now) result }
 {
     if is_empty {
         return behind_properties(text, indent);

@@ -146,7 +146,7 @@ fn broken_behind<'a>(lines: &'a str, text: &'a str, token: &'a str) -> Option<(R
 /// quotes that has its properties on a line before.
 fn broken_between<'a>(lines: &'a str, text: &'a str, token: &'a str) -> Option<(Rule, &'a str)> {
     let tab = first_tab(blank_lines_before(lines, text), token);
-    let column = last_line(text, token).len().saturating_sub(token.len());
+    let column = last_line(lines, token).len().saturating_sub(token.len());
     match tab {
         Some(tab) if has_break(tab, token) => Some((Rule::TabInEmptyLine, tab)),
         _ => match (broken_node(token, 0), tab) {
