@@ -8,6 +8,8 @@ PROGRAM is the one that `rt ci` or `rt run` leaves in crates/check_yaml/out. The
 - each text of the table of docs/YAML.md on what the parser reads though the standard doesn't derive it: it has to be
   refused by the rule of its row, and each two of them that are documents of one text by both rules;
 - texts whose entries break rules: each that is named beside the text has to be told, and no other;
+- what docs/CHECK_YAML.md shows of a text: that is what is printed;
+- if valgrind is there, a deep text that deviates, at two sizes: twice the text takes twice the instructions;
 - 20,000 keys behind a `?` in one another, and as many comments behind the last: standard, in time that is linear;
 - COUNT (2,000) random derivations of derivations.py: each has to be standard;
 - all texts of up to N (3) tokens of each alphabet of recognizer.py: each that the parser reads has to be standard
@@ -27,9 +29,11 @@ import multiprocessing
 import os
 import pathlib
 import re
+import shutil
 import subprocess
 import sys
 import tempfile
+import textwrap
 
 import derivations
 import recognizer
@@ -56,6 +60,20 @@ SEVERAL = (
      "1 block-indicator-in-flow, 7 prefix-without-blank, 8 question-in-flow"),
     ("&a\n!<>\n---\n!<> k: v\n&a[]: b\n", "2 empty-verbatim-tag, 4 empty-verbatim-tag, 5 bracket-behind-property"),
     ("- \tk: >\n- |\n- a\n---\n? [?]\n", "1 tab-indentation, 5 question-in-flow"),
+    ("- a\n\t\n b\n- c\n", "2 tab-in-empty-line"),
+    ("- &a\n\tb\n- c\n", "2 tab-behind-property"),
+    ("- [a\n\t\n a]\n- {a\n\t\n a}\n", "2 tab-in-empty-line, 5 tab-in-empty-line"),
+    ("- &a\n '\n'\n- &a\n \"b\nc\"\n", "3 quoted-indentation, 6 quoted-indentation"),
+    ("- - &a\n   \"b\n  c\"\n  - d\n", "3 quoted-indentation"),
+    (": {a\n%}\nk: {a\n%b}\n", "2 flow-indentation, 4 flow-indentation"),
+    ("?\n \"\n\"\n", "3 quoted-indentation"),
+    ("?\n &a\n\ta\n", "3 tab-behind-property"),
+    ("K: [?]\nL:\n  - &a\n  \tb\n", "1 question-in-flow, 4 tab-behind-property"),
+    ("-\n [?]\n-\n-\n [?]\n", "2 question-in-flow, 5 question-in-flow"),
+    ("-\n - [?]\n-\n -a:\n-\n b\n", "2 question-in-flow"),
+    ("a: [?]\n-a: [?]\n?\n: v\n", "1 question-in-flow, 2 question-in-flow"),
+    (" a:\n  ? [?]\n b: [?]\n", "2 question-in-flow, 3 question-in-flow"),
+    ("- [a - ]\n- [a -\n ]\n- {a - : b}\n", "1 lone-dash-in-flow, 2 lone-dash-in-flow, 4 lone-dash-in-flow"),
 )
 # Keys behind a `?` in one another, and as many comments behind the last: each key asks for what comes next.
 DEEP = "? " * 20000 + "a\n" + ("# " + "x" * 38 + "\n") * 20000
@@ -101,6 +119,28 @@ def checked(program, texts):
                     errors[told["file"]].append((told["rule"], told["line"]))
             found += errors.values()
     return found
+
+
+def is_shown(program):
+    """Whether docs/CHECK_YAML.md shows what is printed of a text."""
+    with open(f"{TOP}/docs/CHECK_YAML.md", encoding="utf-8") as page:
+        shown = textwrap.dedent(re.search(r"(?m)^    a\.yaml:1:.*\n    (.*)\n.*\^\n", page.read())[0])
+    with tempfile.TemporaryDirectory() as folder:
+        with open(f"{folder}/a.yaml", "w", encoding="utf-8") as file:
+            file.write(shown.split("\n")[1] + "\n")
+        ran = subprocess.run([os.path.abspath(program), "--standard", "a.yaml"], capture_output=True, cwd=folder)
+    return ran.stdout.decode() == shown
+
+
+def instructions(program, count):
+    """How many instructions it takes to read on behind a deviation that is as deep as so many collections. Entries in
+    brackets, comments and an entry of the innermost collection follow."""
+    text = "- " * count + "[?,\n" + "  " * count + "a," * count + "]\n" + "#\n" * count + "  " * (count - 1) + "- [?]\n"
+    ran = subprocess.run(["valgrind", "--tool=callgrind", "--callgrind-out-file=/dev/null", program, "--standard", "-"],
+                         input=text.encode(), capture_output=True)
+    if ran.returncode != 1:
+        sys.exit(f"status {ran.returncode}: {ran.stderr.decode()}")
+    return int(re.search(rb"Collected : (\d+)", ran.stderr)[1])
 
 
 def first_rules(program, texts):
@@ -178,6 +218,11 @@ def main():
         counts["of several entries"] += 1
         if ", ".join(f"{line} {rule}" for rule, line in found) != rules:
             wrong.append(f"{text!r}: {found} in place of {rules}")
+
+    if not is_shown(given.program):
+        wrong.append("docs/CHECK_YAML.md shows what is not printed")
+    if shutil.which("valgrind") and instructions(given.program, 4000) > 2.5 * instructions(given.program, 2000):
+        wrong.append("more than twice the instructions for twice the text behind a deviation")
 
     if any(checked(given.program, [DEEP])):
         wrong.append("20,000 keys behind a `?`: not standard")

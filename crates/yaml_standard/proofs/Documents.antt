@@ -9,7 +9,7 @@ use Rattle.saphyr_scanner.specs.Limits.{most_open}
 use Rattle.yaml_laws.specs.Grammar.BlockNodes.{IsBlockNode, Position}
 use Rattle.yaml_laws.specs.Grammar.Yaml.{IsDocumentPrefix, IsDocumentSuffix, IsMarkBehindFiller, end_prefix, has_marker, mark_prefix, no_prefix}
 use Rattle.yaml_standard.specs.Directives.{AreSomeDirectives}
-use Rattle.yaml_standard.specs.Documents.{ComesBehind, ContinuesPrefix, ContinuesStream, IsDocumentNode, IsEndLine, IsFront, IsPrefixPart, IsSomeDocument, IsSomeStream, place_of_content}
+use Rattle.yaml_standard.specs.Documents.{AreSomeFurther, ComesBehind, ContinuesDocuments, ContinuesPrefix, IsDocumentNode, IsEndLine, IsFront, IsPrefixPart, IsSomeDocument, IsSomeStream, place_of_content}
 use Rattle.yaml_standard.specs.Takes.{TakesOff, TakesBefore}
 use Rattle.yaml_standard.proofs.Pieces.{known_then, nothing_taken, taken_so, then, then_known}
 use Rattle.yaml_standard.proofs.Separation.{shorter_by}
@@ -158,22 +158,29 @@ pub behind_suffix : (a b c : List ℕ) → TakesOff (AreMany IsMarkBehindFiller)
     → ComesBehind a true c
 behind_suffix a b c m s forest docs = (m.piece, b, m.is, inr (s.piece, c, s.is, docs, s.cut), m.cut)
 
-pub stream_begins : (a b : List ℕ) → TakesBefore IsDocumentPrefix a b → ContinuesStream a true b
-stream_begins a b t forest docs = (forest, (t.piece, b, t.is, docs, t.cut))
+pub stream_begins : (a b : List ℕ) → TakesBefore IsDocumentPrefix a b → AreSomeFurther true b → IsSomeStream a
+stream_begins a b t docs = (docs.0, (t.piece, b, t.is, docs.1, t.cut))
 
-pub stream_continues : (start a b c d : List ℕ) (free next_free : Bool) → ContinuesStream start free a
+pub documents_begin : (a : List ℕ) (free : Bool) → ContinuesDocuments free a free a
+documents_begin a free docs = docs
+
+pub documents_continue : (start a b c d : List ℕ) (first free next_free : Bool) → ContinuesDocuments first start free a
     → TakesOff IsFiller a b → TakesBefore (IsSomeDocument free) b c → ComesBehind c next_free d
-    → ContinuesStream start next_free d
-stream_continues start a b c d free next_free f filler document behind forest docs =
-    f (document.is.0 ∷ forest) (
-      filler.piece,
-      document.piece,
-      c,
-      filler.is,
-      document.is.1,
-      behind forest docs,
-      filler.cut ∙ ap (λ x. filler.piece ++ x) document.cut,
+    → ContinuesDocuments first start next_free d
+documents_continue start a b c d first free next_free f filler document behind docs =
+    f (
+      document.is.0 ∷ docs.0,
+      (
+        filler.piece,
+        document.piece,
+        c,
+        filler.is,
+        document.is.1,
+        behind docs.0 docs.1,
+        filler.cut ∙ ap (λ x. filler.piece ++ x) document.cut,
+      ),
     )
 
-pub stream_ends : (start a : List ℕ) (free : Bool) → ContinuesStream start free a → IsLastFiller a → IsSomeStream start
-stream_ends start a free f last = f [] last
+pub documents_end : (start a : List ℕ) (first free : Bool) → ContinuesDocuments first start free a → IsLastFiller a
+    → AreSomeFurther first start
+documents_end start a first free f last = f ([], last)

@@ -42,6 +42,9 @@ IsSomeDocument free t behind = (d : Document) × IsDocument (IsBlockNode most_op
 abbrev pub AreFurther : Forest → Bool → List ℕ → Type 0
 AreFurther forest free t = AreDocuments (IsBlockNode most_open) forest free t
 
+abbrev pub AreSomeFurther : Bool → List ℕ → Type 0
+AreSomeFurther free t = (forest : Forest) × AreFurther forest free t
+
 abbrev pub IsSomeStream : List ℕ → Type 0
 IsSomeStream t = (forest : Forest) × IsStream (IsBlockNode most_open) forest t
 
@@ -50,6 +53,6 @@ abbrev pub ComesBehind : List ℕ → Bool → List ℕ → Type 0
 ComesBehind start free now =
     (forest : Forest) → AreFurther forest free now → IsBehindDocument (AreFurther forest) start
 
--- Documents at `now` make a stream of the text from `start` on.
-abbrev pub ContinuesStream : List ℕ → Bool → List ℕ → Type 0
-ContinuesStream start free now = (forest : Forest) → AreFurther forest free now → IsSomeStream start
+-- With documents at `now`, where one is free or not, there are documents from `start` on.
+abbrev pub ContinuesDocuments : Bool → List ℕ → Bool → List ℕ → Type 0
+ContinuesDocuments first start free now = AreSomeFurther free now → AreSomeFurther first start

@@ -5,12 +5,11 @@ ghost use Rattle.std.specs.Str.{chars};
 ghost use Rattle.yaml_standard.specs.Goals as spec;
 ghost use Rattle.yaml_standard.specs.Leads.{IsWhatComes};
 ghost use Rattle.yaml_standard.specs.Leaves.{IsLeaf};
-ghost use Rattle.yaml_standard.specs.Takes.{TakesOff};
+ghost use Rattle.yaml_standard.specs.Takes.{IfTakes};
 ghost use Rattle.yaml_standard.specs.declared.goal.Goal.TheVariants as variant;
 ghost use Rattle.yaml_standard.specs.declared.goal.Kind.TheVariants.{Mapping};
 
 use crate::ahead::{Ahead, look_ahead};
-use crate::block_lines::first;
 use crate::block_scalar::behind_scalar_in_block;
 use crate::flow::{behind_key, collection};
 use crate::front::{front_before, is_past, strip};
@@ -21,9 +20,9 @@ use crate::lead::{
     indent_at, is_start, least_column,
 };
 use crate::leaf::behind_leaf;
+use crate::lines::is_mark;
 use crate::spaces::{behind_eol, behind_separation};
 use crate::tag::behind_properties;
-use saphyr_input::char_traits::is_blank_or_breakz;
 
 /// How many flow collections may be open at once.
 const MOST_OPEN: usize = 255;
@@ -31,8 +30,7 @@ const MOST_OPEN: usize = 255;
 // What follows a leaf in flow style. One without content is its properties alone: what comes next may be a document
 // marker.
 fn behind_leaf_in_block(text: &str, indent: usize, is_empty: bool) -> Option<&str>
-    ensures { IfSome result (λ rest. TakesOff (IsLeaf false indent) (chars text.now)
-        (chars rest.now)) }
+    ensures { IfTakes (IsLeaf false indent) (chars text.now) result }
 {
     if is_empty {
         return behind_properties(text, indent);
@@ -132,19 +130,11 @@ pub(crate) fn block_entries<'a>(
     ))
 }
 
-// A `?` before a blank, a break or the end.
-fn is_mark(text: &str) -> bool {
-    match strip(text, '?') {
-        None => false,
-        Some(rest) => is_blank_or_breakz(first(rest)),
-    }
-}
-
 // A pair of a mapping.
 fn block_pair<'a>(column: usize, text: &'a str, guide: &mut Guide<'a>) -> Option<Step<'a>>
     ensures { spec.Steps (variant.BlockEntry Mapping column) (chars text.now) result }
 {
-    if is_mark(text) {
+    if is_mark(text, '?') {
         let rest = strip(text, '?')?;
         let ahead = look_ahead(rest)?;
         if ahead.has_tab {

@@ -3,7 +3,7 @@ ghost use Rattle.std.specs.Prelude.{◌≡◌, IfSome, IsTrue, slice_index};
 ghost use Rattle.std.specs.Str.{chars};
 ghost use Rattle.scalar_laws.specs.Spelling.Spaces.{AreMany};
 ghost use Rattle.yaml_standard.specs.BlockLines as spec;
-ghost use Rattle.yaml_standard.specs.Takes.{TakesOff};
+ghost use Rattle.yaml_standard.specs.Takes.{IfTakes, TakesOff};
 
 use crate::front::{behind_some, is_document_marker, is_end, split, strip};
 use crate::spaces::behind_spaces;
@@ -35,8 +35,7 @@ pub(crate) fn split_spaces(text: &str, most: usize) -> (usize, &str)
 
 // What follows an empty line.
 fn behind_empty_line(text: &str, indentation: usize) -> Option<&str>
-    ensures { IfSome result (λ rest. TakesOff (spec.IsEmptyBlockLine indentation) (chars text.now)
-        (chars rest.now)) }
+    ensures { IfTakes (spec.IsEmptyBlockLine indentation) (chars text.now) result }
 {
     let (_count, rest) = split_spaces(text, indentation);
     strip(rest, '\n')

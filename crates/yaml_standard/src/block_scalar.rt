@@ -4,7 +4,7 @@ ghost use Rattle.std.specs.Prelude.{IfSome, IsTrue};
 ghost use Rattle.std.specs.Str.{chars};
 ghost use Rattle.yaml_standard.specs.BlockLines.{MayFollowEmpty};
 ghost use Rattle.yaml_standard.specs.BlockScalars as spec;
-ghost use Rattle.yaml_standard.specs.Takes.{TakesOff, TakesBefore};
+ghost use Rattle.yaml_standard.specs.Takes.{IfTakes, IfTakesBefore};
 
 use crate::block_body::{behind_content_body, behind_empty_body, indentation};
 use crate::block_end::end_column;
@@ -51,8 +51,7 @@ fn behind_body(text: &str, indent: usize, indentation: usize, is_given: bool) ->
 
 /// What follows a block scalar, from `|` or `>` on.
 pub(crate) fn behind_block_scalar(text: &str, indent: usize) -> Option<&str>
-    ensures { IfSome result (λ rest. TakesBefore (spec.IsSomeBlockScalar indent) (chars text.now)
-        (chars rest.now)) }
+    ensures { IfTakesBefore (spec.IsSomeBlockScalar indent) (chars text.now) result }
 {
     let (mark, header) = split(text)?;
     if mark != '|' && mark != '>' {
@@ -68,8 +67,7 @@ pub(crate) fn behind_block_scalar(text: &str, indent: usize) -> Option<&str>
 
 // What follows the properties of a scalar and the gap after them, or all where there are none.
 fn behind_scalar_front(text: &str, indent: usize) -> Option<&str>
-    ensures { IfSome result (λ rest. TakesOff (spec.IsSomeScalarFront indent) (chars text.now)
-        (chars rest.now)) }
+    ensures { IfTakes (spec.IsSomeScalarFront indent) (chars text.now) result }
 {
     match behind_properties(text, indent) {
         None => Some(text),
@@ -79,8 +77,7 @@ fn behind_scalar_front(text: &str, indent: usize) -> Option<&str>
 
 /// What follows a block scalar with its properties, from behind the gap of a node in block style on.
 pub(crate) fn behind_scalar_in_block(text: &str, indent: usize) -> Option<&str>
-    ensures { IfSome result (λ rest. TakesBefore (spec.IsSomeScalarInBlock indent) (chars text.now)
-        (chars rest.now)) }
+    ensures { IfTakesBefore (spec.IsSomeScalarInBlock indent) (chars text.now) result }
 {
     let scalar = behind_scalar_front(text, indent)?;
     behind_block_scalar(scalar, indent)

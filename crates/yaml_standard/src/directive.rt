@@ -5,7 +5,7 @@ ghost use Rattle.saphyr_input.specs.Classes as class;
 ghost use Rattle.saphyr_input.specs.Indicators.{exclamation_mark};
 ghost use Rattle.yaml_standard.specs.Directives as spec;
 ghost use Rattle.yaml_standard.specs.Percent.{AreSomeOf};
-ghost use Rattle.yaml_standard.specs.Takes.{TakesOff};
+ghost use Rattle.yaml_standard.specs.Takes.{IfTakes, TakesOff};
 
 use crate::declared::Declared;
 use crate::front::{behind_run, behind_some, split, strip, text_before};
@@ -70,23 +70,21 @@ impl CharSet for PrefixSet {
 
 /// What follows a uri, which has a character.
 pub(crate) fn behind_uri(text: &str) -> Option<&str>
-    ensures { IfSome result (λ rest. TakesOff (AreSomeOf class.is_uri_char) (chars text.now)
-        (chars rest.now)) }
+    ensures { IfTakes (AreSomeOf class.is_uri_char) (chars text.now) result }
 {
     behind_some_decoded::<UriSet>(text)
 }
 
 /// What follows the suffix of a tag, which has a character.
 pub(crate) fn behind_suffix(text: &str) -> Option<&str>
-    ensures { IfSome result (λ rest. TakesOff (AreSomeOf class.is_tag_char) (chars text.now)
-        (chars rest.now)) }
+    ensures { IfTakes (AreSomeOf class.is_tag_char) (chars text.now) result }
 {
     behind_some_decoded::<SuffixSet>(text)
 }
 
 // What follows a prefix.
 fn behind_prefix(text: &str) -> Option<&str>
-    ensures { IfSome result (λ rest. TakesOff spec.IsSomePrefix (chars text.now) (chars rest.now)) }
+    ensures { IfTakes spec.IsSomePrefix (chars text.now) result }
 {
     let rest = behind_character::<PrefixSet>(text)?;
     Some(behind_decoded::<UriSet>(rest))
@@ -120,8 +118,7 @@ fn behind_digit(text: &str) -> Option<&str>
 
 // What follows the first nine digits, or those that there are.
 fn behind_number(text: &str) -> Option<&str>
-    ensures { IfSome result (λ rest. TakesOff spec.IsSomeNumber (chars text.now)
-        (chars rest.now)) }
+    ensures { IfTakes spec.IsSomeNumber (chars text.now) result }
 {
     let mut rest = behind_digit(text)?;
     for _ in 1..9usize {
@@ -146,8 +143,7 @@ fn behind_version_name(text: &str) -> Option<&str>
 
 /// What follows a version directive.
 pub(crate) fn behind_version(text: &str) -> Option<&str>
-    ensures { IfSome result (λ rest. TakesOff spec.IsSomeVersion (chars text.now)
-        (chars rest.now)) }
+    ensures { IfTakes spec.IsSomeVersion (chars text.now) result }
 {
     let blanks = behind_version_name(text)?;
     let major = behind_some_blanks(blanks)?;
@@ -171,8 +167,7 @@ pub(crate) fn tag_prefix(text: &str) -> Option<(&str, &str)>
 
 // What follows a name of reserved directives.
 fn behind_reserved_name(text: &str) -> Option<&str>
-    ensures { IfSome result (λ rest. TakesOff spec.IsReservedName (chars text.now)
-        (chars rest.now)) }
+    ensures { IfTakes spec.IsReservedName (chars text.now) result }
 {
     let rest = behind_some::<NonSpace>(text)?;
     let name = text_before(text, rest);
@@ -197,8 +192,7 @@ fn behind_parameters(text: &str) -> &str
 
 /// What follows a reserved directive, up to the end of its line.
 pub(crate) fn behind_reserved(text: &str) -> Option<&str>
-    ensures { IfSome result (λ rest. TakesOff spec.IsSomeReserved (chars text.now)
-        (chars rest.now)) }
+    ensures { IfTakes spec.IsSomeReserved (chars text.now) result }
 {
     let name = strip(text, '%')?;
     let rest = behind_reserved_name(name)?;

@@ -5,7 +5,7 @@ ghost use Rattle.saphyr_input.specs.Places.{is_document_indicator};
 ghost use Rattle.scalar_laws.specs.Spelling.Spaces.{AreMany};
 ghost use Rattle.yaml_laws.specs.Grammar.Yaml as grammar;
 ghost use Rattle.yaml_standard.specs.Documents as spec;
-ghost use Rattle.yaml_standard.specs.Takes.{TakesOff, TakesBefore};
+ghost use Rattle.yaml_standard.specs.Takes.{IfTakes, IfTakesBefore, TakesBefore, TakesOff};
 
 use crate::directive::behind_directives;
 use crate::front::{is_document_marker, split, strip};
@@ -14,8 +14,7 @@ use std::alloc::{AllocError, Global};
 
 /// What follows a byte order mark, with filler before it.
 fn behind_mark(text: &str) -> Option<&str>
-    ensures { IfSome result (λ rest. TakesOff grammar.IsMarkBehindFiller (chars text.now)
-        (chars rest.now)) }
+    ensures { IfTakes grammar.IsMarkBehindFiller (chars text.now) result }
 {
     let mark = behind_filler(text);
     strip(mark, '\u{feff}')
@@ -32,8 +31,7 @@ fn behind_three(text: &str, c: char) -> Option<&str>
 
 /// What follows a `...` line, with filler before it.
 fn behind_end_line(text: &str) -> Option<&str>
-    ensures { IfSome result (λ rest. TakesBefore spec.IsEndLine (chars text.now)
-        (chars rest.now)) }
+    ensures { IfTakesBefore spec.IsEndLine (chars text.now) result }
 {
     let dots = behind_filler(text);
     let end = behind_three(dots, '.')?;
@@ -42,8 +40,7 @@ fn behind_end_line(text: &str) -> Option<&str>
 
 /// What follows a byte order mark or a `...` line, with filler before it.
 fn behind_prefix_part(text: &str) -> Option<&str>
-    ensures { IfSome result (λ rest. TakesBefore spec.IsPrefixPart (chars text.now)
-        (chars rest.now)) }
+    ensures { IfTakesBefore spec.IsPrefixPart (chars text.now) result }
 {
     match behind_mark(text) {
         None => behind_end_line(text),
@@ -64,8 +61,7 @@ pub(crate) fn behind_document_prefix(text: &str) -> &str
 
 /// What follows a `...` line behind a document, and what may come before the next one.
 pub(crate) fn behind_document_suffix(text: &str) -> Option<&str>
-    ensures { IfSome result (λ rest. TakesBefore grammar.IsDocumentSuffix (chars text.now)
-        (chars rest.now)) }
+    ensures { IfTakesBefore grammar.IsDocumentSuffix (chars text.now) result }
 {
     let rest = behind_end_line(text)?;
     Some(behind_document_prefix(rest))

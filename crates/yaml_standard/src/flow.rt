@@ -4,7 +4,7 @@ ghost use Rattle.std.specs.Prelude.{◌≡◌, ℕ, List, IfSome, IsTrue};
 ghost use Rattle.std.specs.Str.{chars};
 ghost use Rattle.yaml_standard.specs.FlowParts as part;
 ghost use Rattle.yaml_standard.specs.Goals as spec;
-ghost use Rattle.yaml_standard.specs.Takes.{TakesOff};
+ghost use Rattle.yaml_standard.specs.Takes.{IfTakes, TakesOff};
 ghost use Rattle.yaml_standard.specs.declared.goal.Goal.TheVariants as variant;
 
 use crate::ahead::look_ahead;
@@ -133,8 +133,7 @@ pub(crate) fn after_entry<'a>(
 
 // What follows a `?` and the separation after it.
 fn behind_mark(text: &str, indent: usize) -> Option<&str>
-    ensures { IfSome result (λ rest. TakesOff (part.IsQuestionInFlow indent) (chars text.now)
-        (chars rest.now)) }
+    ensures { IfTakes (part.IsQuestionInFlow indent) (chars text.now) result }
 {
     let start = strip(text, '?')?;
     let rest = behind_separation(start, indent);

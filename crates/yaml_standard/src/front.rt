@@ -3,7 +3,7 @@ ghost use Rattle.std.specs.Prelude.{◌≡◌, ◌≢◌, ℕ, List, [], ◌∷�
 ghost use Rattle.std.specs.Str.{chars};
 ghost use Rattle.saphyr_input.specs.Places.{is_document_indicator};
 ghost use Rattle.saphyr_scalar.specs.Spelling.Tag.{AreIn};
-ghost use Rattle.yaml_standard.specs.Takes.{TakesOff};
+ghost use Rattle.yaml_standard.specs.Takes.{IfTakes, TakesOff};
 
 use saphyr_input::{CharSet, Input, StrInput};
 
@@ -80,8 +80,7 @@ pub(crate) fn behind_run<C: CharSet>(text: &str) -> &str
 
 /// What follows the characters of a set, of which one at least comes first.
 pub(crate) fn behind_some<C: CharSet>(text: &str) -> Option<&str>
-    ensures { IfSome result (λ rest. TakesOff (λ t. (t ≢ []) × AreIn C.test t) (chars text.now)
-        (chars rest.now)) }
+    ensures { IfTakes (λ t. (t ≢ []) × AreIn C.test t) (chars text.now) result }
 {
     let (first, rest) = split(text)?;
     if C::has(first) {

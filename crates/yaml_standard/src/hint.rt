@@ -146,6 +146,11 @@ impl<'a> Guide<'a> {
         self.next.1.start
     }
 
+    /// Where the next event ends.
+    pub(crate) fn end(&self) -> Marker {
+        self.next.1.end
+    }
+
     /// Goes on to the event after it.
     pub(crate) fn pass(&mut self) {
         self.depth = match self.hint.kind {

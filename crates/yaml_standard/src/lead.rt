@@ -6,7 +6,7 @@ ghost use Rattle.yaml_laws.specs.Grammar.BlockNodes as grammar;
 ghost use Rattle.yaml_standard.specs.Goals.{least_at, position};
 ghost use Rattle.yaml_standard.specs.Leads as spec;
 ghost use Rattle.yaml_standard.specs.NodeProperties.{IsSomeProperties};
-ghost use Rattle.yaml_standard.specs.Takes.{TakesOff};
+ghost use Rattle.yaml_standard.specs.Takes.{IfTakes, TakesOff};
 
 use crate::block_lines::split_spaces;
 use crate::front::{split, strip};
@@ -53,8 +53,7 @@ fn is_behind_colon(place: Place) -> bool
 
 /// What follows the gap before a node.
 pub(crate) fn behind_gap_at(text: &str, place: Place) -> Option<&str>
-    ensures { IfSome result (λ rest. TakesOff (grammar.IsGapAt (position place)) (chars text.now)
-        (chars rest.now)) }
+    ensures { IfTakes (grammar.IsGapAt (position place)) (chars text.now) result }
 {
     let indent = indent_at(place)?;
     match behind_gap(text, indent) {
@@ -88,8 +87,7 @@ fn is_lone_tab(text: &str, place: Place) -> bool
 
 /// What follows the gap before a node in flow style.
 pub(crate) fn behind_flow_gap(text: &str, place: Place) -> Option<&str>
-    ensures { IfSome result (λ rest. TakesOff (spec.IsFlowGap (position place) (chars text.now))
-        (chars text.now) (chars rest.now)) }
+    ensures { IfTakes (spec.IsFlowGap (position place) (chars text.now)) (chars text.now) result }
 {
     if is_lone_tab(text, place) {
         return None;
@@ -99,8 +97,7 @@ pub(crate) fn behind_flow_gap(text: &str, place: Place) -> Option<&str>
 
 /// What follows filler and the indentation of a further entry.
 pub(crate) fn behind_entry_indentation(text: &str, column: usize) -> Option<&str>
-    ensures { IfSome result (λ rest. TakesOff (grammar.IsEntryIndentation column) (chars text.now)
-        (chars rest.now)) }
+    ensures { IfTakes (grammar.IsEntryIndentation column) (chars text.now) result }
 {
     let line = behind_filler(text);
     behind_spaces(line, column)
@@ -108,8 +105,7 @@ pub(crate) fn behind_entry_indentation(text: &str, column: usize) -> Option<&str
 
 /// What follows the colon of a value, with the filler and the indentation before it.
 pub(crate) fn behind_value_mark(text: &str, column: usize) -> Option<&str>
-    ensures { IfSome result (λ rest. TakesOff (grammar.IsValueMark column) (chars text.now)
-        (chars rest.now)) }
+    ensures { IfTakes (grammar.IsValueMark column) (chars text.now) result }
 {
     let line = behind_filler(text);
     let mark = behind_spaces(line, column)?;
@@ -118,8 +114,7 @@ pub(crate) fn behind_value_mark(text: &str, column: usize) -> Option<&str>
 
 // What follows an anchor or a tag, or both.
 fn behind_some_properties(text: &str, indent: usize, both: bool) -> Option<&str>
-    ensures { IfSome result (λ rest. TakesOff (IsSomeProperties indent) (chars text.now)
-        (chars rest.now)) }
+    ensures { IfTakes (IsSomeProperties indent) (chars text.now) result }
 {
     if both {
         return behind_properties(text, indent);
@@ -132,8 +127,7 @@ fn behind_some_properties(text: &str, indent: usize, both: bool) -> Option<&str>
 
 // What follows properties and the end of their line.
 fn behind_properties_line(text: &str, indent: usize, both: bool) -> Option<&str>
-    ensures { IfSome result (λ rest. TakesOff (spec.IsPropertiesLine indent) (chars text.now)
-        (chars rest.now)) }
+    ensures { IfTakes (spec.IsPropertiesLine indent) (chars text.now) result }
 {
     let end = behind_some_properties(text, indent, both)?;
     behind_line_end(end)
@@ -142,8 +136,7 @@ fn behind_properties_line(text: &str, indent: usize, both: bool) -> Option<&str>
 // What follows the properties of a block collection, if it has some, and the end of their line. A second property on
 // the next line may be that of the first key.
 fn behind_front_line(text: &str, place: Place, has_properties: bool) -> Option<&str>
-    ensures { IfSome result (λ rest. TakesOff (spec.IsFrontLine (position place)) (chars text.now)
-        (chars rest.now)) }
+    ensures { IfTakes (spec.IsFrontLine (position place)) (chars text.now) result }
 {
     if !has_properties {
         return behind_line_end(text);

@@ -3,7 +3,7 @@
 ghost use Rattle.std.specs.Prelude.{◌≡◌, ◌++◌, ℕ, List, true, false, IfSome, IsTrue};
 ghost use Rattle.std.specs.Str.{chars};
 ghost use Rattle.yaml_standard.specs.Leaves as spec;
-ghost use Rattle.yaml_standard.specs.Takes.{TakesOff};
+ghost use Rattle.yaml_standard.specs.Takes.{IfTakes, TakesOff};
 ghost use Rattle.yaml_standard.specs.declared.leaf.Class.TheVariants.{Quoted};
 
 use crate::front::{front_before, is_past, split, strip};
@@ -49,8 +49,7 @@ pub(crate) fn behind_front(text: &str, indent: usize) -> &str
 
 /// What follows a scalar in quotes.
 pub(crate) fn behind_some_quoted(text: &str, indent: usize) -> Option<&str>
-    ensures { IfSome result (λ rest. TakesOff (spec.IsSomeQuoted indent) (chars text.now)
-        (chars rest.now)) }
+    ensures { IfTakes (spec.IsSomeQuoted indent) (chars text.now) result }
 {
     match behind_quoted(text, Quote::Single, indent) {
         None => behind_quoted(text, Quote::Double, indent),
@@ -79,8 +78,7 @@ fn classed_leaf(text: &str, in_flow: bool, indent: usize) -> Option<(Class, &str
 
 /// What follows an alias, a scalar with its properties, or properties alone.
 pub(crate) fn behind_leaf(text: &str, in_flow: bool, indent: usize) -> Option<&str>
-    ensures { IfSome result (λ rest. TakesOff (spec.IsLeaf in_flow indent) (chars text.now)
-        (chars rest.now)) }
+    ensures { IfTakes (spec.IsLeaf in_flow indent) (chars text.now) result }
 {
     let (_, rest) = classed_leaf(text, in_flow, indent)?;
     Some(rest)
@@ -136,8 +134,7 @@ fn behind_key_separation(text: &str, on_line: bool, indent: usize) -> &str
 
 // What follows the separation before the colon of a leaf.
 fn behind_leaf_separation(text: &str, class: Class, on_line: bool, indent: usize) -> Option<&str>
-    ensures { IfSome result (λ rest. TakesOff (spec.IsBehindLeaf class on_line indent)
-        (chars text.now) (chars rest.now)) }
+    ensures { IfTakes (spec.IsBehindLeaf class on_line indent) (chars text.now) result }
 {
     let rest = behind_key_separation(text, on_line, indent);
     match class {
@@ -153,8 +150,7 @@ fn behind_plain_key_and_colon(
     indent: usize,
     on_line: bool,
 ) -> Option<&str>
-    ensures { IfSome result (λ rest. TakesOff (spec.IsKeyAndColon in_flow indent on_line false)
-        (chars text.now) (chars rest.now)) }
+    ensures { IfTakes (spec.IsKeyAndColon in_flow indent on_line false) (chars text.now) result }
 {
     let content = behind_front(text, indent);
     let key = behind_plain_key(content, in_flow, indent)?;

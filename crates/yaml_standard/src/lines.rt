@@ -1,8 +1,17 @@
 //! Breaks and tabs between two places of a text, of which the second is behind the first.
 
-use crate::front::{front_before, split};
+use crate::block_lines::first;
+use crate::front::{front_before, split, strip};
 use crate::spaces::behind_all_spaces;
-use saphyr_input::char_traits::is_blank;
+use saphyr_input::char_traits::{is_blank, is_blank_or_breakz};
+
+/// Whether the mark of an entry comes first, before a blank, a break or the end.
+pub(crate) fn is_mark(text: &str, mark: char) -> bool {
+    match strip(text, mark) {
+        None => false,
+        Some(rest) => is_blank_or_breakz(first(rest)),
+    }
+}
 
 /// Whether a break comes between two places.
 pub(crate) fn has_break(start: &str, rest: &str) -> bool {

@@ -1,9 +1,9 @@
 //! Names of anchors, handles of tags, and the numbers of a version (YAML 1.2.2, 6.8 and 6.9).
-ghost use Rattle.std.specs.Prelude.{IfSome, refl};
+ghost use Rattle.std.specs.Prelude.{refl};
 ghost use Rattle.std.specs.Str.{chars};
 ghost use Rattle.saphyr_input.specs.Classes as class;
 ghost use Rattle.saphyr_scalar.specs.Spelling.Tag as spec;
-ghost use Rattle.yaml_standard.specs.Takes.{TakesOff};
+ghost use Rattle.yaml_standard.specs.Takes.{IfTakes};
 
 use crate::front::{behind_run, behind_some, split, strip};
 use saphyr_input::CharSet;
@@ -29,7 +29,7 @@ impl CharSet for AnchorSet {
 
 /// What follows the name of an anchor, or of an alias, from behind its indicator on.
 pub(crate) fn behind_anchor_name(text: &str) -> Option<&str>
-    ensures { IfSome result (λ rest. TakesOff spec.IsAnchorName (chars text.now) (chars rest.now)) }
+    ensures { IfTakes spec.IsAnchorName (chars text.now) result }
 {
     behind_some::<AnchorSet>(text)
 }
@@ -52,7 +52,7 @@ pub(crate) fn underscore_in_handle(text: &str) -> Option<&str> {
 
 /// What follows a handle: `!`, or the longer one where it is there.
 pub(crate) fn behind_handle(text: &str) -> Option<&str>
-    ensures { IfSome result (λ rest. TakesOff spec.IsHandleText (chars text.now) (chars rest.now)) }
+    ensures { IfTakes spec.IsHandleText (chars text.now) result }
 {
     if underscore_in_handle(text).is_some() {
         return None;

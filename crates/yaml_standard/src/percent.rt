@@ -3,7 +3,7 @@ ghost use Rattle.std.specs.Prelude.{IfSome};
 ghost use Rattle.std.specs.Str.{chars};
 ghost use Rattle.saphyr_scalar.specs.Spelling.Tag.{IsByteEscape, AreByteEscapes};
 ghost use Rattle.yaml_standard.specs.Percent as spec;
-ghost use Rattle.yaml_standard.specs.Takes.{TakesOff};
+ghost use Rattle.yaml_standard.specs.Takes.{IfTakes, TakesOff};
 
 use crate::front::{split, strip};
 use crate::quoted::is_scalar_value;
@@ -30,8 +30,7 @@ fn escaped_byte(text: &str) -> Option<(u32, &str)>
 // What follows the escapes of these bytes.
 #[tactic(auto, using(crate::proofs::Escapes::no_bytes))]
 fn behind_bytes<'a>(text: &'a str, bytes: &[u8]) -> Option<&'a str>
-    ensures { IfSome result (λ rest. TakesOff (AreByteEscapes bytes.now) (chars text.now)
-        (chars rest.now)) }
+    ensures { IfTakes (AreByteEscapes bytes.now) (chars text.now) result }
 {
     let mut rest = text;
     for i in 0..bytes.len() {
@@ -63,7 +62,7 @@ fn guessed_character(text: &str) -> Option<char> {
 
 // What follows the escapes of a character.
 fn behind_escapes(text: &str) -> Option<&str>
-    ensures { IfSome result (λ rest. TakesOff spec.IsEscaped (chars text.now) (chars rest.now)) }
+    ensures { IfTakes spec.IsEscaped (chars text.now) result }
 {
     let c = guessed_character(text)?;
     if !is_scalar_value(u32::from(c)) {
@@ -76,8 +75,7 @@ fn behind_escapes(text: &str) -> Option<&str>
 
 // What follows a character of a set, as it is or by escapes.
 pub(crate) fn behind_character<C: CharSet>(text: &str) -> Option<&str>
-    ensures { IfSome result (λ rest. TakesOff (spec.IsOneOf C.test) (chars text.now)
-        (chars rest.now)) }
+    ensures { IfTakes (spec.IsOneOf C.test) (chars text.now) result }
 {
     let (first, rest) = split(text)?;
     if first == '%' {
@@ -102,8 +100,7 @@ pub(crate) fn behind_decoded<C: CharSet>(text: &str) -> &str
 
 /// What follows such characters, if some come first.
 pub(crate) fn behind_some_decoded<C: CharSet>(text: &str) -> Option<&str>
-    ensures { IfSome result (λ rest. TakesOff (spec.AreSomeOf C.test) (chars text.now)
-        (chars rest.now)) }
+    ensures { IfTakes (spec.AreSomeOf C.test) (chars text.now) result }
 {
     let rest = behind_character::<C>(text)?;
     Some(behind_decoded::<C>(rest))

@@ -53,6 +53,14 @@ impl<'a> Here<'a> {
         here
     }
 
+    /// The start of the next line, or the end.
+    pub(crate) fn behind_line(self) -> Here<'a> {
+        match self.rest.split_once("\n") {
+            None => self.before(""),
+            Some((_line, behind)) => self.before(behind),
+        }
+    }
+
     /// The place before `rest`, which is what follows some place of the text, or this one if it is no earlier.
     pub(crate) fn before(self, rest: &str) -> Here<'a> {
         let front = front_before(self.rest, rest).unwrap_or("");

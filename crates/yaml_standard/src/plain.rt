@@ -1,6 +1,6 @@
 //! Plain scalars (YAML 1.2.2, 7.3.3), of one line or more. `indent` is the first column to the right of the enclosing
 //! block collection, and 0 at the root.
-ghost use Rattle.std.specs.Prelude.{◌≡◌, ◌==◌, codes, IfSome};
+ghost use Rattle.std.specs.Prelude.{◌≡◌, ◌==◌, codes};
 ghost use Rattle.std.specs.Str.{chars};
 ghost use Rattle.saphyr_input.specs.Classes.{is_one_of};
 ghost use Rattle.saphyr_input.specs.Indicators.{colon};
@@ -8,7 +8,7 @@ ghost use Rattle.saphyr_scalar.specs.Spelling.Tag.{AreIn};
 ghost use Rattle.scalar_laws.specs.Spelling.Spaces.{AreMany};
 ghost use Rattle.yaml_laws.specs.Grammar.FlowScalars as grammar;
 ghost use Rattle.yaml_standard.specs.PlainParts as spec;
-ghost use Rattle.yaml_standard.specs.Takes.{TakesOff};
+ghost use Rattle.yaml_standard.specs.Takes.{IfTakes, TakesOff};
 
 use crate::front::{is_document_marker, split, strip};
 use crate::spaces::{behind_all_spaces, behind_blanks, behind_line_prefix, behind_some_blanks};
@@ -47,8 +47,7 @@ fn begins_before_safe(c: char) -> bool
 
 // What follows the first word of a scalar.
 fn behind_first_word(text: &str, in_flow: bool) -> Option<&str>
-    ensures { IfSome result (λ rest. TakesOff (grammar.IsFirstWord in_flow) (chars text.now)
-        (chars rest.now)) }
+    ensures { IfTakes (grammar.IsFirstWord in_flow) (chars text.now) result }
 {
     let (first, second) = split(text)?;
     if begins_before_safe(first) {
@@ -62,8 +61,7 @@ fn behind_first_word(text: &str, in_flow: bool) -> Option<&str>
 
 // What follows an empty line.
 fn behind_empty_line(text: &str, indent: usize) -> Option<&str>
-    ensures { IfSome result (λ rest. TakesOff (grammar.IsEmptyLine indent) (chars text.now)
-        (chars rest.now)) }
+    ensures { IfTakes (grammar.IsEmptyLine indent) (chars text.now) result }
 {
     let spaces = behind_all_spaces(text);
     if let Some(line) = strip(spaces, '\n') {
@@ -87,8 +85,7 @@ fn behind_empty_lines(text: &str, indent: usize) -> &str
 
 // What follows a line's end, empty lines, and what comes before the next line's content, which is no document marker.
 fn behind_folded_gap(text: &str, indent: usize) -> Option<&str>
-    ensures { IfSome result (λ rest. TakesOff (grammar.IsFoldedGap indent) (chars text.now)
-        (chars rest.now)) }
+    ensures { IfTakes (grammar.IsFoldedGap indent) (chars text.now) result }
 {
     let blanks = behind_blanks(text);
     let line = strip(blanks, '\n')?;
@@ -101,8 +98,7 @@ fn behind_folded_gap(text: &str, indent: usize) -> Option<&str>
 
 // What follows a gap between words.
 fn behind_word_gap(text: &str, indent: usize) -> Option<&str>
-    ensures { IfSome result (λ rest. TakesOff (grammar.IsWordGap indent) (chars text.now)
-        (chars rest.now)) }
+    ensures { IfTakes (grammar.IsWordGap indent) (chars text.now) result }
 {
     match behind_folded_gap(text, indent) {
         None => behind_some_blanks(text),
@@ -110,10 +106,9 @@ fn behind_word_gap(text: &str, indent: usize) -> Option<&str>
     }
 }
 
-// What follows a gap and a lone `-`, which is no word inside flow.
-fn behind_lone_dash(text: &str, in_flow: bool, indent: usize) -> Option<&str>
-    ensures { IfSome result (λ rest. TakesOff (grammar.IsLoneDash indent) (chars text.now)
-        (chars rest.now)) }
+/// What follows a gap and a lone `-`, which is no word inside flow.
+pub(crate) fn behind_lone_dash(text: &str, in_flow: bool, indent: usize) -> Option<&str>
+    ensures { IfTakes (grammar.IsLoneDash indent) (chars text.now) result }
 {
     if !in_flow {
         return None;
@@ -140,8 +135,7 @@ fn behind_dashes(text: &str, in_flow: bool, indent: usize) -> &str
 
 // What follows lone dashes, or none, and a gap.
 fn behind_dashes_and_gap(text: &str, in_flow: bool, indent: usize) -> Option<&str>
-    ensures { IfSome result (λ rest. TakesOff (spec.IsBeforeWord indent) (chars text.now)
-        (chars rest.now)) }
+    ensures { IfTakes (spec.IsBeforeWord indent) (chars text.now) result }
 {
     let dashes = behind_dashes(text, in_flow, indent);
     behind_word_gap(dashes, indent)
@@ -149,8 +143,7 @@ fn behind_dashes_and_gap(text: &str, in_flow: bool, indent: usize) -> Option<&st
 
 // What follows a word after others.
 fn behind_further_word(text: &str, in_flow: bool, indent: usize) -> Option<&str>
-    ensures { IfSome result (λ rest. TakesOff (grammar.IsFurtherWord in_flow indent)
-        (chars text.now) (chars rest.now)) }
+    ensures { IfTakes (grammar.IsFurtherWord in_flow indent) (chars text.now) result }
 {
     let word = behind_dashes_and_gap(text, in_flow, indent)?;
     behind_word(word, in_flow)
@@ -170,8 +163,7 @@ fn behind_further_words(text: &str, in_flow: bool, indent: usize) -> &str
 
 /// What follows a plain scalar, the longest that is there. It ends before a line that begins with a document marker.
 pub(crate) fn behind_plain(text: &str, in_flow: bool, indent: usize) -> Option<&str>
-    ensures { IfSome result (λ rest. TakesOff (grammar.IsPlain in_flow indent) (chars text.now)
-        (chars rest.now)) }
+    ensures { IfTakes (grammar.IsPlain in_flow indent) (chars text.now) result }
 {
     let first = behind_first_word(text, in_flow)?;
     Some(behind_further_words(first, in_flow, indent))
@@ -179,8 +171,7 @@ pub(crate) fn behind_plain(text: &str, in_flow: bool, indent: usize) -> Option<&
 
 // What follows all but the last of the colons that come first.
 fn behind_other_colons(text: &str) -> Option<&str>
-    ensures { IfSome result (λ rest. TakesOff (AreIn (λ c. c == colon)) (chars text.now)
-        (chars rest.now)) }
+    ensures { IfTakes (AreIn (λ c. c == colon)) (chars text.now) result }
 {
     let mut last = text;
     let mut behind = strip(text, ':')?;
@@ -193,8 +184,7 @@ fn behind_other_colons(text: &str) -> Option<&str>
 
 // What follows a `-`, a `?` or a `:`, and all but the last of the colons after it.
 fn behind_mark_and_colons(text: &str) -> Option<&str>
-    ensures { IfSome result (λ rest. TakesOff spec.AreMarkAndColons (chars text.now)
-        (chars rest.now)) }
+    ensures { IfTakes spec.AreMarkAndColons (chars text.now) result }
 {
     let (mark, rest) = split(text)?;
     if begins_before_safe(mark) {
@@ -207,8 +197,7 @@ fn behind_mark_and_colons(text: &str) -> Option<&str>
 /// the scalar of [`behind_plain`], and where a lone `-`, `?` or `:` with a colon after it is the last word, or the only
 /// one. The key's colon is the last of the colons.
 pub(crate) fn behind_plain_key(text: &str, in_flow: bool, indent: usize) -> Option<&str>
-    ensures { IfSome result (λ rest. TakesOff (grammar.IsPlainKey in_flow indent)
-        (chars text.now) (chars rest.now)) }
+    ensures { IfTakes (grammar.IsPlainKey in_flow indent) (chars text.now) result }
 {
     let Some(plain) = behind_plain(text, in_flow, indent) else {
         return behind_mark_and_colons(text);

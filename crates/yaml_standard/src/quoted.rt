@@ -7,7 +7,7 @@ ghost use Rattle.saphyr_scalar.specs.Values.Escapes as escapes;
 ghost use Rattle.saphyr_scalar.specs.declared.values.Quote.TheVariants.{Single, Double};
 ghost use Rattle.scalar_laws.specs.Spelling.QuotedLines.{space_count, IsLine};
 ghost use Rattle.yaml_standard.specs.Quotes as spec;
-ghost use Rattle.yaml_standard.specs.Takes.{TakesOff};
+ghost use Rattle.yaml_standard.specs.Takes.{IfTakes};
 
 use crate::front::{is_document_marker, split, strip};
 use crate::spaces::{behind_all_spaces, behind_blanks, behind_spaces};
@@ -152,8 +152,7 @@ fn behind_part(text: &str, quote: Quote, indent: usize) -> Option<&str>
 
 // What follows the closing quote of a scalar, from behind its opening one on.
 fn behind_inside(text: &str, quote: Quote, indent: usize) -> Option<&str>
-    ensures { IfSome result (λ rest. TakesOff (spec.EndsInside quote indent) (chars text.now)
-        (chars rest.now)) }
+    ensures { IfTakes (spec.EndsInside quote indent) (chars text.now) result }
 {
     let mut rest = text;
     while let Some(part) = behind_part(rest, quote, indent) {
@@ -164,8 +163,7 @@ fn behind_inside(text: &str, quote: Quote, indent: usize) -> Option<&str>
 
 /// What follows a scalar in these quotes, from its opening quote on.
 pub(crate) fn behind_quoted(text: &str, quote: Quote, indent: usize) -> Option<&str>
-    ensures { IfSome result (λ rest. TakesOff (spec.IsQuotedScalar quote indent) (chars text.now)
-        (chars rest.now)) }
+    ensures { IfTakes (spec.IsQuotedScalar quote indent) (chars text.now) result }
 {
     let inside = strip(text, quote.mark())?;
     behind_inside(inside, quote, indent)

@@ -3,49 +3,98 @@
 
 use crate::block_lines::split_spaces;
 use crate::broken::broken_rule;
-use crate::front::is_document_marker;
+use crate::front::{is_document_marker, split, strip};
 use crate::goal::{Goal, Kind};
 use crate::hint::{Guide, HintKind};
+use crate::lines::is_mark;
 use crate::place::Here;
 use crate::rule::Rule;
-use crate::stream::read_stream;
+use crate::spaces::behind_separation;
+use crate::stream::{next_place, read_documents, read_stream};
 use crate::walk::{Stuck, close};
 use std::alloc::{AllocError, Global};
 use std::mem;
 
-/// Whether a goal is for further entries of a block collection, and one may begin behind so many spaces.
-fn begins_entry(goal: Goal<'_>, spaces: usize, entry: &str) -> Option<bool> {
-    let is_entry = entry.starts_with("-");
-    match goal {
-        Goal::BlockEntries(Kind::Sequence, column) => Some(column == spaces && is_entry),
-        Goal::BlockEntries(Kind::Mapping, column) => {
-            Some(column == spaces && !is_entry && !entry.starts_with(":"))
+/// How many block collections are open.
+fn count_collections(goals: &[Goal<'_>]) -> usize {
+    let mut count = 0usize;
+    for i in 0..goals.len() {
+        if matches!(goals[i], Goal::BlockEntries(..)) {
+            count = count.saturating_add(1);
         }
-        _ => None,
+    }
+    count
+}
+
+/// Takes goals off, of which so many are block collections, until one of a collection that is so deep comes last. How
+/// many collections are left is told.
+fn leave(goals: &mut Vec<Goal<'_>>, open: usize, depth: usize) -> usize {
+    let mut left = open;
+    for _ in 0..goals.len() {
+        match goals.last().copied() {
+            Some(Goal::BlockEntries(..)) if left <= depth => break,
+            Some(Goal::BlockEntries(..)) => left = left.saturating_sub(1),
+            _ => (),
+        }
+        goals.pop();
+    }
+    left
+}
+
+/// Whether a line begins a further entry of the block collection at this column.
+fn begins_entry(kind: Kind, column: usize, line: &str) -> bool {
+    let (spaces, entry) = split_spaces(line, column);
+    if spaces < column {
+        return false;
+    }
+    match kind {
+        Kind::Sequence => is_mark(entry, '-'),
+        Kind::Mapping if is_mark(entry, '-') || is_mark(entry, ':') => false,
+        Kind::Mapping => !matches!(split(entry), None | Some((' ' | '\t' | '\n' | '#', _))),
     }
 }
 
-/// How many goals are left open where a line begins a document, or an entry of the block collection that the next event
-/// is in.
-fn count_left(goals: &[Goal<'_>], guide: &Guide<'_>, line: &str) -> Option<usize> {
-    if matches!(guide.hint().kind, HintKind::Document) && is_document_marker(line) {
-        return Some(0);
-    }
-    let (spaces, entry) = split_spaces(line, usize::MAX);
-    let mut at = 0usize;
-    for i in 0..goals.len() {
-        if let Some(begins) = begins_entry(goals[i], spaces, entry) {
-            at = at.saturating_add(1);
-            if at == guide.depth {
-                return if begins {
-                    Some(i.saturating_add(1))
-                } else {
-                    None
-                };
-            }
+/// Whether a line begins a document, or an entry of the collection that this goal is of. Of that no more comes where the
+/// parser has passed so many characters.
+fn begins_here(goal: Option<Goal<'_>>, hint: HintKind, line: Here<'_>, passed: usize) -> bool {
+    match goal {
+        Some(Goal::BlockEntries(kind, column)) => {
+            line.passed.saturating_add(column) >= passed && begins_entry(kind, column, line.rest)
         }
+        _ if matches!(hint, HintKind::Document) => {
+            is_document_marker(strip(line.rest, '\u{feff}').unwrap_or(line.rest))
+        }
+        _ => false,
     }
-    None
+}
+
+/// The last line up to that of the next event which begins an entry or a document: an entry may begin on a line before
+/// that of its node. No line is looked at twice, so that time is linear.
+fn last_begin<'a>(
+    goal: Option<Goal<'_>>,
+    guide: &Guide<'_>,
+    line: &mut Here<'a>,
+    passed: usize,
+) -> Option<Here<'a>> {
+    let start = guide.start();
+    let index = start.index.saturating_sub(start.col);
+    let mut found = None;
+    for _ in 0..usize::MAX {
+        if line.passed > index || line.rest.is_empty() {
+            break;
+        }
+        if begins_here(goal, guide.hint().kind, *line, passed) {
+            found = Some(*line);
+        }
+        *line = line.behind_line();
+    }
+    found
+}
+
+/// Whether the next event begins behind what comes first where the text can't be read on.
+pub(crate) fn is_told(here: Here<'_>, stuck: Stuck<'_>, guide: &Guide<'_>) -> bool {
+    let token = behind_separation(stuck.text, 0);
+    guide.start().index > here.before(token).passed
 }
 
 /// Reads a text on, where these goals are open. The next place where it can't be read on is told.
@@ -70,7 +119,8 @@ fn read_on<'a>(
         }
     }
     drop(goals);
-    read_stream(alloc, rest, guide)
+    let (document, is_free) = next_place(rest);
+    read_documents(alloc, document, is_free, guide)
 }
 
 /// Goes on to the next line that begins an entry or a document, and reads on from there.
@@ -80,22 +130,29 @@ fn resume<'a>(
     guide: &mut Guide<'a>,
 ) -> Result<Option<Stuck<'a>>, AllocError> {
     let mut goals = mem::replace(&mut guide.open, Vec::new(alloc));
-    let mut line = *here;
+    let mut open = count_collections(&goals);
+    let mut line = here.behind_line();
+    let mut passed = 0usize;
     for _ in 0..usize::MAX {
-        if matches!(guide.hint().kind, HintKind::Fault) {
+        let hint = guide.hint();
+        if matches!(hint.kind, HintKind::Fault) {
             break;
         }
-        let start = guide.start();
-        let index = start.index.saturating_sub(start.col);
-        if index > here.passed && guide.hint().is_at_text() {
-            line = line.behind(index);
-            if let Some(count) = count_left(&goals, guide, line.rest) {
-                goals.truncate(count);
-                guide.leave_out(here.rest, line.rest)?;
-                *here = line;
-                return read_on(alloc, goals, line.rest, guide);
+        open = leave(&mut goals, open, guide.depth);
+        if open == guide.depth && hint.is_at_text() {
+            if let Some(begin) = last_begin(goals.last().copied(), guide, &mut line, passed) {
+                guide.leave_out(here.rest, begin.rest)?;
+                *here = begin;
+                return read_on(alloc, goals, begin.rest, guide);
             }
         }
+        // What is left out has the place of a mark, which may begin the next entry.
+        let end = if hint.is_at_text() {
+            guide.end()
+        } else {
+            guide.start()
+        };
+        passed = passed.max(end.index);
         guide.pass();
     }
     drop(goals);
@@ -138,7 +195,7 @@ pub(crate) fn broken_rules(
         let Some(stuck) = next else {
             break;
         };
-        let (rule, rest) = broken_rule(here.rest, stuck);
+        let (rule, rest) = broken_rule(here.rest, stuck, is_told(here, stuck, &guide));
         found.push((rule, here.before(rest).passed))?;
         here = here.before(stuck.text);
         next = resume(alloc, &mut here, &mut guide)?;

@@ -21,6 +21,8 @@ pub enum Rule {
     TabBehindProperty,
     TabInEmptyLine,
     QuoteAtFirstColumn,
+    /// No rule is broken: the grammar leaves out what the standard derives here.
+    LoneDashInFlow,
     /// None of these.
     Unnamed,
 }
@@ -47,6 +49,7 @@ impl Rule {
             Rule::TabBehindProperty => "tab-behind-property",
             Rule::TabInEmptyLine => "tab-in-empty-line",
             Rule::QuoteAtFirstColumn => "quote-at-first-column",
+            Rule::LoneDashInFlow => "lone-dash-in-flow",
             Rule::Unnamed => "unnamed",
         }
     }
@@ -78,7 +81,7 @@ impl Rule {
             Rule::EscapedEmptyLine =>
                 "[115], [116]: a later line of a quoted scalar has a character before an escaped break",
             Rule::LongKeyInFlow =>
-                "[152], [153]: the colon of a key in brackets is at most 1024 characters after its start",
+                "[154], [155]: the colon of a key in brackets is at most 1024 characters after its start",
             Rule::BracketBehindProperty =>
                 "[160], [161]: an anchor or a tag is parted from the bracket behind it",
             Rule::PrefixWithoutBlank =>
@@ -91,6 +94,8 @@ impl Rule {
                 "[70] l-empty: an empty line of a scalar has no tab left of the indentation",
             Rule::QuoteAtFirstColumn =>
                 "[112] s-double-escaped: the line after an escaped break is indented as the scalar is",
+            Rule::LoneDashInFlow =>
+                "no rule is broken: YAML 1.2.2 ([130], [132]) has this '-', but the grammar that is checked does not",
             Rule::Unnamed => "no production derives the text from here on",
         }
     }

@@ -7,7 +7,7 @@ ghost use Rattle.saphyr_scalar.specs.Reading.BlockLines as lines;
 ghost use Rattle.saphyr_scalar.specs.Spelling.Directive.{AreSomeBlanks};
 ghost use Rattle.saphyr_scalar.specs.Spelling.Tag.{AreIn};
 ghost use Rattle.scalar_laws.specs.Spelling.Spaces as spec;
-ghost use Rattle.yaml_standard.specs.Takes.{TakesOff, TakesBefore};
+ghost use Rattle.yaml_standard.specs.Takes.{IfTakes, IfTakesBefore, TakesOff};
 
 use crate::front::{behind_run, behind_some, is_end, strip};
 use saphyr_input::NonBreak;
@@ -22,14 +22,14 @@ pub(crate) fn behind_blanks(text: &str) -> &str
 
 /// What follows blanks, if some come first.
 pub(crate) fn behind_some_blanks(text: &str) -> Option<&str>
-    ensures { IfSome result (λ rest. TakesOff AreSomeBlanks (chars text.now) (chars rest.now)) }
+    ensures { IfTakes AreSomeBlanks (chars text.now) result }
 {
     behind_some::<Blank>(text)
 }
 
 /// What follows a comment, which ends with its line.
 pub(crate) fn behind_comment(text: &str) -> Option<&str>
-    ensures { IfSome result (λ rest. TakesOff spec.IsComment (chars text.now) (chars rest.now)) }
+    ensures { IfTakes spec.IsComment (chars text.now) result }
 {
     let words = strip(text, '#')?;
     Some(behind_run::<NonBreak>(words))
@@ -50,7 +50,7 @@ pub(crate) fn behind_line_rest(text: &str) -> &str
 
 /// What follows the end of a line, with its break.
 pub(crate) fn behind_line_end(text: &str) -> Option<&str>
-    ensures { IfSome result (λ rest. TakesOff spec.IsLineEnd (chars text.now) (chars rest.now)) }
+    ensures { IfTakes spec.IsLineEnd (chars text.now) result }
 {
     let rest = behind_line_rest(text);
     strip(rest, '\n')
@@ -58,7 +58,7 @@ pub(crate) fn behind_line_end(text: &str) -> Option<&str>
 
 /// What follows the end of a line. The last line may lack its break.
 pub(crate) fn behind_eol(text: &str) -> Option<&str>
-    ensures { IfSome result (λ rest. TakesBefore spec.IsEol (chars text.now) (chars rest.now)) }
+    ensures { IfTakesBefore spec.IsEol (chars text.now) result }
 {
     let rest = behind_line_rest(text);
     if is_end(rest) {
@@ -80,7 +80,7 @@ fn behind_filler_text(text: &str) -> &str
 
 /// What follows a line of blanks, or of blanks and a comment.
 fn behind_filler_line(text: &str) -> Option<&str>
-    ensures { IfSome result (λ rest. TakesOff spec.IsFillerLine (chars text.now) (chars rest.now)) }
+    ensures { IfTakes spec.IsFillerLine (chars text.now) result }
 {
     let rest = behind_filler_text(text);
     strip(rest, '\n')
@@ -130,8 +130,7 @@ pub(crate) fn behind_all_spaces(text: &str) -> &str
 
 /// What follows the indentation of a line, and any blanks.
 pub(crate) fn behind_line_prefix(text: &str, indent: usize) -> Option<&str>
-    ensures { IfSome result (λ rest. TakesOff (spec.IsLinePrefix indent) (chars text.now)
-        (chars rest.now)) }
+    ensures { IfTakes (spec.IsLinePrefix indent) (chars text.now) result }
 {
     let rest = behind_spaces(text, indent)?;
     Some(behind_blanks(rest))
@@ -139,8 +138,7 @@ pub(crate) fn behind_line_prefix(text: &str, indent: usize) -> Option<&str>
 
 /// What follows the end of a line, filler, and the indentation of the next line's content with any blanks.
 pub(crate) fn behind_next_line(text: &str, indent: usize) -> Option<&str>
-    ensures { IfSome result (λ rest. TakesOff (spec.IsNextLine indent) (chars text.now)
-        (chars rest.now)) }
+    ensures { IfTakes (spec.IsNextLine indent) (chars text.now) result }
 {
     let line = behind_line_end(text)?;
     let content = behind_filler(line);
@@ -149,8 +147,7 @@ pub(crate) fn behind_next_line(text: &str, indent: usize) -> Option<&str>
 
 /// What follows a gap in block style: blanks, or the same as in [`behind_next_line`].
 pub(crate) fn behind_gap(text: &str, indent: usize) -> Option<&str>
-    ensures { IfSome result (λ rest. TakesOff (spec.IsGap indent) (chars text.now)
-        (chars rest.now)) }
+    ensures { IfTakes (spec.IsGap indent) (chars text.now) result }
 {
     match behind_next_line(text, indent) {
         None => behind_some_blanks(text),
@@ -160,8 +157,7 @@ pub(crate) fn behind_gap(text: &str, indent: usize) -> Option<&str>
 
 /// What follows the end of a line in flow style, with filler and the next line's indentation.
 fn behind_separation_line(text: &str, indent: usize) -> Option<&str>
-    ensures { IfSome result (λ rest. TakesOff (spec.IsSeparationLine indent) (chars text.now)
-        (chars rest.now)) }
+    ensures { IfTakes (spec.IsSeparationLine indent) (chars text.now) result }
 {
     let line = behind_line_end(text)?;
     let content = behind_filler(line);

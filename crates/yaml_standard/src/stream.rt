@@ -90,7 +90,7 @@ fn behind_document<'a>(
 }
 
 /// Where the next document may come behind one, and whether it is free there.
-fn next_place(text: &str) -> (&str, bool)
+pub(crate) fn next_place(text: &str) -> (&str, bool)
     ensures { spec.ComesBehind (chars text.now) result.1 (chars result.0.now) }
 {
     let marks = behind_marks(text);
@@ -100,16 +100,18 @@ fn next_place(text: &str) -> (&str, bool)
     }
 }
 
-/// Reads a stream. Where it can't be read on is told, or nothing if the grammar derives it.
-pub(crate) fn read_stream<'a>(
+/// Reads documents up to the end, of which the first may be free. Where they can't be read on is told, or nothing if the
+/// grammar derives them.
+pub(crate) fn read_documents<'a>(
     alloc: Global,
     text: &'a str,
+    is_free: bool,
     guide: &mut Guide<'a>,
 ) -> Result<Option<Stuck<'a>>, AllocError>
-    ensures { IfOk result (λ stuck. stuck ≡ None → spec.IsSomeStream (chars text.now)) }
+    ensures { IfOk result (λ stuck. stuck ≡ None → spec.AreSomeFurther is_free (chars text.now)) }
 {
-    let mut rest = behind_document_prefix(text);
-    let mut free = true;
+    let mut rest = text;
+    let mut free = is_free;
     for _ in 0..usize::MAX {
         if is_last_filler(rest) {
             return Ok(None);
@@ -129,4 +131,16 @@ pub(crate) fn read_stream<'a>(
         goal: None,
         text: rest,
     }))
+}
+
+/// Reads a stream, in the same way.
+pub(crate) fn read_stream<'a>(
+    alloc: Global,
+    text: &'a str,
+    guide: &mut Guide<'a>,
+) -> Result<Option<Stuck<'a>>, AllocError>
+    ensures { IfOk result (λ stuck. stuck ≡ None → spec.IsSomeStream (chars text.now)) }
+{
+    let first = behind_document_prefix(text);
+    read_documents(alloc, first, true, guide)
 }

@@ -1,8 +1,7 @@
 //! Tags, anchors and aliases (YAML 1.2.2, 6.9 and 7.1).
-ghost use Rattle.std.specs.Prelude.{IfSome};
 ghost use Rattle.std.specs.Str.{chars};
 ghost use Rattle.yaml_standard.specs.NodeProperties as spec;
-ghost use Rattle.yaml_standard.specs.Takes.{TakesOff};
+ghost use Rattle.yaml_standard.specs.Takes.{IfTakes};
 
 use crate::directive::{behind_suffix, behind_uri};
 use crate::front::strip;
@@ -11,7 +10,7 @@ use crate::spaces::behind_gap;
 
 /// What follows a tag: `!<uri>`, a handle and a suffix, or `!` alone.
 pub(crate) fn behind_tag(text: &str) -> Option<&str>
-    ensures { IfSome result (λ rest. TakesOff spec.IsSomeTag (chars text.now) (chars rest.now)) }
+    ensures { IfTakes spec.IsSomeTag (chars text.now) result }
 {
     let mark = strip(text, '!')?;
     if let Some(uri) = strip(mark, '<') {
@@ -27,8 +26,7 @@ pub(crate) fn behind_tag(text: &str) -> Option<&str>
 
 /// What follows an anchor.
 pub(crate) fn behind_anchor(text: &str) -> Option<&str>
-    ensures { IfSome result (λ rest. TakesOff spec.IsSomeAnchor (chars text.now)
-        (chars rest.now)) }
+    ensures { IfTakes spec.IsSomeAnchor (chars text.now) result }
 {
     let name = strip(text, '&')?;
     behind_anchor_name(name)
@@ -36,8 +34,7 @@ pub(crate) fn behind_anchor(text: &str) -> Option<&str>
 
 /// What follows an alias.
 pub(crate) fn behind_alias(text: &str) -> Option<&str>
-    ensures { IfSome result (λ rest. TakesOff spec.IsSomeAlias (chars text.now)
-        (chars rest.now)) }
+    ensures { IfTakes spec.IsSomeAlias (chars text.now) result }
 {
     let name = strip(text, '*')?;
     behind_anchor_name(name)
@@ -45,8 +42,7 @@ pub(crate) fn behind_alias(text: &str) -> Option<&str>
 
 // What follows a gap and a tag.
 fn behind_second_tag(text: &str, indent: usize) -> Option<&str>
-    ensures { IfSome result (λ rest. TakesOff (spec.IsBehindGap indent spec.IsSomeTag)
-        (chars text.now) (chars rest.now)) }
+    ensures { IfTakes (spec.IsBehindGap indent spec.IsSomeTag) (chars text.now) result }
 {
     let tag = behind_gap(text, indent)?;
     behind_tag(tag)
@@ -54,8 +50,7 @@ fn behind_second_tag(text: &str, indent: usize) -> Option<&str>
 
 // What follows a gap and an anchor.
 fn behind_second_anchor(text: &str, indent: usize) -> Option<&str>
-    ensures { IfSome result (λ rest. TakesOff (spec.IsBehindGap indent spec.IsSomeAnchor)
-        (chars text.now) (chars rest.now)) }
+    ensures { IfTakes (spec.IsBehindGap indent spec.IsSomeAnchor) (chars text.now) result }
 {
     let anchor = behind_gap(text, indent)?;
     behind_anchor(anchor)
@@ -63,8 +58,7 @@ fn behind_second_anchor(text: &str, indent: usize) -> Option<&str>
 
 // What follows an anchor, and a tag if there is one after a gap.
 fn behind_anchor_and_tag(text: &str, indent: usize) -> Option<&str>
-    ensures { IfSome result (λ rest. TakesOff (spec.IsSomeProperties indent) (chars text.now)
-        (chars rest.now)) }
+    ensures { IfTakes (spec.IsSomeProperties indent) (chars text.now) result }
 {
     let anchor = behind_anchor(text)?;
     match behind_second_tag(anchor, indent) {
@@ -75,8 +69,7 @@ fn behind_anchor_and_tag(text: &str, indent: usize) -> Option<&str>
 
 // What follows a tag, and an anchor if there is one after a gap.
 fn behind_tag_and_anchor(text: &str, indent: usize) -> Option<&str>
-    ensures { IfSome result (λ rest. TakesOff (spec.IsSomeProperties indent) (chars text.now)
-        (chars rest.now)) }
+    ensures { IfTakes (spec.IsSomeProperties indent) (chars text.now) result }
 {
     let tag = behind_tag(text)?;
     match behind_second_anchor(tag, indent) {
@@ -87,8 +80,7 @@ fn behind_tag_and_anchor(text: &str, indent: usize) -> Option<&str>
 
 /// What follows the properties of a node: an anchor, a tag, or both where a gap is between them.
 pub(crate) fn behind_properties(text: &str, indent: usize) -> Option<&str>
-    ensures { IfSome result (λ rest. TakesOff (spec.IsSomeProperties indent) (chars text.now)
-        (chars rest.now)) }
+    ensures { IfTakes (spec.IsSomeProperties indent) (chars text.now) result }
 {
     match behind_anchor_and_tag(text, indent) {
         None => behind_tag_and_anchor(text, indent),

@@ -10,7 +10,7 @@ use crate::breaks::{has_return, with_line_feeds};
 use crate::broken::broken_rule;
 use crate::hint::Guide;
 use crate::place::Here;
-use crate::resume::broken_rules;
+use crate::resume::{broken_rules, is_told};
 use crate::rule::Rule;
 use crate::stream::read_stream;
 use crate::strict::is_strict;
@@ -66,12 +66,16 @@ fn judge(alloc: Global, text: &str, lines: &str) -> Result<Verdict, AllocError>
     let mut guide = Guide::new(alloc, lines);
     let stuck = read_stream(alloc, lines, &mut guide)?;
     let unprintable = guide.next_unprintable(lines, &mut 0);
+    let told = match stuck {
+        None => false,
+        Some(stuck) => is_told(Here::new(lines), stuck, &guide),
+    };
     if let Some(fault) = guide.into_fault() {
         drop(fault);
         return refusal(alloc, text);
     }
     if let Some(stuck) = stuck {
-        let (rule, rest) = broken_rule(lines, stuck);
+        let (rule, rest) = broken_rule(lines, stuck, told);
         return Ok(deviates(text, lines, rule, rest));
     }
     if unprintable.is_none() && is_strict(text) {

@@ -4,7 +4,7 @@ ghost use Rattle.std.specs.Prelude.{◌≡◌, ◌++◌, [], ◌∷◌, IfOk, If
 ghost use Rattle.std.specs.Str.{chars};
 ghost use Rattle.yaml_standard.specs.Goals as spec;
 ghost use Rattle.yaml_standard.specs.Leads.{IsWhatComes};
-ghost use Rattle.yaml_standard.specs.Takes.{TakesBefore};
+ghost use Rattle.yaml_standard.specs.Takes.{IfTakesBefore};
 ghost use Rattle.yaml_standard.specs.declared.goal.Goal.{Goal};
 
 use crate::ahead::{Ahead, look_ahead};
@@ -27,8 +27,7 @@ pub(crate) struct Stuck<'a> {
 
 // What follows blanks and a colon, on one line with the key that begins at `start`.
 fn behind_colon<'a>(start: &str, text: &'a str) -> Option<&'a str>
-    ensures { IfSome result (λ rest. TakesBefore (spec.IsColonBefore (chars start.now))
-        (chars text.now) (chars rest.now)) }
+    ensures { IfTakesBefore (spec.IsColonBefore (chars start.now)) (chars text.now) result }
 {
     let colon = behind_blanks(text);
     if is_short_line(start, colon) {

@@ -1,10 +1,10 @@
 //! Words of plain scalars (YAML 1.2.2, 7.3.3), inside flow and outside.
-ghost use Rattle.std.specs.Prelude.{◌≡◌, ◌==◌, true, false, IfSome};
+ghost use Rattle.std.specs.Prelude.{◌≡◌, ◌==◌, true, false};
 ghost use Rattle.std.specs.Str.{chars};
 ghost use Rattle.saphyr_input.specs.Indicators.{colon};
 ghost use Rattle.saphyr_scalar.specs.Spelling.Tag.{AreIn};
 ghost use Rattle.scalar_laws.specs.Spelling.Plain as plain;
-ghost use Rattle.yaml_standard.specs.Takes.{TakesOff};
+ghost use Rattle.yaml_standard.specs.Takes.{IfTakes, TakesOff};
 ghost use Rattle.yaml_standard.specs.Words as spec;
 
 use crate::front::{split, strip};
@@ -30,8 +30,7 @@ fn behind_colons(text: &str) -> &str
 
 // What follows colons, or none, and a character of words that is no colon.
 fn behind_safe_part(text: &str, in_flow: bool) -> Option<&str>
-    ensures { IfSome result (λ rest. TakesOff (spec.IsSafePart in_flow) (chars text.now)
-        (chars rest.now)) }
+    ensures { IfTakes (spec.IsSafePart in_flow) (chars text.now) result }
 {
     let rest = behind_colons(text);
     let (c, behind) = split(rest)?;
@@ -58,8 +57,7 @@ fn behind_safe(text: &str, in_flow: bool) -> &str
 
 // What follows one such character or more.
 pub(crate) fn behind_some_safe(text: &str, in_flow: bool) -> Option<&str>
-    ensures { IfSome result (λ rest. TakesOff (spec.AreSomeSafe in_flow) (chars text.now)
-        (chars rest.now)) }
+    ensures { IfTakes (spec.AreSomeSafe in_flow) (chars text.now) result }
 {
     let rest = behind_safe_part(text, in_flow)?;
     Some(behind_safe(rest, in_flow))
@@ -67,8 +65,7 @@ pub(crate) fn behind_some_safe(text: &str, in_flow: bool) -> Option<&str>
 
 // What follows a word outside flow.
 fn behind_word_outside(text: &str) -> Option<&str>
-    ensures { IfSome result (λ rest. TakesOff (plain.IsWordIn false) (chars text.now)
-        (chars rest.now)) }
+    ensures { IfTakes (plain.IsWordIn false) (chars text.now) result }
 {
     let (first, _) = split(text)?;
     if first == '#' {
@@ -79,8 +76,7 @@ fn behind_word_outside(text: &str) -> Option<&str>
 
 // What follows a word inside flow that begins with no `-`.
 fn behind_undashed_word(text: &str) -> Option<&str>
-    ensures { IfSome result (λ rest. TakesOff (plain.IsWordIn true) (chars text.now)
-        (chars rest.now)) }
+    ensures { IfTakes (plain.IsWordIn true) (chars text.now) result }
 {
     let (first, _) = split(text)?;
     if first == '#' {
@@ -94,8 +90,7 @@ fn behind_undashed_word(text: &str) -> Option<&str>
 
 // What follows a word inside flow, which is no lone `-`.
 fn behind_word_in_flow(text: &str) -> Option<&str>
-    ensures { IfSome result (λ rest. TakesOff (plain.IsWordIn true) (chars text.now)
-        (chars rest.now)) }
+    ensures { IfTakes (plain.IsWordIn true) (chars text.now) result }
 {
     match strip(text, '-') {
         None => behind_undashed_word(text),
@@ -105,8 +100,7 @@ fn behind_word_in_flow(text: &str) -> Option<&str>
 
 /// What follows a word, the longest that is there.
 pub(crate) fn behind_word(text: &str, in_flow: bool) -> Option<&str>
-    ensures { IfSome result (λ rest. TakesOff (plain.IsWordIn in_flow) (chars text.now)
-        (chars rest.now)) }
+    ensures { IfTakes (plain.IsWordIn in_flow) (chars text.now) result }
 {
     if in_flow {
         return behind_word_in_flow(text);
