@@ -70,8 +70,8 @@ abbrev pub with_key_if : Next → Key → Marker → KeyLevel → KeyLevel
 with_key_if next.Key key place l = with_first_place key place l
 with_key_if _ key place l = l
 
-abbrev pub behind_scalar : Key → Marker → KeyLevel → KeyLevel
-behind_scalar key place l = behind_node (with_key_if l.next key place l)
+abbrev pub level_behind_scalar : Key → Marker → KeyLevel → KeyLevel
+level_behind_scalar key place l = behind_node (with_key_if l.next key place l)
 
 -- The innermost collection, and what it is in, the innermost first. The last stands for the stream.
 pub record KeysOpen : Type 0 where
@@ -96,7 +96,7 @@ keys_outside k = keys_ended_in k.outer k
 
 abbrev pub keys_behind : Happening → Span → KeysOpen → KeysOpen
 keys_behind (Alias id) span k = with_here (behind_node k.here) k
-keys_behind (Scalar text style id tag) span k = with_here (behind_scalar (key_of text tag) span.start k.here) k
+keys_behind (Scalar text style id tag) span k = with_here (level_behind_scalar (key_of text tag) span.start k.here) k
 keys_behind (SequenceStart id tag) span k = keys_inside next.Entry k
 keys_behind SequenceEnd span k = keys_outside k
 keys_behind (MappingStart id tag) span k = keys_inside next.Key k

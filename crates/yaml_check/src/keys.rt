@@ -133,7 +133,7 @@ impl Keys {
             ≡ spec.equal_key_place (spec.key_of text.now (option_map resolved_tag tag.now))
             (seen.level_of self.old.here)) }
         ensures behind { OnOk result (seen.keys_of self.new
-            ≡ spec.with_here (spec.behind_scalar (spec.key_of text.now (option_map resolved_tag
+            ≡ spec.with_here (spec.level_behind_scalar (spec.key_of text.now (option_map resolved_tag
             tag.now)) place (seen.level_of self.old.here)) (seen.keys_of self.old)) }
     {
         let first = match self.here.next {
