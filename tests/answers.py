@@ -114,6 +114,8 @@ OPEN = {
 # What the parser refuses and no definition asks, by a name: a smallest text, an answer of it that is taken, and a
 # pattern that each such text has.
 FAULTS = {
+    # E4: where the scalar begins with an indicator it is not of YAML
+    "a dash before an indicator": ("[| -]", "+SEQ / =VAL :| - / -SEQ", r"[ \t\n\r]-[,\[\]{}]"),
     # 6.1: no tab is left of where content begins
     "a tab as indentation": (":\n\ta", "+MAP / =VAL : / =VAL :a / -MAP", r"(?m)^ *\t[ \t]*[^ \t\n\r]"),
     # 7.4: the later lines of brackets are right of their collection's column
