@@ -15,8 +15,8 @@ use saphyr_scalar::{FaultText, Marker};
 impl<T: Input> Engine<T> {
     ghost use Rattle.saphyr_scanner.specs.Views.Engine.{state, candidate, ActsBy, CarriesBy};
 
-    // Passes what follows a colon, if that begins with a tab. Outside flow there must be a space between the colon and a
-    // word, not a tab alone.
+    // Passes what follows a colon, if that begins with a tab. Outside flow there must be a space between the colon and
+    // a word, not a tab alone.
     #[inline(always)]
     #[tactic(auto, unfolding(crate::specs::Steps::Value::check_tab))]
     fn check_tab(&mut self) -> Result<(), Stopped>

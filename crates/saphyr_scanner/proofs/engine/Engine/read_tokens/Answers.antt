@@ -34,7 +34,8 @@ pub returns-in_err-fetch_within-clause-long : goal.returns-in_err-fetch_within-c
 returns-in_err-fetch_within-clause-long g c =
     let is : c.from_residual.result ≡ c.fetch_within.result = search rules in
     subst (λ read. TurnsTooLong (fill c.args.limit) (state c.args.self.now) read (state c.fetch_within.new.self)
-    c.fetch_within.new.self.stop) (sym is) (passed c.args.limit (state c.args.self.now) (state c.loop-self.self) (state c.fetch_within.new.self) _ _
+    c.fetch_within.new.self.stop) (sym is)
+    (passed c.args.limit (state c.args.self.now) (state c.loop-self.self) (state c.fetch_within.new.self) _ _
     c.loop-self.invariant.needed c.loop-self.invariant.goes_on c.fetch_within.ensures.long)
 
 pub returns-then-not-needs_token-clause-moves : goal.returns-then-not-needs_token-clause-moves
