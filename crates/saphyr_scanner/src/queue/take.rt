@@ -117,7 +117,7 @@ impl Queue {
             self.skip_opening();
             return Ok(());
         }
-        place.take_text_into(&mut self.texts, into)?;
+        place.take_texts_into(&mut self.texts, into)?;
         self.spent += 1;
         Ok(())
     }
