@@ -182,7 +182,8 @@ pub itself_read : (q : Quote) (indent : ℕ) (start : Marker) (gap : QuotedGap) 
     → ReadsBehindBlank q indent start (along m 1) t items x
     → Read q indent start gap m (c ∷ t) (flow.raw_item c ∷ items) x
 unfolding is_literal
-itself_read q indent start gap m c t items x h fits r = grind (arith, blank_cases, blank_read, content_item, with_gap, literal_read)
+itself_read q indent start gap m c t items x h fits r =
+    grind (arith, blank_cases, blank_read, content_item, with_gap, literal_read)
 
 pub broken_read : (q : Quote) (indent : ℕ) (start : Marker) (gap : QuotedGap) (m : Marker) (t : List ℕ)
     (items : List Item) (x : List ℕ) → is_break (slice_index t 0) ≡ true → IsLine indent (drop (break_len t) t)

@@ -143,7 +143,8 @@ blanks_near k m p o f there y b =
 pub blanks_lands : (indent : ℕ) (m : Marker) (o w : List ℕ) (c : ℕ) (cs : List ℕ) → o ≡ w ++ (c ∷ cs)
     → AreIn is_blank w → IsContentStart c → indent ≤ m.col → past indent m o ≡ (moved m w, c ∷ cs)
 blanks_lands indent m o w c cs is are content right =
-    ap (past indent m) is ∙ (blanks_past indent w are m right).is (c ∷ cs) ∙ past_content indent (moved m w) c cs content
+    ap (past indent m) is ∙ (blanks_past indent w are m right).is (c ∷ cs)
+    ∙ past_content indent (moved m w) c cs content
 
 -- What is kept behind a piece, where the scanner is: outside flow the key, if one is held.
 pub held_behind : {around : Around} {x : Context} (m : Marker) (p o : List ℕ) → Fits around x m p o

@@ -146,7 +146,8 @@ what_comes : (limit : ℕ) → limit < 2 ^ 63 → (m : Marker) (t : List ℕ) (a
     → (allowed : Bool) (left : List ℕ) → (crosses (end ++ o) ≡ true → (allowed || crosses left) ≡ true)
     → EndsDocument (past 0 (moved m t) o).0 (past 0 (moved m t) o).1
     ⊎ ((left_key key (past 0 (moved m t) o).0 ≡ None) × ((crosses left || allowed) ≡ true))
-what_comes limit short m t at text end o place fits h k none_before key since allowed left fresh = grind (arith, or_true_swap, append_assoc, content_crosses, moved_append, later_end)
+what_comes limit short m t at text end o place fits h k none_before key since allowed left fresh =
+    grind (arith, or_true_swap, append_assoc, content_crosses, moved_append, later_end)
 
 -- ## The node
 
