@@ -49,7 +49,10 @@ no_block : (begun : Begun) (kind : Kind) (span : Span) (line : ℕ) → EndOn be
     → (kind ≡ tokens.BlockSequenceStart) ⊎ (kind ≡ tokens.BlockMappingStart) → may_follow begun kind span ≡ true → ⊥
 no_block begun kind span line g l k p = grind (arith, no_text)
 
--- `:` and a blank, a break, NUL or the end
+-- No kind of token is there, which each case shows by what that kind asks of its place: the stream's start is at index
+-- 0, a directive and a document marker are at column 0, and most others begin with another character than the colon. A
+-- block collection can't begin behind what the line has, a mapping's start or end without text stands in flow alone,
+-- and so does a value without an open mapping.
 elsewhere : (g : Begun) (k : Kind) (b : Bool) (span : Span) (s t : Cursor) (more : List ℕ) → EndOn g s.mark.line
     → 0 < s.mark.index → 0 < s.mark.col → s.rest ≡ colon ∷ more → IsTrue (is_blank_or_breakz (slice_index more 0))
     → IsToken (in_no_collection b) k span s t → (may_follow g k span ≡ true) × (fits place.Block [] k span ≡ true) → ⊥

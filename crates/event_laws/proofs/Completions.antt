@@ -155,6 +155,9 @@ pair_value : (R : Claim) (ks : List Kind) (ps : List Part) → R ks ps
 pair_value R ks ps r = put (IsAnyValueOf InFlow) (AtPairEnd R) [] (leaf ∷ []) _ _ (inr (refl, refl))
     (pair_ends R ks ps r)
 
+-- A state inside a document is completed by the shortest end of its collection, before the completion of the states
+-- outside it. Where the grammar asks for a node first, one is left out. Three states ask that what follows begins with
+-- a `-` or a `:` if what was ahead did, so theirs begin with one.
 inside : (s other : State) (ss : List State) → IsInsideDocument s → Completion other ss → Completion s (other ∷ ss)
 inside state.DocumentContent o ss i c = complete _ _ c.kinds leaf c.parts empty_scalar c.emitted
     (put (IsOptionalOf InBlock) (FollowsStates o ss) [] (leaf ∷ []) c.kinds c.parts

@@ -44,7 +44,8 @@ BlockPairsSay = PairsSay BlockEnd state.BlockMappingKey
 pub record IndentlessSay (ns : Nodes) (t : List Kind) : Type 0 where
   pub by : (f : SpansByKinds) (k : Kind) (ks : List Kind) (s : State) (ss : Outer) (e : Memory) (ps : List Part)
       → MayFollow InBlockMapping k → EmitsParts f (k ∷ ks) s ss (after_nodes ns e) ps
-      → EmitsParts f (t ++ k ∷ ks) state.IndentlessSequenceEntry (expecting s ss) e (entry_parts ns ++ CloseSequence ∷ ps)
+      → EmitsParts f (t ++ k ∷ ks) state.IndentlessSequenceEntry (expecting s ss) e
+      (entry_parts ns ++ CloseSequence ∷ ps)
 
 -- ## Collections
 
@@ -134,8 +135,8 @@ indentless_sequence p ns InBlockMapping front content others t h b d a g = recor
       ((entry_parts ns ++ CloseSequence ∷ []) ++ ps) =
       rw (append_assoc (entry_parts ns) (CloseSequence ∷ []) ps) emitted in
       node_opens f (context_of InBlockMapping) x (expecting s ss) e m
-      (at f (BlockEntry ∷ rest) state.IndentlessSequenceEntry (expecting s ss) (noted p.anchor e)) p front BlockEntry rest
-      (OpenSequence p) ((entry_parts ns ++ CloseSequence ∷ []) ++ ps) SequenceStart h tt more (cc) refl
+      (at f (BlockEntry ∷ rest) state.IndentlessSequenceEntry (expecting s ss) (noted p.anchor e)) p front BlockEntry
+      rest (OpenSequence p) ((entry_parts ns ++ CloseSequence ∷ []) ++ ps) SequenceStart h tt more (cc) refl
       (λ r has. (span_up_to r (f rest).end, refl)) inside;
 }
 

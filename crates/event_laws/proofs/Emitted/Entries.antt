@@ -65,11 +65,11 @@ indentless_ends : (f : SpansByKinds) (k : Kind) (ks : List Kind) (s : State) (ss
     → EmitsParts f (k ∷ ks) state.IndentlessSequenceEntry (expecting s ss) e (CloseSequence ∷ ps)
 unfolding event_step indentless_sequence_entry
 indentless_ends f Key ks s ss e ps z l =
-    plainly e (at f (Key ∷ ks) state.IndentlessSequenceEntry (expecting s ss) e) (at f (Key ∷ ks) s ss e) CloseSequence ps
-    SequenceEnd (f ks) (λ q. cc) refl refl l
+    plainly e (at f (Key ∷ ks) state.IndentlessSequenceEntry (expecting s ss) e) (at f (Key ∷ ks) s ss e)
+    CloseSequence ps SequenceEnd (f ks) (λ q. cc) refl refl l
 indentless_ends f Value ks s ss e ps z l =
-    plainly e (at f (Value ∷ ks) state.IndentlessSequenceEntry (expecting s ss) e) (at f (Value ∷ ks) s ss e) CloseSequence ps
-    SequenceEnd (f ks) (λ q. cc) refl refl l
+    plainly e (at f (Value ∷ ks) state.IndentlessSequenceEntry (expecting s ss) e) (at f (Value ∷ ks) s ss e)
+    CloseSequence ps SequenceEnd (f ks) (λ q. cc) refl refl l
 indentless_ends f BlockEnd ks s ss e ps z l =
     plainly e (at f (BlockEnd ∷ ks) state.IndentlessSequenceEntry (expecting s ss) e) (at f (BlockEnd ∷ ks) s ss e)
     CloseSequence ps SequenceEnd (f ks) (λ q. cc) refl refl l
@@ -120,8 +120,9 @@ first_and_others : (Fits : Kind → Type 0) (close : Kind) (x y : State) (closin
     → SayUpTo close x closing (entry ++ inside) (λ e. later (now e)) t
 first_and_others Fits close x y closing entry inside now later front v t next w go others = record {
   by = λ f ks s ss e ps l. rw (append_assoc entry inside (closing ∷ ps))
-      (entry_emitted Fits f front v t (close ∷ ks) x y (expecting s ss) e (now e) entry (inside ++ closing ∷ ps) (next ks) w
-      (λ k ls same z r. go f k ls ks (expecting s ss) e (inside ++ closing ∷ ps) same z r) (others.by f ks s ss (now e) ps l));
+      (entry_emitted Fits f front v t (close ∷ ks) x y (expecting s ss) e (now e) entry (inside ++ closing ∷ ps)
+      (next ks) w (λ k ls same z r. go f k ls ks (expecting s ss) e (inside ++ closing ∷ ps) same z r)
+      (others.by f ks s ss (now e) ps l));
 }
 
 -- the same of a pair
@@ -220,8 +221,8 @@ pub indentless_entries : (n : Node) (ns : Nodes) (u v t : List Kind) → YieldsO
 indentless_entries n ns u v t d h w g others = record {
   by = λ f j js s ss e ps y l. rw (append_assoc (node_parts n) (entry_parts ns) (CloseSequence ∷ ps))
       (entry_emitted (EndsAt state.IndentlessSequenceEntry) f (BlockEntry ∷ u) v t (j ∷ js)
-      state.IndentlessSequenceEntry
-      state.IndentlessSequenceEntry (expecting s ss) e (after_node n e) (node_parts n) (entry_parts ns ++ CloseSequence ∷ ps)
+      state.IndentlessSequenceEntry state.IndentlessSequenceEntry (expecting s ss) e (after_node n e) (node_parts n)
+      (entry_parts ns ++ CloseSequence ∷ ps)
       (block_entries_next (EndsAt state.IndentlessSequenceEntry) ns v j js refl (mapping_ends j y).2 h) w
       (λ k ls same z r. indentless_says n u d g f k ls (expecting s ss) e (entry_parts ns ++ CloseSequence ∷ ps) z r)
       (others.by f j js s ss (after_node n e) ps y l));

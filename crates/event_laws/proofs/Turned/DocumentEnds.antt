@@ -143,6 +143,9 @@ without_end marks ks ps a f b =
     let same : ks ≡ f.2 = no_front f.1 f.2 ks f.3 f.5 b in
     (f.0, (kinds marks, [], ks, a, inl (refl, next_documents f.0 ks (rw same f.4) b), refl), cc)
 
+-- By the token behind the marks. A `...` is used with them (`with_end`), and a directive is refused. Any other token is
+-- left, and begins a document with `---` (`without_end`): that what follows has no directive before it is known of the
+-- token ahead, since the next state asks what follows to begin as that does.
 end_at_turned : (k : Kind) (sp : Span) (n : Machine) (ts : List Piece) (r : Aside) (x : State) (e : Memory)
     → Marked ts (machine ts r x [] e) (record { span = sp; kind = k }) n
     → Turned (Outside state.DocumentEnd) e ts (document_end_at k (record { span = sp; kind = k }) (without_prefixes n))

@@ -169,7 +169,8 @@ Fetches m y t b piece = (blank : Bool) (key : Option Candidate) (allowed : Bool)
     → fetch_here (state_at false (cursor_at y m blank) key allowed ad ps)
     ≡ Ok (state_at false (t blank) None b ad (ps ++ bare_place piece ∷ []))
 
--- a token that is right here is read
+-- A token that is right here is read: there is one step to take, from wherever the scanner stands between the last
+-- token and this one (`reads_here`). The premises tell what is after it, and that this is further on.
 pub reads_token : {limit : ℕ} {start : State} {free : Bool} {P : Marker → Bool → Type 0} {y : List ℕ} {ts : List Kind}
     (v : StandsInStream limit start free P y ts) → past 0 v.mark y ≡ (v.mark, y) → (free ≡ true) ⊎ EndsDocument v.mark y
     → (t : Bool → Cursor) (b : Bool) (piece : Piece) → Fetches v.mark y t b piece

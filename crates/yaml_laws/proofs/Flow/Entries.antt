@@ -86,6 +86,8 @@ marked_in_braces : (key value : Node) (t : List Kind) → MarkedTokens key value
 marked_in_braces key value t (inl h) = inl h
 marked_in_braces key value t (inr h) = inr (inl h)
 
+-- By the form of the pair: a key alone, which is a node, a key and a value, a value alone, or a pair with a `?`. The
+-- tokens are those of a pair in each of the grammar's four ways.
 pair_text_passes : {around : Around} (room : ℕ) (key value : Node) → PassesNode around room key
     → PassesNode around room value → PassesText around context.FlowMapping room
     (IsPairText key value (IsFlowNode room key true around.indent) (IsFlowNode room value true around.indent)
@@ -167,6 +169,8 @@ same_line : (m : Marker) (node blanks : List ℕ) → IsOnLine node → AreIn is
     → m.line ≡ (moved (moved m node) blanks).line
 same_line m node blanks h are = cc (blanks_moved (moved m node) blanks are, moved_along m node h)
 
+-- By the form of the pair, as in braces. Without a `?` the colon begins a mapping of one pair, whose end is still to
+-- come (`context.FlowPair`). With it the mapping has no tokens of its own (`context.ExplicitFlowPair`).
 single_text_passes : {around : Around} (room : ℕ) (key value : Node) → PassesNode around room key
     → PassesNode around room value → PassesText around context.FlowSequence room
     (IsSinglePairText key value (IsFlowNode room key true around.indent) (IsFlowNode room value true around.indent)

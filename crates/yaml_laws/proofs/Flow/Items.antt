@@ -160,6 +160,8 @@ pub record ReadsOthers (around : Around) (b : Brackets) (room : ℕ) (Text : Lis
   first : (p o : List ℕ) → Text p → BeginsEnd (p ++ (b.closing ∷ o))
   passes : PassesOthers around b room Text Are
 
+-- No further entry comes, but perhaps a last comma. Without it nothing is read, and a pair that is open stays so, to be
+-- ended by the bracket. With it the comma ends the pair.
 pub no_others : {around : Around} {b : Brackets} {room : ℕ} → AreBrackets b
     → ReadsOthers around b room (IsLastComma around.indent) grammar.IsListEnd
 no_others {around} {b} {room} are = record {
@@ -213,6 +215,9 @@ FurtherText indent One Rest t =
 abbrev FurtherTokens : (List Kind → Type 0) → (List Kind → Type 0) → List Kind → Type 0
 FurtherTokens Is Are t = (entry others : List Kind) × Is entry × Are others × (t ≡ tokens.FlowEntry ∷ (entry ++ others))
 
+-- A comma, an entry and the others, whose runs are joined one behind the other. The end of a pair that has no bracket
+-- of its own is put with what comes behind it. So each token list lacks an end that the next one begins with, and
+-- `entries_regrouped` moves the ends to their entries.
 pub more_others : {around : Around} {b : Brackets} {room : ℕ} {One Rest : List ℕ → Type 0} {Is Are : List Kind → Type 0}
     → ReadsEntry around b room One Is → ReadsOthers around b room Rest Are
     → ReadsOthers around b room (FurtherText around.indent One Rest) (FurtherTokens Is Are)
@@ -303,6 +308,7 @@ AllText One Rest t = (item others : List ℕ) × One item × Rest others × (t �
 abbrev AllTokens : (List Kind → Type 0) → (List Kind → Type 0) → List Kind → Type 0
 AllTokens Is Are t = (entry others : List Kind) × Is entry × Are others × (t ≡ entry ++ others)
 
+-- The first entry and the others, as in `more_others`, without a comma.
 pub more_entries : {around : Around} {b : Brackets} {room : ℕ} {One Rest : List ℕ → Type 0}
     {Is Are : List Kind → Type 0} → ReadsEntry around b room One Is → ReadsOthers around b room Rest Are
     → ReadsEntries around b room (AllText One Rest) (AllTokens Is Are)

@@ -75,6 +75,8 @@ inside_begins indent room key value t (inr (inr h)) =
 abbrev InsideTokens : Node → Node → List Kind → Type 0
 InsideTokens key value t = MarkedTokens key value (tokens.Key ∷ t)
 
+-- By what comes after the mark: a key, a value or both. The mark's token is put in front of the tokens, where the
+-- grammar has it.
 inside_passes : {around : Around} (room : ℕ) (key value : Node) → PassesNode around room key
     → PassesNode around room value → (y z : Context) → IsMarked y z → (m : Marker) (t o : List ℕ)
     → FitsAround around m t o → IsBehindEntry around.indent o → Inside around.indent room key value t

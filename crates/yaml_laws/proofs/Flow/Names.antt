@@ -86,6 +86,8 @@ name_step reads around d token_of m b indicator name o e h ends now k a placed =
       end,
     )
 
+-- The text is written as its indicator and its name, and is one token (`token_passes`). Since no break is in it, its
+-- end is along the line, and blanks behind it are left there.
 name_passes : ReaderPromises → (around : Around) (token_of : List ℕ → Kind) (indicator : ℕ) (name t o : List ℕ)
     (m : Marker) → ((second n : ℕ) (c : Core) → step indicator second n c ≡ property.name_steps token_of n c)
     → is_start indicator ≡ true → is_break indicator ≡ false → IsAnchorName name → t ≡ indicator ∷ name
@@ -153,6 +155,8 @@ pub begins_tag : (second n : ℕ) (c : Core) → step 33 second n c ≡ property
 unfolding step
 begins_tag second n c = refl
 
+-- A tag is one token too (`token_passes`). Its text is taken apart into what the reader calls handle and suffix
+-- (`tag_read`), from which its token is made.
 pub tag_passes : ReaderPromises → (around : Around) (tag : Tag) (t o : List ℕ) (m : Marker) → IsTag tag t
     → (now : FlowMoment) → EndsTag (not (is_block now.context)) o → PassesName around (tag_token tag) now m t o
 tag_passes reads around tag t o m h now ends fits from ready =

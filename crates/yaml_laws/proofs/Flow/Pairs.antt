@@ -42,6 +42,8 @@ IsValueText indent room value rest = ((value ≡ left_out) × (rest ≡ []))
     ⊎ ((separation node : List ℕ) × IsSeparation indent separation × IsFlowNode room value true indent node
     × (rest ≡ separation ++ node))
 
+-- Behind a colon the value is left out, and nothing is passed, or separation and a node are. The run p over what was
+-- before leads to the separation's end (`separation_joins`), and the node's run begins there.
 pub value_behind : {around : Around} {start : Bool → State} {ls : List Level} {ps : List Place} {ts : List Kind}
     (room : ℕ) (value : Node) → PassesNode around room value → (y : Context) → is_block y ≡ false
     → (m : Marker) (rest o : List ℕ)
@@ -81,6 +83,8 @@ pub record IsColonText (indent room : ℕ) (adjacent : Bool) (value : Node) (col
   pub ends : IsTrue adjacent ⊎ IsTrue (ends_colon (slice_index (rest ++ o) 0))
   pub value_text : IsValueText indent room value rest
 
+-- By whether the value is left out. What may end the colon is what follows: the end of the entry, separation that isn't
+-- empty, or, behind a quote or a bracket, anything.
 pub is_colon_text : (indent room : ℕ) (adjacent : Bool) (value : Node) (colon o : List ℕ) → IsBehindEntry indent o
     → IsColonAndValue adjacent value (IsFlowNode room value true indent) indent colon
     → IsColonText indent room adjacent value colon o
@@ -135,7 +139,9 @@ whole_moved : (m : Marker) (t node separation rest : List ℕ) → t ≡ node ++
     → moved (moved (moved (moved m node) separation) (58 ∷ [])) rest ≡ moved m t
 whole_moved m t node separation rest e = grind (arith, moved, moved_append)
 
--- A key and a value, where the colon after the key is passed with these tokens before the key.
+-- A key and a value, where the colon after the key is passed with these tokens before the key. The key's node is passed
+-- first, with its colon among what follows. Then `pass` tells of the colon, and `value_behind` of the value. The rest
+-- is the text, of which three groupings are needed, and its places.
 key_and_value : {around : Around} (room : ℕ) (key value : Node) → PassesNode around room key
     → PassesNode around room value → (front : List Kind) (y : Context) → is_block y ≡ false → (m : Marker)
     (t o : List ℕ) → FitsAround around m t o → IsBehindEntry around.indent o
@@ -203,6 +209,8 @@ key_passes {around} room key value K V y flows m t o fits ends h line now fresh 
 abbrev pub AloneTokens : List Kind → Node → List Kind → Type 0
 AloneTokens front value t = (vs : List Kind) × ValueTokens value vs × (t ≡ front ++ (tokens.Value ∷ vs))
 
+-- The colon is passed where no key is kept (`value_passes`), and then the value. No quote or bracket is before it, so
+-- what follows has to end it (`by_end`).
 pub alone_passes : {around : Around} (room : ℕ) (key value : Node) → PassesNode around room value → (y : Context)
     → is_block y ≡ false → (m : Marker) (t o : List ℕ) → FitsAround around m t o → IsBehindEntry around.indent o
     → IsValueAlone key value (IsFlowNode room value true around.indent) around.indent t

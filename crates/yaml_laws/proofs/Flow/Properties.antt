@@ -36,7 +36,8 @@ one_property : {around : Around} {start : Bool → State} {ls : List Level} {ps 
     → PassesPiece around start (behind_properties x kept ad) x ls ps m o ts
 one_property x kept ad p = grind (arith, knowing)
 
--- a gap is separation
+-- A gap is separation. Blanks alone are, on the line. With a break the gap ends in an indentation that may be more than
+-- is asked: as much as is asked ends the separation's lines, and the other spaces are blanks behind them (`longer`).
 pub gap_separates : (indent : ℕ) (w : List ℕ) → IsGap indent w → IsSeparation indent w
 gap_separates indent w (inl (some, are)) = ([], w, ([], tt, refl), are, refl)
 gap_separates indent w (inr (
@@ -155,6 +156,8 @@ both_passed {around} {P} {Q} {i} {j} first second m t a w b o h spaced g begins 
     (second n b o g (after p) ends inner (state_at around (after p))
     (part_ready around (after p) n b o begins inner p.right p.fits p.holds))) fits ready
 
+-- By which properties there are: one of the two is a token (`one_property`), and both are, in either order, with a gap
+-- between (`both_passed`).
 pub properties_read : ReaderPromises
     → (around : Around) (anchor : Option (List ℕ)) (tag : Option Tag) (m : Marker) (t o : List ℕ)
     → yaml.AreProperties anchor tag around.indent t → (now : FlowMoment) → EndsTag (not (is_block now.context)) o

@@ -172,6 +172,9 @@ pub quote_first : (quote : Quote) (inside : List ℕ) → Begins (mark quote ∷
 quote_first Single inside = starts 39 inside (39 ∷ inside) refl refl
 quote_first Double inside = starts 34 inside (34 ∷ inside) refl refl
 
+-- The scalar is one token (`token_passes`). Behind it the step reads what separates it from what is next on its line
+-- (`p`), and goes on over the gap up to the next token (`g`): so a colon there is at the place where one may come at
+-- once, and a break in the gap lets a key begin.
 pub quoted_passes : ReaderPromises → (around : Around) (quote : Quote) (value t o : List ℕ) (m : Marker)
     → IsQuoted quote around.indent value t → (now : FlowMoment) → Fits around now.context m t o
     → (slice_index o 0 == apostrophe) ≡ false → EndsQuotes around m (mid_line (moved m t) o) now.context

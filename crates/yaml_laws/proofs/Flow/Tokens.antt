@@ -252,6 +252,9 @@ text_ready around now m p o b calm none f text =
 
 -- ## A token is passed
 
+-- What all tokens have in common: `steps` tells of the step over one, wherever the scanner stands before it. From there
+-- the step is run (`step_comes`), the token has its own place in the queue, and the key behind it is what was kept or
+-- begins with it (`saved_since`). A key that is held stays so on its line (`held_behind`).
 pub token_passes : (around : Around) (comment : Option Marker) (says : Bool → ℕ → Type 0) (kind : Kind) (p o : List ℕ)
     (m : Marker) (now : FlowMoment) → Fits around now.context m p o → around.indent ≤ (moved m p).col
     → (start : Bool → State) → Ready around start now m (p ++ o) → ((b : Bool) (j : Option Candidate) (e : Bool)

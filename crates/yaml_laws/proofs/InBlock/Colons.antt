@@ -107,7 +107,8 @@ value_kinds further = start_kinds further tokens.BlockMappingStart tokens.Value
 room : (i j l limit : ℕ) → j ≤ i + 1 + l → i + suc l ≤ limit → j ≤ limit
 room i j l limit k h = omega (arith, k, h)
 
--- the `:` of a value is read, which begins a mapping or goes on with one
+-- The `:` of a value is read, which begins a mapping or goes on with one. From where the scanner stands the step is
+-- taken (`steps_on`), and its state is told at the next token (`before_next`).
 pub reads_value : {limit : ℕ} {start : State} {ts : List Kind} (f : Frame) (m : Marker) (o : List ℕ) (further : Bool)
     → nat_le f.indent m.col ≡ further → f.indent ≤ m.col + 1
     → IsBehindIndicator true (suc m.col) o

@@ -103,6 +103,8 @@ alone_list : (further : Bool) (ts us : List Kind)
     → (ts ++ key_kinds further) ++ us ≡ (ts ++ mapping_start further) ++ (tokens.Key ∷ us)
 alone_list further ts us = grind (arith, append_assoc, append-nil)
 
+-- The mark is read, and then the key behind it. The value is left out: the grammar asks that no `:` of the mapping's
+-- own comes next, which is known of the text (`unvalued`) and of the tokens that are still to come (`ahead`).
 reads_alone : {limit : ℕ} → ReadsLeaves limit → (key value : Node) → ReadsAt limit key (IsBlockNode most_open key)
     → ReadsPair limit key value (IsKeyAlone value (IsBlockNode most_open key))
 reads_alone {limit} leaves key value K f n further e far t z (node, out, some, h, unvalued, is) fits behind start ts

@@ -65,6 +65,8 @@ record PassesProperties (limit : ℕ) (start : State) (p : Properties) (f : Fram
   allowed : crosses o ≡ true → at.allowed ≡ true
   right : f.indent ≤ (moved m t).col
 
+-- The properties are read by the laws on flow style. In the words of blocks the scanner then is before what comes
+-- behind them (`goes_behind`), and a key that it keeps is not from a later line than theirs.
 properties_passed : ReaderPromises → {limit : ℕ} {start : State} {ts : List Kind} → limit < 2 ^ 63 → (f : Frame)
     (p : Properties) (t : List ℕ) → IsProperties p f.indent t → (m : Marker) (o : List ℕ) → f.indent ≤ m.col
     → IsTrue (is_blank_or_breakz (slice_index o 0)) → FitsOnLines limit m t o
@@ -98,6 +100,8 @@ line_first : (end o rest : List ℕ) → IsLineRest rest → end ≡ rest ++ (li
     → IsTrue (is_blank_or_breakz (slice_index (end ++ o) 0))
 line_first end o rest h e = cc (append_assoc rest (10 ∷ []) o, rest_first rest (10 ∷ o) h (inr refl))
 
+-- The gap, the properties, and what is between them and the header, which the scanner passes on its way to the header's
+-- indicator. A key that is kept there is from its line or an earlier one (`late`).
 pub reads_head : ReaderPromises → (limit : ℕ) → limit < 2 ^ 63 → ReadsHead limit
 reads_head reads limit short p place f same m gap t between y gap_is h between_is content fits start ts before =
     let n = moved m gap in
@@ -164,6 +168,8 @@ lines_behind w y (end, filler, n, (rest, rest_is, end_is), filler_is, e) content
       is = cc (append_assoc rest (10 ∷ []) more);
     }
 
+-- As `reads_head`, but the rest of the line is behind the properties, and a break. So the next token is on a later
+-- line, and no key of an earlier line is kept there (`late_key_left`): one may begin.
 pub reads_properties : ReaderPromises → (limit : ℕ) → limit < 2 ^ 63 → ReadsProperties limit
 reads_properties reads limit short p place f same m front t w y gap_is h next_line content fits start ts before =
     let n = moved m front in

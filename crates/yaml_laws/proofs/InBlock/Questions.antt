@@ -99,7 +99,8 @@ within_index i l j k limit e h = omega (arith, e, h)
 shifted : (i l limit : ℕ) → i + suc l ≤ limit → i + 1 + l ≤ limit
 shifted i l limit h = omega (arith, h)
 
--- `?` is read, which begins a mapping or goes on with one
+-- `?` is read, which begins a mapping or goes on with one. As `reads_value` of the colon, but the step itself passes
+-- what is behind the mark, so its token ends at the next one.
 pub reads_question : {limit : ℕ} {start : State} {ts : List Kind} (f : Frame) (m : Marker) (o : List ℕ) (further : Bool)
     → nat_le f.indent m.col ≡ further → f.indent ≤ m.col + 1 → BeginsWhite o → has_tab o ≡ false
     → m.index + length (question_mark ∷ o) ≤ limit → (v : At limit start f m (question_mark ∷ o) ts) → v.allowed ≡ true

@@ -144,6 +144,9 @@ no_returns (suc n) = (refl, no_returns n)
 some_text : (c : ℕ) (xs t : List ℕ) → t ≡ c ∷ xs → 0 < length t
 some_text c xs t e = subst (λ (y : List ℕ). 0 < length y) (sym e) (omega arith)
 
+-- The reading is given by the law on block scalars, and by another where it ends. Both the end and the text's own end
+-- with the spaces behind it are places that are passed from s to the same rest, so they are one place (`laws.place`).
+-- That it is on a later line comes from the break behind the header.
 pub block_taken : ReadsBlocks
     → (style : BlockStyle) (value : List ℕ) (indent : ℕ) (s : Cursor) (first : ℕ) (more t o : List ℕ) → s.rest ≡ t ++ o
     → t ≡ first ∷ more → is_break first ≡ false → AreIn (λ c. not (c == carriage_return)) t

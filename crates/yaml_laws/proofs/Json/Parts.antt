@@ -124,6 +124,8 @@ pair_regrouped n w k v b c a x o = simp append_assoc
 calm_colon : (k g c : List ℕ) → IsCalm (k ++ g) → IsCalm c → IsCalm (k ++ (g ++ c))
 calm_colon k g c p q = rw (append_assoc k g c) at (calm_both (k ++ g) c p q)
 
+-- The white space around the parts moves: what is before the value goes to the separation behind the colon, and what is
+-- after it, with what is before the other pairs, behind the pair. `pair_regrouped` says so of the text.
 pub pair_and_others : (room : ℕ) (key value : Node) (pairs : Pairs) (n w v t u : List ℕ) → IsName room key n
     → AreIn is_white w → AreIn is_white v → IsPadded room value true t → IsTail (AreOtherFlowPairs room pairs 0) u
     → ArePairAndOthers room key value pairs (n ++ (w ++ (codes ":" ++ (v ++ (t ++ u)))))

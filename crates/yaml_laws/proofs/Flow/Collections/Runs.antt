@@ -63,6 +63,9 @@ follows_bracket {around} {x} {node} {m} {o} (follows_outside is behind) e right 
 follows_bracket {around} {x} {node} {m} {o} (follows_key k held block w r is are before white) e right =
     rw block (ends_key around.indent e o w r is are right)
 
+-- Properties are passed first (`behind_front`), and then the brackets (`brackets_pass`), from whichever moment the
+-- properties led to. That has the same context, levels and place of a colon, so what is known of them is carried over
+-- by equations.
 pub collection_passes : {around : Around} {node : Node} {p : Properties} {b : Brackets} {Text : ℕ → List ℕ → Type 0}
     {Are : List Kind → Type 0} → ReaderPromises → ReadsCollection around node p b Text Are → (room : ℕ) (m : Marker)
     (t o : List ℕ) (now : FlowMoment) → IsBracketText b Text p room around.indent t
