@@ -27,7 +27,8 @@ within (Err e) = Err (record {})
 -- the text is refused so whatever comes behind what came.
 abbrev pub TurnsTooLong : (State → Result State Refusal) → State → Result Unit Halt → State → Stop → Type 0
 TurnsTooLong f old (Err halt.Limit) new end =
-    (end ≡ Refused (record { text = TextTooLong; mark = new.core.cursor.mark }))
+    (end ≡ Refused (record
+    { text = TextTooLong; mark = new.core.cursor.mark; open = may_be_open new.core.cursor.rest }))
     × ((more : List ℕ) → may_be_open new.core.cursor.rest ≡ false
     → (is_open old.core.cursor.rest ≡ false) × Fails end (f (extended_by more old)))
 TurnsTooLong f old _ new end = Unit {0}

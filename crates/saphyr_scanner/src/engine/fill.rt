@@ -61,7 +61,8 @@ impl<T: Input> Engine<T> {
         let mark = self.reader.mark();
         if mark.index > limit {
             let text = FaultText::TextTooLong;
-            self.stop = Stop::Refused(Refusal { text, mark });
+            let open = self.reader.is_at_open_end();
+            self.stop = Stop::Refused(Refusal { text, mark, open });
             return Err(Halt::Limit);
         }
         Ok(())
@@ -201,7 +202,7 @@ impl<T: Input> Engine<T> {
         match read {
             Ok(()) | Err(Halt::Limit) => !self.reader.is_at_open_end(),
             Err(Halt::Step) => match self.stop {
-                Stop::Refused(refusal) => refusal.text.is_seen(),
+                Stop::Refused(refusal) => !refusal.open,
                 Stop::OutOfMemory => true,
             },
         }

@@ -55,7 +55,9 @@ impl<T: Input> Engine<T> {
         ensures { CarriesBy spec.remove_key self.old result self.new }
     {
         if self.required && self.in_block() {
-            return Err(self.refuse_here(FaultText::KeyExpected));
+            let mark = self.reader.mark();
+            let open = self.reader.is_at_open_end() || self.reader.is_missing(1);
+            return Err(self.refuse(FaultText::KeyExpected, mark, open));
         }
         // Outside flow no key is required here, and inside flow what is stays so.
         self.level.has_key = false;
@@ -86,7 +88,7 @@ impl<T: Input> Engine<T> {
             return Ok(());
         }
         if self.required {
-            return Err(self.refuse_here(FaultText::KeyWithoutColon));
+            return Err(self.refuse_open_here(FaultText::KeyWithoutColon));
         }
         self.forget_key();
         Ok(())

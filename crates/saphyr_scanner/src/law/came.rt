@@ -6,7 +6,7 @@ ghost use Rattle.saphyr_scanner.specs.Steps.State.{State};
 ghost use Rattle.saphyr_scanner.specs.Views.Tokens.{Piece, refusal_alone};
 ghost use Rattle.saphyr_scanner.specs.Steps.Fetch.{needs_token};
 ghost use Rattle.saphyr_scanner.specs.Steps.Remaining.{remaining, scan};
-ghost use Rattle.saphyr_scalar.specs.Known.{IsRestOfText, is_open, is_seen};
+ghost use Rattle.saphyr_scalar.specs.Known.{IsRestOfText, is_open};
 ghost use Rattle.saphyr_scanner.specs.Longer.{ScansTo, before_all, extended_by, state_behind_token};
 
 use crate::law::takes_characters_off;
@@ -23,7 +23,7 @@ pub fn steps_by_what_came()
     ensures later { (limit : ℕ) (s t : State) → state_behind_token limit s ≡ Ok t
         → IsRestOfText t.core.cursor.rest s.core.cursor.rest }
     ensures seen { (limit : ℕ) (s : State) (e : Refusal) (more : List ℕ)
-        → state_behind_token limit s ≡ Err e → is_seen e.text ≡ true
+        → state_behind_token limit s ≡ Err e → e.open ≡ false
         → state_behind_token limit (extended_by more s) ≡ Err e }
     ensures goes_on { (limit : ℕ) (text more : List ℕ) (ts : List Piece) (s : State)
         → ScansTo limit text ts s → ScansTo limit (text ++ more) ts (extended_by more s) }
@@ -31,7 +31,7 @@ pub fn steps_by_what_came()
         → ScansTo limit text ts s → scan limit text ≡ before_all ts (remaining limit s) }
     ensures refused { (limit : ℕ) (text more : List ℕ) (ts : List Piece) (s : State) (e : Refusal)
         → ScansTo limit text ts s → needs_token s ≡ true → state_behind_token limit s ≡ Err e
-        → is_seen e.text ≡ true
+        → e.open ≡ false
         → scan limit (text ++ more) ≡ before_all ts (refusal_alone e) }
 {
     takes_characters_off();
