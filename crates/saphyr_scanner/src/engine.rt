@@ -116,17 +116,21 @@ impl<T: Input> Engine<T> {
     }
 
     // The text is refused at a place. Where it is open, what comes behind what came may change that.
-    fn refuse(&mut self, text: FaultText, mark: Marker, open: bool) -> Stopped
-        ensures { self.new.stop ≡ Refused (record { text = text; mark = mark; open = open }) }
+    fn refuse(&mut self, text: FaultText, mark: Marker, may_change: bool) -> Stopped
+        ensures { self.new.stop ≡ Refused (record { text = text; mark = mark; may_change = may_change }) }
     {
-        self.stop = Stop::Refused(Refusal { text, mark, open });
+        self.stop = Stop::Refused(Refusal {
+            text,
+            mark,
+            may_change,
+        });
         Stopped
     }
 
     // The text is refused at the place that is reached, whatever comes.
     fn refuse_here(&mut self, text: FaultText) -> Stopped
         ensures { self.new.stop ≡ Refused (record
-            { text = text; mark = (state self.old).core.cursor.mark; open = false }) }
+            { text = text; mark = (state self.old).core.cursor.mark; may_change = false }) }
     {
         let mark = self.reader.mark();
         self.refuse(text, mark, false)
@@ -134,18 +138,23 @@ impl<T: Input> Engine<T> {
 
     // The text is refused at a place, unless what is left of it is open.
     fn refuse_open(&mut self, text: FaultText, mark: Marker) -> Stopped
-        ensures { self.new.stop ≡ Refused (record { text = text; mark = mark;
-            open = may_be_open (state self.old).core.cursor.rest }) }
+        ensures { self.new.stop ≡ Refused (record {
+          text = text;
+          mark = mark;
+          may_change = may_be_open (state self.old).core.cursor.rest;
+        }) }
     {
-        let open = self.reader.is_at_open_end();
-        self.refuse(text, mark, open)
+        let may_change = self.reader.is_at_open_end();
+        self.refuse(text, mark, may_change)
     }
 
     // The text is refused at the place that is reached, unless what is left of it is open.
     fn refuse_open_here(&mut self, text: FaultText) -> Stopped
-        ensures { self.new.stop ≡ Refused (record { text = text;
-            mark = (state self.old).core.cursor.mark;
-            open = may_be_open (state self.old).core.cursor.rest }) }
+        ensures { self.new.stop ≡ Refused (record {
+          text = text;
+          mark = (state self.old).core.cursor.mark;
+          may_change = may_be_open (state self.old).core.cursor.rest;
+        }) }
     {
         let mark = self.reader.mark();
         self.refuse_open(text, mark)
@@ -154,11 +163,14 @@ impl<T: Input> Engine<T> {
     // The text is refused at a place, once its character `n` came.
     fn refuse_behind(&mut self, n: usize, text: FaultText, mark: Marker) -> Stopped
         requires { n < 8 }
-        ensures { self.new.stop ≡ Refused (record { text = text; mark = mark;
-            open = is_missing n (state self.old).core.cursor.rest }) }
+        ensures { self.new.stop ≡ Refused (record {
+          text = text;
+          mark = mark;
+          may_change = is_missing n (state self.old).core.cursor.rest;
+        }) }
     {
-        let open = self.reader.is_missing(n);
-        self.refuse(text, mark, open)
+        let may_change = self.reader.is_missing(n);
+        self.refuse(text, mark, may_change)
     }
 
     // Puts a token without parts from one place to another into the queue.

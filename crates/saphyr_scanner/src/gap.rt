@@ -34,14 +34,14 @@ fn end_gap<T: Input>(
         return Err(Refusal {
             text: FaultText::MisplacedByteOrderMark,
             mark,
-            open: false,
+            may_change: false,
         });
     }
     if tabbed && !is_z(c) {
         return Err(Refusal {
             text: FaultText::TabInBlockIndentation,
             mark,
-            open: false,
+            may_change: false,
         });
     }
     Ok(broke)

@@ -83,7 +83,7 @@ abbrev pub emit : Happening → Span → Machine → Result Emitted Refusal
 emit what span m = Ok (record { what = what; span = span; machine = m })
 
 abbrev pub refusal_at : {X : Type 0} → FaultText → Piece → Result X Refusal
-refusal_at text t = Err (record { text = text; mark = t.span.start; open = false })
+refusal_at text t = Err (record { text = text; mark = t.span.start; may_change = false })
 
 -- What ends the tokens. A scanner gives the end of the stream or a refusal, so the second case doesn't come.
 abbrev pub ending_refusal : Option Refusal → Refusal
@@ -91,7 +91,7 @@ ending_refusal (Some e) = e
 ending_refusal None = record {
   text = fault.DocumentStartExpected;
   mark = record { index = 0; line = 0; col = 0 };
-  open = false;
+  may_change = false;
 }
 
 abbrev pub with_pieces : List Piece → Machine → Machine

@@ -29,10 +29,10 @@ name_spelled m xs text u h =
     let taken : List ℕ × Cursor = (encode_utf8_all w, mid_line (along m n) (drop n xs)) in
     let some = cond_not {A = List ℕ × Cursor} (nat_eq (length (encode_utf8_all w)) 0)
     (cond (is_blank_or_breakz (slice_index (drop n xs) 0)) (Ok taken)
-    (Err (record { text = fault.DirectiveNameCharacter; mark = m; open = false }))) (text, u)
+    (Err (record { text = fault.DirectiveNameCharacter; mark = m; may_change = false }))) (text, u)
     _ h in
     let is = cond_ok {A = List ℕ × Cursor} (is_blank_or_breakz (slice_index (drop n xs) 0)) taken (text, u)
-    (record { text = fault.DirectiveNameCharacter; mark = m; open = false }) some.same in
+    (record { text = fault.DirectiveNameCharacter; mark = m; may_change = false }) some.same in
     let left : mid_line (along m n) (drop n xs) ≡ u = ap (λ (x : List ℕ × Cursor). x.1) is.same in
     let rest : drop n xs ≡ u.rest = ap (λ (x : Cursor). x.rest) left in
     record {

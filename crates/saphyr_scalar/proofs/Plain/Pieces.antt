@@ -257,6 +257,6 @@ unfolding plain
 plain_refused f i s r h = cc
 
 pub no_plain : (f : Bool) (i : ℕ) (s t : Cursor) → word_starts f s ≡ Ok (false, t)
-    → plain f i s ≡ refuse_open (may_be_open s.rest) fault.PlainEnd s.mark
+    → plain f i s ≡ refuse_open (may_be_open t.rest) fault.PlainEnd s.mark
 unfolding plain
 no_plain f i s t h = cc

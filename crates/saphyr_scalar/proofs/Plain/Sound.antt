@@ -104,7 +104,7 @@ plain_begins f i s x is = by (word_starts f s) refl is
   where
     by : (r : Result (Bool × Cursor) Refusal) → word_starts f s ≡ r
         → (r >>= λ b. if b.0 then word f i s.mark b.1.mark b.1.rest else
-        refuse_open (may_be_open s.rest) fault.PlainEnd s.mark) ≡ Ok x
+        refuse_open (may_be_open b.1.rest) fault.PlainEnd s.mark) ≡ Ok x
         → (u : Cursor) × (word_starts f s ≡ Ok (true, u)) × (word f i s.mark u.mark u.rest ≡ Ok x)
     by (Ok (true, u)) q e = (u, q, e)
     by (Ok (false, u)) q e = absurd (no_reading _ x e)

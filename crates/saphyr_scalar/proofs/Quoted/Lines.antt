@@ -75,18 +75,18 @@ Begins q indent start escaped n s (Err r) = inner_text_at q indent start (over_l
 
 -- the tests of `quoted_line`, in their order
 abbrev tests : Marker → Bool → Bool → Bool → Bool → Cursor → Result Cursor Refusal
-tests start open marker nul left s = cond marker (refuse_open open fault.DocumentIndicatorInsideQuotes start)
-    (cond nul (refuse_open open fault.EndInsideQuotes start)
-    (cond left (refuse_open open fault.QuotedIndentation start) (Ok s)))
+tests start b marker nul left s = cond marker (refuse_open b fault.DocumentIndicatorInsideQuotes start)
+    (cond nul (refuse_open b fault.EndInsideQuotes start)
+    (cond left (refuse_open b fault.QuotedIndentation start) (Ok s)))
 
 begins_by : (q : Quote) (indent : ℕ) (start : Marker) (escaped : Bool) (n : ℕ) (s t : Cursor) (word : TextRead)
-    (open marker nul left : Bool)
+    (b marker nul left : Bool)
     → inner_text_at q indent start (over_lines escaped n) s
-    ≡ ((tests start open marker nul left t >>= λ u. Ok (encode_utf8_all (folded_break escaped n))) >>= λ text. with_front
+    ≡ ((tests start b marker nul left t >>= λ u. Ok (encode_utf8_all (folded_break escaped n))) >>= λ text. with_front
     text word)
     → (nul ≡ false → inner_text_at q indent start no_gap s ≡ word)
-    → Begins q indent start escaped n s (tests start open marker nul left s)
-begins_by q indent start escaped n s t word open u0 nul left h w = grind arith
+    → Begins q indent start escaped n s (tests start b marker nul left s)
+begins_by q indent start escaped n s t word b u0 nul left h w = grind arith
 
 begins_end : (q : Quote) (indent : ℕ) (start m : Marker) (escaped : Bool) (n : ℕ) (b first left : Bool)
     → Begins q indent start escaped n (record { rest = []; mark = m; blank_so_far = b })

@@ -28,7 +28,7 @@ start_cursor text = record { rest = text; mark = record { index = 0; line = 1; c
 
 -- The text is refused at a place. Where it is open, what comes behind what came may change that.
 abbrev pub refuse_open : {X : Type 0} → Bool → FaultText → Marker → Result X Refusal
-refuse_open open text mark = Err (record { text = text; mark = mark; open = open })
+refuse_open may_change text mark = Err (record { text = text; mark = mark; may_change = may_change })
 
 -- it is refused whatever comes
 abbrev pub refuse : {X : Type 0} → FaultText → Marker → Result X Refusal

@@ -1,7 +1,7 @@
 //! A text of which more comes: whether its end is open, and laws of its readers. What a reader gives is the same
 //! whatever comes, unless it leaves a rest that is open.
 
-ghost use Rattle.std.specs.Prelude.{◌≡◌, ◌≤◌, ℕ, Bool, false, List, Ok, Option};
+ghost use Rattle.std.specs.Prelude.{◌≡◌, ◌<◌, ◌≤◌, ℕ, Bool, false, List, Ok, Option};
 ghost use Rattle.saphyr_scalar.specs.declared.scalar.position.Marker.{Marker};
 ghost use Rattle.saphyr_scalar.specs.Views.Cursor.{Cursor, separation};
 ghost use Rattle.saphyr_scalar.specs.Steps.Anchor.{anchor};

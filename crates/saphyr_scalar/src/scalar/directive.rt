@@ -55,14 +55,14 @@ impl<T: Input> Reader<T> {
             return Err(Stop::Refused(Refusal {
                 text: FaultText::DirectiveNameExpected,
                 mark: start,
-                open: self.is_missing(0),
+                may_change: self.is_missing(0),
             }));
         }
         if !is_blank_or_breakz(self.look()) {
             return Err(Stop::Refused(Refusal {
                 text: FaultText::DirectiveNameCharacter,
                 mark: start,
-                open: false,
+                may_change: false,
             }));
         }
         Ok(name)
@@ -81,7 +81,7 @@ impl<T: Input> Reader<T> {
                 return Err(Refusal {
                     text: FaultText::VersionNumberTooLong,
                     mark: start,
-                    open: false,
+                    may_change: false,
                 });
             }
             count += 1;
@@ -93,7 +93,7 @@ impl<T: Input> Reader<T> {
             return Err(Refusal {
                 text: FaultText::VersionNumberExpected,
                 mark: start,
-                open: c == '\0',
+                may_change: c == '\0',
             });
         }
         self.blank_so_far = false;
@@ -112,7 +112,7 @@ impl<T: Input> Reader<T> {
             return Err(Refusal {
                 text: FaultText::VersionDigitOrDotExpected,
                 mark: start,
-                open: self.is_missing(0),
+                may_change: self.is_missing(0),
             });
         }
         self.skip_non_blank();
@@ -129,7 +129,7 @@ impl<T: Input> Reader<T> {
             return Err(Stop::Refused(Refusal {
                 text: FaultText::TagHandleStartExpected,
                 mark: start,
-                open: self.is_missing(0),
+                may_change: self.is_missing(0),
             }));
         }
         let mut handle = self.spare.begin(alloc)?;
@@ -143,7 +143,7 @@ impl<T: Input> Reader<T> {
             return Err(Stop::Refused(Refusal {
                 text: FaultText::TagDirectiveHandleEndExpected,
                 mark: start,
-                open: c == '\0',
+                may_change: c == '\0',
             }));
         }
         Ok(handle)
@@ -158,7 +158,7 @@ impl<T: Input> Reader<T> {
             return Err(Stop::Refused(Refusal {
                 text: FaultText::TagPrefixCharacter,
                 mark: start,
-                open: self.is_missing(0),
+                may_change: self.is_missing(0),
             }));
         }
         let c = self.read_uri_character(start)?;
@@ -181,7 +181,7 @@ impl<T: Input> Reader<T> {
             return Err(Stop::Refused(Refusal {
                 text: FaultText::TagDirectiveEndExpected,
                 mark: start,
-                open: false,
+                may_change: false,
             }));
         }
         Ok(Directive::TagPrefix(handle, prefix))
@@ -220,7 +220,7 @@ impl<T: Input> Reader<T> {
             return Err(Refusal {
                 text: FaultText::DirectiveEndExpected,
                 mark: start,
-                open: false,
+                may_change: false,
             });
         }
         self.skip_line_break();

@@ -28,7 +28,7 @@ impl<T: Input> Reader<T> {
                 return Err(Refusal {
                     text: FaultText::HexadecimalDigitExpected,
                     mark: start,
-                    open: c == '\0',
+                    may_change: c == '\0',
                 });
             }
             self.input.skip();
@@ -55,7 +55,7 @@ impl<T: Input> Reader<T> {
             return Err(Refusal {
                 text: FaultText::UnknownEscape,
                 mark: start,
-                open: letter == '\0',
+                may_change: letter == '\0',
             });
         };
         self.skip_n_non_blank(2);
@@ -65,7 +65,7 @@ impl<T: Input> Reader<T> {
             None => Err(Refusal {
                 text: FaultText::EscapedCodePoint,
                 mark: start,
-                open: false,
+                may_change: false,
             }),
         }
     }

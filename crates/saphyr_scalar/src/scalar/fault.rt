@@ -216,7 +216,7 @@ pub struct Refusal {
     pub text: FaultText,
     pub mark: Marker,
     /// Whether characters that did not come may change it.
-    pub open: bool,
+    pub may_change: bool,
 }
 
 /// Why a text is refused, and where.

@@ -45,7 +45,7 @@ impl<T: Input> Reader<T> {
             return Err(Refusal {
                 text: FaultText::TagEscape,
                 mark: start,
-                open: low == '\0',
+                may_change: low == '\0',
             });
         }
         self.skip_n_non_blank(3);
@@ -66,7 +66,7 @@ impl<T: Input> Reader<T> {
             _ => Err(Refusal {
                 text: FaultText::TagEscapeTrailingByte,
                 mark: start,
-                open: false,
+                may_change: false,
             }),
         }
     }
@@ -101,7 +101,7 @@ impl<T: Input> Reader<T> {
             return Err(Refusal {
                 text: FaultText::TagEscapeLeadingByte,
                 mark: start,
-                open: false,
+                may_change: false,
             });
         }
         let value = self.read_trailing_bytes(width - 1, bits, start)?;
@@ -110,7 +110,7 @@ impl<T: Input> Reader<T> {
             _ => Err(Refusal {
                 text: FaultText::TagEscapeCodePoint,
                 mark: start,
-                open: false,
+                may_change: false,
             }),
         }
     }

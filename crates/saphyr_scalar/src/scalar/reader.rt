@@ -312,12 +312,12 @@ impl<T: Input> Reader<T> {
     fn refusal(&self, text: FaultText) -> Refusal
         ensures text { result.text ≡ text }
         ensures mark { result.mark ≡ (cursor_of self.now).mark }
-        ensures seen { result.open ≡ false }
+        ensures seen { result.may_change ≡ false }
     {
         Refusal {
             text,
             mark: self.mark,
-            open: false,
+            may_change: false,
         }
     }
 }

@@ -143,7 +143,7 @@ impl<T: Input> Reader<T> {
             return Err(Stop::Refused(Refusal {
                 text: FaultText::VerbatimTagEndExpected,
                 mark: start,
-                open: self.is_missing(0),
+                may_change: self.is_missing(0),
             }));
         }
         self.skip_non_blank();
@@ -163,7 +163,7 @@ impl<T: Input> Reader<T> {
             return Err(Stop::Refused(Refusal {
                 text: FaultText::TagSuffixExpected,
                 mark: start,
-                open: self.is_missing(0),
+                may_change: self.is_missing(0),
             }));
         }
         Ok(())
@@ -268,7 +268,7 @@ impl<T: Input> Reader<T> {
             return Err(Stop::Refused(Refusal {
                 text: FaultText::TagEndExpected,
                 mark: start,
-                open: false,
+                may_change: false,
             }));
         }
         Ok(handle)

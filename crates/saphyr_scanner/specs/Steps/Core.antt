@@ -111,8 +111,7 @@ forget_key c = record (with_key None c) { required = not (in_block c) && c.requi
 -- a key that has to be one is refused where it can't be one any more
 unfoldable pub remove_key : Core → Result Core Refusal
 remove_key c =
-    if in_block c && c.required then refuse_open (may_be_open c.cursor.rest || is_missing 1 c.cursor.rest)
-    fault.KeyExpected c.cursor.mark
+    if in_block c && c.required then refuse_open (is_missing 3 c.cursor.rest) fault.KeyExpected c.cursor.mark
     else Ok (forget_key c)
 
 -- A key outside flow is followed by its colon on its line, within 1,024 characters.

@@ -116,9 +116,9 @@ has_key (Some k) = true
 abbrev pub has_no_candidate : Core → Bool
 has_no_candidate c = not (has_key c.level.key) && (length c.outer == 0)
 
--- the stream's start comes next, and no token that may be a key is there
+-- the stream's start comes next, at the start of the text, and no token that may be a key is there
 abbrev pub is_at_start : Core → Bool
-is_at_start c = not c.started && has_no_candidate c
+is_at_start c = not c.started && has_no_candidate c && (c.cursor.mark.index == 0)
 
 -- the next token has to be read
 abbrev pub needs_token : State → Bool

@@ -54,12 +54,12 @@ EndsTokens (stop.Refused e) r = r ≡ refusal_alone e
 abbrev pub is_decided : Result Unit Stopped → List ℕ → Stop → Bool
 is_decided (Ok u) rest end = not (may_be_open rest)
 is_decided (Err e) rest stop.OutOfMemory = true
-is_decided (Err e) rest (stop.Refused d) = not d.open
+is_decided (Err e) rest (stop.Refused d) = not d.may_change
 
 -- Reading on, over what came, comes to a rest that may be open, or is refused where what comes may change that.
 abbrev pub IsUndecided : Result State Refusal → Type 0
 IsUndecided (Ok s) = may_be_open s.core.cursor.rest ≡ true
-IsUndecided (Err e) = e.open ≡ true
+IsUndecided (Err e) = e.may_change ≡ true
 
 -- The first token can be handed out, or there is none. The tokens are the same, whatever comes behind what came.
 abbrev pub Readies : Result Unit Stopped → Scanning → Scanning → Type 0

@@ -56,8 +56,7 @@ impl<T: Input> Engine<T> {
     {
         if self.required && self.in_block() {
             let mark = self.reader.mark();
-            let open = self.reader.is_at_open_end() || self.reader.is_missing(1);
-            return Err(self.refuse(FaultText::KeyExpected, mark, open));
+            return Err(self.refuse_behind(3, FaultText::KeyExpected, mark));
         }
         // Outside flow no key is required here, and inside flow what is stays so.
         self.level.has_key = false;

@@ -58,7 +58,7 @@ impl<T: Input> Reader<T> {
             return Err(Refusal {
                 text: FaultText::BlockScalarIndicatorZero,
                 mark: start,
-                open: false,
+                may_change: false,
             });
         }
         self.skip_non_blank();
@@ -75,7 +75,7 @@ impl<T: Input> Reader<T> {
             return Err(Refusal {
                 text: FaultText::BlockScalarHeaderEndExpected,
                 mark: start,
-                open: false,
+                may_change: false,
             });
         }
         self.skip_line_break();
@@ -83,7 +83,7 @@ impl<T: Input> Reader<T> {
             return Err(Refusal {
                 text: FaultText::BlockScalarTabFirst,
                 mark: start,
-                open: false,
+                may_change: false,
             });
         }
         Ok(())

@@ -67,7 +67,7 @@ impl<T: Input> Reader<T> {
                     return Err(Refusal {
                         text: FaultText::TabAsIndentation,
                         mark: self.mark,
-                        open: false,
+                        may_change: false,
                     });
                 }
                 self.skip_blank();
@@ -96,7 +96,7 @@ impl<T: Input> Reader<T> {
         Err(Refusal {
             text,
             mark: start,
-            open: self.is_at_open_end(),
+            may_change: self.is_at_open_end(),
         })
     }
 
@@ -222,7 +222,7 @@ impl<T: Input> Reader<T> {
             return Err(Stop::Refused(Refusal {
                 text: FaultText::EndInsideQuotes,
                 mark: start,
-                open: true,
+                may_change: true,
             }));
         }
         Ok(c)

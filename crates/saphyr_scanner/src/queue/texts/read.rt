@@ -61,7 +61,7 @@ fn pass_behind_quotes<T: Input>(
     Err(Refusal {
         text: FaultText::ContentAfterQuotes,
         mark: reader.mark(),
-        open: false,
+        may_change: false,
     })
 }
 
