@@ -1,5 +1,5 @@
 -- What is read as a directive's name is spelled so.
-use Rattle.saphyr_scalar.proofs.Common.{◌≡◌, ◌≢◌, ℕ, Bool, true, List, [], ◌++◌, length, take, drop, slice_index, nat_eq, cond, Ok, Err, sym, ap, ◌∙◌, encode_utf8_all, prefix_len, take-append-drop, length-take-le, prefix_len-le-length, is_blank_or_breakz, is_yaml_non_space, Marker, Cursor, along}
+use Rattle.saphyr_scalar.proofs.Common.{◌≡◌, ◌≢◌, ℕ, Bool, true, false, List, [], ◌++◌, length, take, drop, slice_index, nat_eq, cond, Ok, Err, sym, ap, ◌∙◌, encode_utf8_all, prefix_len, take-append-drop, length-take-le, prefix_len-le-length, is_blank_or_breakz, is_yaml_non_space, Marker, Cursor, along}
 use Rattle.saphyr_scalar.specs.declared.scalar.fault.FaultText.TheVariants as fault
 use Rattle.saphyr_scalar.specs.Steps.Directive.{directive_name_of, name}
 use Rattle.saphyr_scalar.specs.Steps.Quoted.{mid_line}
