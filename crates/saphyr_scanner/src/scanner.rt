@@ -8,7 +8,6 @@ ghost use Rattle.saphyr_scanner.specs.Steps.State as spec;
 ghost use Rattle.saphyr_scanner.specs.declared.growth.Growth.TheVariants.{Starved, Whole};
 ghost use Rattle.saphyr_scanner.specs.Views.Engine.{Keeps};
 ghost use Rattle.saphyr_scanner.specs.Views.Scanning.{IsReady, IsUndecided, PeeksToken, Readies, is_growing, tokens_in};
-ghost use Rattle.saphyr_scanner.specs.Views.TooLong as long;
 ghost use Rattle.saphyr_scanner.specs.Views.Tokens.{Piece, Remaining, before, kind_with, parts_view, text_of, token_kind};
 ghost use Rattle.saphyr_scanner.specs.SpansInOrder.{AreInOrder};
 ghost use Rattle.saphyr_scanner.specs.TokensTaken.{AreTakenFrom};
@@ -16,23 +15,12 @@ ghost use Rattle.saphyr_scanner.specs.TokensTaken.{AreTakenFrom};
 use crate::engine::Engine;
 use crate::growth::Growth;
 use crate::law::{orders_spans, takes_all_tokens, takes_characters_off};
-use crate::stopped::{Halt, Stopped, keep};
+use crate::stopped::{Stopped, keep};
 use crate::token::{TokenKind, TokenParts};
 use saphyr_input::input::{CloneInput, Input};
 use saphyr_scalar::{Span, Stop, TagParts};
 use std::alloc::{AllocError, Global};
 use std::marker::Model;
-
-// What a call told that reads up to a limit: it stopped where the limit was passed.
-#[inline(always)]
-fn within(read: Result<(), Halt>) -> Result<(), Stopped>
-    ensures { result ≡ long.within read }
-{
-    match read {
-        Ok(()) => Ok(()),
-        Err(_) => Err(Stopped),
-    }
-}
 
 /// The tokens of a text, one after the other.
 ///
@@ -128,7 +116,14 @@ impl<T: Input> Scanner<T> {
     fn fill_past_candidate(&mut self) -> Result<(), Stopped>
         ensures { Readies result self.old self.new }
     {
-        self.engine.drop_far_key()?;
+        let dropped = self.engine.drop_far_key();
+        if dropped.is_err() {
+            if matches!(self.growth, Growth::Growing) && !self.engine.is_decided(dropped) {
+                self.growth = Growth::Starved;
+                return Err(self.stop_at(Stop::OutOfMemory));
+            }
+            return dropped;
+        }
         if self.engine.needs_token() {
             return self.read_on();
         }
@@ -150,7 +145,7 @@ impl<T: Input> Scanner<T> {
         }
         // A law. It does nothing when it runs.
         takes_characters_off();
-        within(self.engine.read_tokens(self.limit))
+        self.engine.read_tokens(self.limit)
     }
 
     // Reads on where more of the text may come. It is separate for speed: a text is mostly whole.
@@ -168,11 +163,8 @@ impl<T: Input> Scanner<T> {
         takes_characters_off();
         let starts = self.engine.is_at_start();
         let read = self.engine.read_tokens(self.limit);
-        if starts {
-            return within(read);
-        }
-        if self.engine.is_decided(read) {
-            return within(read);
+        if starts || self.engine.is_decided(read) {
+            return read;
         }
         self.growth = Growth::Starved;
         Err(self.stop_at(Stop::OutOfMemory))

@@ -92,7 +92,7 @@ module _ (p : forest.Properties) (q : NodeProperties) (front : List Piece) (r : 
             span = record { start = q.start; end = q.behind };
             machine = machine (t ∷ ts) r s ss (noted p.anchor e);
           }) else Err
-          (record { text = fault.NodeContentExpected; mark = t.span.start }))
+          (record { text = fault.NodeContentExpected; mark = t.span.start; may_change = false }))
       by true y = leaf_goes [] Plain [] (record { start = q.start; end = q.behind }) (place_of c) (t ∷ ts)
           (inr (has_one p.anchor p.tag e q h.has y, refl, refl, refl))
           (whole (front ++ []) _ _ (alone_is front q h.shape))

@@ -17,7 +17,7 @@ is_named_handle handle = nat_le 2 (length handle)
 abbrev pub undeclared_prefix : List ℕ → Marker → Result (List ℕ) Refusal
 undeclared_prefix handle place =
     if bytes_eq handle (codes "!!") then Ok (codes "tag:yaml.org,2002:")
-    else if is_named_handle handle then Err (record { text = fault.UndeclaredHandle; mark = place })
+    else if is_named_handle handle then Err (record { text = fault.UndeclaredHandle; mark = place; may_change = false })
     else Ok handle
 
 abbrev pub declared_prefix_or : Option (List ℕ) → Result (List ℕ) Refusal → Result (List ℕ) Refusal

@@ -12,7 +12,8 @@ use Rattle.saphyr_scanner.specs.declared.queue.Opening.TheVariants as opening
 use Rattle.saphyr_scanner.specs.Grammar.Tokens as tokens
 use Rattle.saphyr_scanner.specs.Grammar.Tokens.{Kind}
 use Rattle.saphyr_scanner.specs.Views.Queue.{first_of, kind_shown}
-use Rattle.saphyr_scanner.specs.Views.Scanning.{EndsTokens, IsReady, PeeksToken, Readies, Scanning, text_in, tokens_in, tokens_over}
+use Rattle.saphyr_scanner.specs.Views.Scanning.{EndsTokens, IsReady, PeeksToken, Readies, Scanning, is_growing, text_in, tokens_in, tokens_over}
+use Rattle.saphyr_scanner.specs.declared.growth.Growth.{Growth}
 use Rattle.saphyr_scanner.specs.Views.Tokens.{BeginsWith, Parts, Piece, Remaining, none, before, refusal_alone, kind_with, no_parts, piece_with, text_parts, token_kind}
 use Rattle.saphyr_scanner.specs.Steps.Queue.{Place}
 use Rattle.saphyr_scanner.specs.Steps.Core.{Core, drop_far_key}
@@ -228,22 +229,26 @@ tokens_stay old t e more =
     ∙ sym (remaining_is old.limit (with_rest x old.state) (with_rest x t) gone)
 
 -- That which must be a key has no colon, whatever comes.
-pub tokens_end : (old : Scanning) (e : Refusal) → without_far_key old.state ≡ Err e → (more : List ℕ)
-    → tokens_in more old ≡ refusal_alone e
+pub tokens_end : (old : Scanning) (e : Refusal) → (is_growing old.growth ≡ true → e.may_change ≡ false)
+    → without_far_key old.state ≡ Err e → (more : List ℕ) → tokens_in more old ≡ refusal_alone e
 unfolding remaining tokens_over tokens_in
-tokens_end old e h more =
-    rw (far_refused (text_in old.growth more old.state.core.cursor.rest) old.state e h) refl
+tokens_end old e seen h more = rw (far_refused old.growth more old.state e seen h) refl
+
+-- what ends a reading is so whatever comes
+abbrev pub EndsForGood : Growth → Stop → Type 0
+EndsForGood g stops.OutOfMemory = Unit {0}
+EndsForGood g (stops.Refused e) = is_growing g ≡ true → e.may_change ≡ false
 
 -- What ends the tokens where a candidate is too far ends them, whatever comes.
-pub refuses_far : (old seen new : Scanning) → old ≡ seen → Fails new.stop (without_far_key old.state)
-    → (more : List ℕ) → EndsTokens new.stop (tokens_in more seen)
-refuses_far old seen new same fails =
-    λ more. subst (λ s. EndsTokens new.stop (tokens_in more s)) same (by new.stop fails
-    more)
+pub refuses_far : (old seen new : Scanning) → old ≡ seen → EndsForGood old.growth new.stop
+    → Fails new.stop (without_far_key old.state) → (more : List ℕ) → EndsTokens new.stop (tokens_in more seen)
+refuses_far old seen new same seen_so fails =
+    λ more. subst (λ s. EndsTokens new.stop (tokens_in more s)) same (by new.stop seen_so fails more)
   where
-    by : (end : Stop) → Fails end (without_far_key old.state) → (more : List ℕ) → EndsTokens end (tokens_in more old)
-    by stops.OutOfMemory f more = tt
-    by (stops.Refused d) f more = tokens_end old d f more
+    by : (end : Stop) → EndsForGood old.growth end → Fails end (without_far_key old.state) → (more : List ℕ)
+        → EndsTokens end (tokens_in more old)
+    by stops.OutOfMemory e f more = tt
+    by (stops.Refused d) e f more = tokens_end old d e f more
 
 -- Where the tokens are the same, what is read on is so from before.
 pub readies_from : (r : Result Unit Stopped) (old seen new : Scanning)

@@ -68,7 +68,7 @@ impl<T: Input> Engine<T> {
             self.old result self.new }
     {
         if begins_pair && key.mark.line < start.line {
-            return Err(self.refuse(FaultText::MisplacedColon, start));
+            return Err(self.refuse_behind(0, FaultText::MisplacedColon, start));
         }
         let opening = if begins_pair {
             Opening::FlowMappingAndKey
@@ -95,7 +95,7 @@ impl<T: Input> Engine<T> {
             self.put(start, start, TokenKind::FlowMappingStart)?;
         }
         if self.in_block() && !self.key_allowed {
-            return Err(self.refuse(FaultText::ValueNotAllowed, start));
+            return Err(self.refuse_behind(0, FaultText::ValueNotAllowed, start));
         }
         if self.is_further(start.col) {
             self.put(start, start, TokenKind::BlockMappingStart)?;
