@@ -7,7 +7,7 @@ ghost use Rattle.saphyr_scanner.specs.Steps.Remaining.{scan};
 ghost use Rattle.saphyr_scanner.specs.Steps.State as spec;
 ghost use Rattle.saphyr_scanner.specs.declared.growth.Growth.TheVariants.{Starved, Whole};
 ghost use Rattle.saphyr_scanner.specs.Views.Engine.{Keeps};
-ghost use Rattle.saphyr_scanner.specs.Views.Scanning.{IsReady, IsUndecided, PeeksToken, Readies, is_growing, tokens_in};
+ghost use Rattle.saphyr_scanner.specs.Views.Scanning.{Drops, EndsTokens, IsReady, IsUndecided, PeeksToken, Readies, is_growing, tokens_in};
 ghost use Rattle.saphyr_scanner.specs.Views.Tokens.{Piece, Remaining, before, kind_with, parts_view, text_of, token_kind};
 ghost use Rattle.saphyr_scanner.specs.SpansInOrder.{AreInOrder};
 ghost use Rattle.saphyr_scanner.specs.TokensTaken.{AreTakenFrom};
@@ -111,19 +111,34 @@ impl<T: Input> Scanner<T> {
         Ok(())
     }
 
+    // A candidate that is too far is dropped. If it had to be a key, that ends the tokens. It starves where what comes
+    // may change that.
+    #[inline(always)]
+    fn drop_far_key(&mut self) -> Result<(), Stopped>
+        ensures dropped { OnOk result (Drops self.old self.new) }
+        ensures refused { OnErr result ((more : List ℕ)
+            → EndsTokens self.new.stop (tokens_in more self.old)) }
+    {
+        let dropped = self.engine.drop_far_key();
+        if dropped.is_ok() {
+            return dropped;
+        }
+        if !matches!(self.growth, Growth::Growing) {
+            return dropped;
+        }
+        if self.engine.is_decided(dropped) {
+            return dropped;
+        }
+        self.growth = Growth::Starved;
+        Err(self.stop_at(Stop::OutOfMemory))
+    }
+
     // Reads until the next token can be handed out, where a candidate may be far or hold it.
     #[inline(never)]
     fn fill_past_candidate(&mut self) -> Result<(), Stopped>
         ensures { Readies result self.old self.new }
     {
-        let dropped = self.engine.drop_far_key();
-        if dropped.is_err() {
-            if matches!(self.growth, Growth::Growing) && !self.engine.is_decided(dropped) {
-                self.growth = Growth::Starved;
-                return Err(self.stop_at(Stop::OutOfMemory));
-            }
-            return dropped;
-        }
+        self.drop_far_key()?;
         if self.engine.needs_token() {
             return self.read_on();
         }
@@ -163,7 +178,10 @@ impl<T: Input> Scanner<T> {
         takes_characters_off();
         let starts = self.engine.is_at_start();
         let read = self.engine.read_tokens(self.limit);
-        if starts || self.engine.is_decided(read) {
+        if starts {
+            return read;
+        }
+        if self.engine.is_decided(read) {
             return read;
         }
         self.growth = Growth::Starved;

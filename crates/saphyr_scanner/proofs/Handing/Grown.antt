@@ -150,9 +150,6 @@ pub record FillsAlways (old new : Scanning) (r : Result Unit Stopped) : Type 0 w
   pub with_more : (more : List ℕ) → FillsOver (text_in old.growth more old.state.core.cursor.rest)
       (text_in new.growth more new.state.core.cursor.rest) old new new.stop r
 
-pub fills_as : {old new : Scanning} {r q : Result Unit Stopped} → r ≡ q → FillsAlways old new q → FillsAlways old new r
-fills_as {old} {new} is h = subst (FillsAlways old new) (sym is) h
-
 over : (old new : Scanning) (r : Result Unit Stopped) (x y before behind : List ℕ) → x ≡ before
     → y ≡ behind → FillsOver before behind old new new.stop r → FillsOver x y old new new.stop r
 over old new r x y before behind e f h = subst (λ z. FillsOver z y old new new.stop r) (sym e)

@@ -54,8 +54,8 @@ module _ (more : List ℕ) where
   pub entry_came : (c : Core)
       → Mixed steps more (drop 1 c.cursor.rest) (block_entry_steps c) (block_entry_steps (longer_core more c))
   unfolding block_entry_steps next_entry
-  entry_came c = let refused = missing_refused 1 c.cursor.rest (λ left. left) in
-      choose (not (in_block c)) (λ _. refused) (λ _. choose (not c.key_allowed) (λ _. refused)
+  entry_came c = choose (not (in_block c)) (λ _. missing_refused 1 c.cursor.rest (λ left. left))
+      (λ _. choose (not c.key_allowed) (λ _. missing_refused 1 c.cursor.rest (λ left. left))
       (λ _. and_mixed _ (and_mixed _ (on pass_dash (on (λ d. Ok (roll c.cursor.mark.col d)) (pass_came more 1 c)
       (roll_came more 0 (pass_on 1 c) c.cursor.mark.col)) (dash_came _))
       (λ d _. remove_came more 0 d (four_shown d.cursor.rest)))
@@ -79,7 +79,8 @@ module _ (more : List ℕ) where
   key_came c = choose (in_block c && not c.key_allowed) (λ _. missing_refused 1 c.cursor.rest (λ left. left))
       (λ _. and_then _ (and_then _
       (on (λ d. remove_key (with_context (behind_question c.level.context) d)) (roll_came more 1 c c.cursor.mark.col)
-      (remove_came more 1 _ (second_of_four _))) (λ d _. question_came (record d { key_allowed = in_block d })))
+      (remove_came more 1 (with_context (behind_question c.level.context) (roll c.cursor.mark.col c))
+      (second_of_four (roll c.cursor.mark.col c).cursor.rest))) (λ d _. question_came (record d { key_allowed = in_block d })))
       (λ d _. stays))
 
   -- ## Flow collections

@@ -1,5 +1,5 @@
 -- What a scanner has read for good, it reads with more of the text too.
-use Rattle.std.proofs.Common.{◌≡◌, ℕ, true, List, ◌++◌, Option, Err, ap}
+use Rattle.std.proofs.Common.{◌≡◌, ℕ, true, false, List, ◌++◌, Option, Err, ap}
 use Rattle.saphyr_scalar.specs.declared.scalar.fault.Refusal.{Refusal}
 use Rattle.saphyr_scanner.specs.Views.Tokens.{Piece, refusal_alone}
 use Rattle.saphyr_scanner.specs.Steps.Fetch.{needs_token}

@@ -8,7 +8,7 @@ use Rattle.saphyr_scanner.specs.declared.growth.Growth.{Growth}
 use Rattle.saphyr_scanner.specs.declared.growth.Growth.TheVariants as growth
 use Rattle.saphyr_scanner.specs.declared.stopped.Stopped.{Stopped}
 use Rattle.saphyr_scanner.specs.declared.token.TokenKind.{TokenKind}
-use Rattle.saphyr_scanner.specs.Steps.Fetch.{is_ready}
+use Rattle.saphyr_scanner.specs.Steps.Fetch.{is_ready, without_far_key}
 use Rattle.saphyr_scanner.specs.Steps.Remaining.{remaining}
 use Rattle.saphyr_scanner.specs.Steps.State.{State, with_rest}
 use Rattle.saphyr_scanner.specs.Views.Tokens.{BeginsWith, Remaining, refusal_alone}
@@ -60,6 +60,11 @@ is_decided (Err e) rest (stop.Refused d) = not d.may_change
 abbrev pub IsUndecided : Result State Refusal → Type 0
 IsUndecided (Ok s) = may_be_open s.core.cursor.rest ≡ true
 IsUndecided (Err e) = e.may_change ≡ true
+
+-- A candidate that is too far was dropped, and nothing else was changed.
+abbrev pub Drops : Scanning → Scanning → Type 0
+Drops old new =
+    (without_far_key old.state ≡ Ok new.state) × (new.limit ≡ old.limit) × (new.growth ≡ old.growth)
 
 -- The first token can be handed out, or there is none. The tokens are the same, whatever comes behind what came.
 abbrev pub Readies : Result Unit Stopped → Scanning → Scanning → Type 0
