@@ -44,10 +44,6 @@ abbrev pub opened_collection : Marker → Known
 opened_collection m key allowed adjacent new =
     fresh_key m key allowed adjacent new × ((piece : Piece) × (new ≡ bare_place piece ∷ []))
 
-pub saved_so : (x : Context) (a b : Bool) (n : ℕ) (m : Marker) (k j : Option Candidate)
-    → (is_block x ≡ false → (j ≡ k) × (b ≡ a)) → is_block x ≡ false → saved b n m j ≡ saved a n m k
-saved_so x a b n m k j h e = let s = h e in cc
-
 -- An opening bracket is read, whatever comes before it. Told of it are the key of the level outside, the run over the
 -- bracket, where that key began, and that a key which was held still is. The step is composed of its parts in
 -- `stepped`, and what comes of any step is `step_comes`.
@@ -81,7 +77,7 @@ open_passes around y in_flow kind ch mark begins m o now fits right parted low c
     stepped refl (within_index around.indent around.limit p.there (along m 1) o p.lands (omega (arith, below)))
     (kept_inside in_flow) in (
       key,
-      saved_so now.context now.allowed v.allowed (length now.places) m now.key v.key v.same,
+      (λ e. let s = v.same e in cc),
       step_passes next new (moved m (ch ∷ [])) o (kind ∷ []) (opened_collection
           (moved m (ch ∷ []))) came right (cc (mark_moved m ch mark))
           (fresh_in_flow y o true p.there in_flow) (holds_in_flow in_flow) refl (

@@ -1,5 +1,5 @@
 -- The properties of a node in flow style are passed, and an alias is.
-use Rattle.std.proofs.Common.{◌≡◌, ◌≢◌, ℕ, zero, suc, ◌+◌, ◌-◌, ◌≤◌, Bool, false, List, [], ◌∷◌, ◌++◌, slice_index, refl, sym, ap, ◌∙◌, arith, subst, append_assoc, append-nil, IsTrue, inl, inr}
+use Rattle.std.proofs.Common.{◌≡◌, ◌≢◌, ℕ, zero, suc, ◌+◌, ◌-◌, Bool, false, List, [], ◌∷◌, ◌++◌, slice_index, refl, sym, ap, ◌∙◌, arith, subst, append_assoc, append-nil, IsTrue, inl, inr}
 use Rattle.yaml_laws.proofs.Common.{not, option_map, Option, Some, None, is_blank, is_blank_or_breakz, Marker, AreIn, EndsTag, spaces, IsGap, IsSeparation, both_in, Context, Kind, alias_token, anchor_token, tag_token, Place, Candidate, Level, is_block, State, Tag, Alias, saved, IsTag, IsAnchor, allows_adjacent}
 use Rattle.saphyr_scanner.specs.Grammar.TokenGrammar as grammar
 use Rattle.yaml_laws.specs.Grammar.FlowNodes as yaml
@@ -52,7 +52,7 @@ gap_separates indent w (inr (
     let line = blanks ++ (comment ++ (10 ∷ (filler ++ spaces indent))) in
     let more = spaces (n - indent) ++ tail in
     let front_is : front ≡ spaces indent ++ more = cc (
-      longer indent n low,
+      (let same : n ≡ indent + (n - indent) = omega (arith, low) in ap spaces same ∙ sum indent (n - indent)),
       append_assoc (spaces indent) (spaces (n - indent)) tail,
     ) in (
       line ++ [],
@@ -69,9 +69,6 @@ gap_separates indent w (inr (
     sum zero j = let same : 0 + j ≡ j = omega arith in ap spaces same
     sum (suc i) j =
         let same : suc i + j ≡ suc (i + j) = omega arith in cc (sum i j)
-
-    longer : (i n : ℕ) → i ≤ n → spaces n ≡ spaces i ++ spaces (n - i)
-    longer i n low = let same : n ≡ i + (n - i) = omega (arith, low) in ap spaces same ∙ sum i (n - i)
 
 -- two with a gap between
 two_properties : (around : Around) (start : Bool → State) (x : Context) (kept before : Option Candidate)

@@ -35,10 +35,6 @@ pub record Tabbed (around : Around) (o : List ℕ) (m : Marker) (now : FlowMomen
       ≡ Ok (core_at around d (at_cursor there now))
   pub lands : past around.indent there.mark there.rest ≡ past around.indent m o
 
-no_refusal : (around : Around) (d : Bool) (found : SkipTabs) (now : FlowMoment) → is_block now.context ≡ false
-    → refuse_lone_tab (found, core_at around d now) ≡ Ok (core_at around d now)
-no_refusal around d found now e = rw e refl
-
 pub tabbed : (around : Around) (o : List ℕ) (m : Marker) (now : FlowMoment) → is_block now.context ≡ false
     → IsParted around.indent o → around.indent ≤ m.col → Tabbed around o m now
 unfolding check_tab
@@ -52,7 +48,7 @@ tabbed around o m now flows parted right = by_tab (slice_index o 0 == 9) refl
           there = p.there;
           is = λ d. rw e (ap (λ q. (q >>= λ (z : SkipTabs × Cursor). Ok
               (z.0, with_cursor z.1 (core_at around d (at_cursor (cursor_at o m false) now)))) >>= refuse_lone_tab) p.is
-              ∙ no_refusal around d p.found (at_cursor p.there now) flows);
+              ∙ (rw flows refl));
           lands = p.lands;
         }
     by_tab false e = record { there = cursor_at o m false; is = λ d. rw e refl; lands = refl }

@@ -218,13 +218,10 @@ reads_colon {limit} {start} f n ps others new key k m o ts us further e far v is
     (steps_from g t (ps ++ places) v refl there refl (room m.index p.mark.index (length o) limit p.low count))
     (key_are further ps others key m ts us first (ap place_kinds (sym is) ∙ are)) refl refl refl
     (le_next n.adjacent m.index low) p.lands (p.clean (least_column (core_of g t)) (least_within further k.col f t far))
-    (none_same (crosses p.rest) (crosses o) p.crosses_same) (behind k.col m.col right)
+    (or-false (crosses p.rest) ∙ p.crosses_same) (behind k.col m.col right)
   where
     further_right : (i k m : ℕ) → i ≤ k + 1 → k ≤ m → i ≤ m + 1
     further_right i k m h l = omega (arith, h, l)
-
-    none_same : (a b : Bool) → a ≡ b → (a || false) ≡ (false || b)
-    none_same a b e = or-false a ∙ e
 
     behind : (k m : ℕ) → k ≤ m → k < m + 1
     behind k m h = omega (arith, h)

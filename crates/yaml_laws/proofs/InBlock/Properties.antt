@@ -28,9 +28,6 @@ use Rattle.yaml_laws.proofs.InBlock.FlowNodes.{around_of, goes_behind}
 lands_on : (m : Marker) (b y : List ℕ) → Passes b → StartsContent y → past 0 m (b ++ y) ≡ (moved m b, y)
 lands_on m b y h content = cc (passes_to m b content.first content.others h content.content)
 
-clean_content : (y : List ℕ) → StartsContent y → IsClean y
-clean_content y content = rw content.is (content_clean content.first content.others content.content)
-
 text_line : {limit : ℕ} (m : Marker) (t o : List ℕ) → limit < 2 ^ 63 → FitsOnLines limit m t o
     → m.line ≤ (moved m t).line
 text_line m t o short fits = grind (arith, length-append, moved_line)
@@ -160,7 +157,8 @@ lines_behind w y (end, filler, n, (rest, rest_is, end_is), filler_is, e) content
     let text : w ++ y ≡ end ++ (more ++ y) = cc (append_assoc end more y) in
     record {
       skipped = rw e (skipped_append end more ends skipped);
-      clean = rw text (skipped_clean end (more ++ y) ends (skipped_clean more y skipped (clean_content y content)));
+      clean = rw text (skipped_clean end (more ++ y) ends (skipped_clean more y skipped (rw content.is (content_clean
+          content.first content.others content.content))));
       white = rw text (line_first end (more ++ y) rest rest_is end_is);
       crossed = ap crosses text ∙ line_end_crosses end (more ++ y) (rest, rest_is, end_is);
       rest = rest;

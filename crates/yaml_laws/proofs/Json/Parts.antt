@@ -114,9 +114,6 @@ pub record ArePairAndOthers (room : ℕ) (key value : Node) (pairs : Pairs) (t :
   pub more : AreOtherFlowPairs room pairs 0 others
   pub calm : IsCalm t
 
-colon_calm : (w : List ℕ) → AreIn is_white w → IsCalm (codes ":" ++ w)
-colon_calm w h = calm_both (codes ":") w (calm_character 58 refl refl) (white_calm w h)
-
 pair_regrouped : (n w k v b c a x o : List ℕ) → n ++ (w ++ (k ++ (v ++ ((b ++ (c ++ a)) ++ (x ++ o)))))
     ≡ ((n ++ (w ++ (k ++ ((v ++ b) ++ c)))) ++ (a ++ x)) ++ o
 pair_regrouped n w k v b c a x o = simp append_assoc
@@ -140,7 +137,8 @@ pair_and_others room key value pairs n w v t u name wh vh p o =
     ∙ ap (λ (x : List ℕ). n ++ (w ++ (codes ":" ++ (v ++ ((p.before ++ (p.core ++ p.after)) ++ x))))) o.is
     ∙ pair_regrouped n w (codes ":") v p.before p.core p.after o.before o.core in
     let whole_calm = calm_both n (w ++ colon) name.calm (calm_both w colon (white_calm w wh)
-    (calm_colon (codes ":") behind p.core (colon_calm behind behind_white) p.calm)) in
+    (calm_colon (codes ":") behind p.core (calm_both (codes ":") behind (calm_character 58 refl refl) (white_calm behind
+    behind_white)) p.calm)) in
     record {
       pair = whole ++ gap;
       others = o.core;
