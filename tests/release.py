@@ -36,7 +36,8 @@ FIRST = b"1:1 ports\n1:9 80\n1:13 443\n"  # what the programs of the README prin
 CALLS = ["add", "anchored", "check_standard", "clone", "count", "describe", "expanded", "free", "get", "item",
          "keep_tags", "key", "load", "load_next", "new", "new_pieces", "new_utf8", "next", "peek", "root", "valid_up_to",
          "value", "version"]
-PATHS = b".name = parser (1:7)\n.ports[0] = 80 (2:9)\n.ports[1] = 443 (2:13)\n"  # what the example `config` prints
+# What the example `config` prints. The last item is an alias.
+PATHS = b".name = parser (1:7)\n.ports[0] = 80 (2:9)\n.ports[1] = 443 (2:13)\n.ports[2] = parser (1:7)\n"
 STRICT = ["-Wall", "-Wextra", "-pedantic", "-Werror"]
 # Each call that takes NULL, at -O0 too, and `{}` in C++.
 NULLS = """#include <saphyr_parser.h>
@@ -184,9 +185,11 @@ def check_c(release, tools):
     """The archive alone, in C and in C++."""
     write(f"{release.folder}/nulls.c", NULLS)
     write(f"{release.folder}/first.c", block(release.readme, "c"))
-    programs = {"events": None, "pipe": SCALARS, "config": PATHS, "documents": b"1:1 8\n", "nulls": b"", "first": FIRST}
+    programs = {"events": None, "pipe": SCALARS, "config": PATHS, "documents": b"1:1 8\n", "lookup name": b"parser\n",
+                "nulls": b"", "first": FIRST}
     for compiler, standard in ((tools["cc"], "c99"), (tools["c++"], "c++17")):
-        for name, wanted in programs.items() if compiler else ():
+        for call, wanted in programs.items() if compiler else ():
+            name, *arguments = call.split()
             if name == "first" and standard != "c99":
                 continue
             source = release.folder if name in ("nulls", "first") else release.examples
@@ -194,7 +197,7 @@ def check_c(release, tools):
             words = ["-x", standard.rstrip("0123456789"), f"-std={standard}", *STRICT, f"-I{release.at}/include"]
             words += [f"{source}/{name}.c", "-x", "none", f"{release.at}/lib/libsaphyr_parser.a", "-o", made]
             release.call([compiler, *words])
-            release.check(f"{name} in {standard}", [made], wanted)
+            release.check(f"{name} in {standard}", [made, *arguments], wanted)
 
 
 def check_pkg_config(release, tools):
