@@ -1,5 +1,5 @@
 -- What the handle of a tag stands for (YAML 1.2.2, 6.8.2 and 6.9.1).
-use Rattle.std.specs.Prelude.{ℕ, ◌-◌, length, Bool, nat_le, nat_eq, ◌&&◌, if◌then◌else◌, List, Option, Some, None, Result, Ok, Err, codes, slice_index}
+use Rattle.std.specs.Prelude.{ℕ, ◌-◌, length, Bool, nat_le, nat_eq, false, ◌&&◌, if◌then◌else◌, List, Option, Some, None, Result, Ok, Err, codes, slice_index}
 use Rattle.std.specs.Str.{bytes_eq}
 use Rattle.saphyr_input.specs.Indicators.{exclamation_mark}
 use Rattle.saphyr_scalar.specs.declared.scalar.position.Marker.{Marker}
