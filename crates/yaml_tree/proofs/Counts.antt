@@ -2,7 +2,6 @@
 use Rattle.std.proofs.Common.{◌≡◌, ℕ, ◌+◌, min, List, [], ◌∷◌, ◌++◌, Option, Result, Ok, Err, OnOk, refl, sym, ap, subst, ◌∙◌, arith, rules, String, Global}
 use Rattle.saphyr_scalar.specs.declared.scalar.style.ScalarStyle.{ScalarStyle}
 use Rattle.saphyr_parser.specs.Types.Tag.{Tag}
-use Rattle.saphyr_parser.specs.Events as events
 use Rattle.saphyr_parser.specs.Events.{Happening, SequenceEnd, MappingEnd}
 use Rattle.yaml_tree.specs.declared.node.Node.{Node, Alias, Scalar, out-Node, the_lemmas}
 use Rattle.yaml_tree.specs.declared.expanding.Counter.{Counter}

@@ -5,7 +5,6 @@ use Rattle.saphyr_parser.specs.Events.{Happening}
 use Rattle.saphyr_parser.specs.Answer.{Answer, OutOfMemory, empty_answer, with_first_event}
 use Rattle.saphyr_parser.specs.Cursor.{EventCursor, Stays}
 use Rattle.yaml_tree.specs.declared.fault.TreeFault.{TreeFault}
-use Rattle.yaml_tree.specs.declared.fault.TreeFault.TheVariants as fault
 use Rattle.yaml_tree.specs.declared.tally.Limits.{Limits}
 use Rattle.yaml_tree.specs.declared.spans.SpanKeeper.{SpanKeeper}
 use Rattle.yaml_tree.specs.declared.spans.SpannedDocuments.{SpannedDocuments}

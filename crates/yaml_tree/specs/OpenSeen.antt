@@ -46,6 +46,11 @@ GrowsBy (Err fault.NotFresh) more place old = place ≡ None
 GrowsBy (Err fault.OutOfMemory) more place old = Unit {0}
 GrowsBy (Err _) more place old = ⊥
 
+-- the same in place
+abbrev pub AddsTo : Result (Unit {0}) TreeFault → List Happening → Option NestPlace → Open → Open → Type 0
+AddsTo (Ok u) more place old new = GrowsBy (Ok new) more place old
+AddsTo (Err f) more place old new = GrowsBy (Err f) more place old
+
 -- What ends has these events, the last its own end. It is refused elsewhere than at this place.
 abbrev pub EndsWhole : {X : Type 0} → (X → List Happening) → Result X TreeFault → Happening → NestPlace → Open → Type 0
 EndsWhole events (Ok x) end place old = (events x ≡ open_events old ++ end ∷ []) × (place_of old ≡ place)

@@ -147,10 +147,7 @@ impl Builder {
         ensures { Grows result (node_events node)
             (with_next_place place_behind_node (nest_of self.old)) self.old self.new }
     {
-        let open = mem::replace(&mut self.innermost, Open::Nothing);
-        let longer = open.with_node(node)?;
-        drop(mem::replace(&mut self.innermost, longer));
-        Ok(())
+        self.innermost.add(node)
     }
 
     // Begins a document or a collection.

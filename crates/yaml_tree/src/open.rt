@@ -10,6 +10,7 @@ use crate::fault::TreeFault;
 use crate::node::Node;
 use saphyr_parser::Tag;
 use std::alloc::Global;
+use std::mem;
 
 /// A stream, a document or a collection with its parts that are complete.
 #[derive(Drop)]
@@ -27,7 +28,7 @@ pub(crate) enum Open {
 }
 
 impl Open {
-    ghost use Rattle.yaml_tree.specs.OpenSeen.{place_of, GrowsBy, EndsWhole, Completes};
+    ghost use Rattle.yaml_tree.specs.OpenSeen.{place_of, GrowsBy, AddsTo, EndsWhole, Completes};
     ghost use Rattle.yaml_tree.specs.DocumentSeen.{IsLastOf};
 
     // The stream that begins.
@@ -78,38 +79,38 @@ impl Open {
         }
     }
 
-    // What is open, with one more node.
-    pub(crate) fn with_node(self, node: Node) -> Result<Open, TreeFault>
-        ensures { GrowsBy result (node_events node)
-            (nesting.place_behind_node (place_of self)) self }
+    // Adds a node that is complete. After an error no more may be added.
+    pub(crate) fn add(&mut self, node: Node) -> Result<(), TreeFault>
+        ensures { AddsTo result (node_events node)
+            (nesting.place_behind_node (place_of self.old)) self.old self.new }
     {
         match self {
-            Open::Document(explicit, root) => match root {
-                None => Ok(Open::Document(explicit, Some(node))),
-                Some(root) => {
-                    drop((root, node));
-                    Err(TreeFault::NotFresh)
-                }
-            },
-            Open::Sequence(id, tag, mut nodes) => match nodes.push(node) {
-                Ok(()) => Ok(Open::Sequence(id, tag, nodes)),
+            Open::Document(_, root) if root.is_none() => {
+                drop(mem::replace(root, Some(node)));
+                Ok(())
+            }
+            Open::Sequence(_, _, nodes) => match nodes.push(node) {
+                Ok(()) => Ok(()),
                 Err(fault) => {
-                    drop((fault, tag, nodes));
+                    drop(fault);
                     Err(TreeFault::OutOfMemory)
                 }
             },
-            Open::Mapping(id, tag, mut pairs, key) => match key {
-                None => Ok(Open::Mapping(id, tag, pairs, Some(node))),
-                Some(key) => match pairs.push((key, node)) {
-                    Ok(()) => Ok(Open::Mapping(id, tag, pairs, None)),
+            Open::Mapping(_, _, pairs, key) => match key.take() {
+                None => {
+                    drop(mem::replace(key, Some(node)));
+                    Ok(())
+                }
+                Some(first) => match pairs.push((first, node)) {
+                    Ok(()) => Ok(()),
                     Err(fault) => {
-                        drop((fault, tag, pairs));
+                        drop(fault);
                         Err(TreeFault::OutOfMemory)
                     }
                 },
             },
-            other => {
-                drop((other, node));
+            _ => {
+                drop(node);
                 Err(TreeFault::NotFresh)
             }
         }
