@@ -9,7 +9,7 @@ each behind a line with its length in bytes, and prints for each the length of i
 `START-END` for an event, and `!! FAULT`; with `--keep-tags`, where prefixes of tags hold for later documents. Events are
 written as `crates/test_events/src/lib.rt` says. In TEXT `\\n`, `\\r`, `\\t`, `\\\\` and `\\u{HEX}` stand for characters.
 
-A list is to be the crate's, but where `docs/DIFFERENCES.md` says otherwise. Each list that differs is counted under the
+A list is to be the crate's, but where `docs/DEPARTURES.md` says otherwise. Each list that differs is counted under the
 words of that page that explain it (`tests/reasons.py` says how); one that none explain fails the script, and so do words
 that the page lacks.
 """
@@ -106,13 +106,13 @@ def print_counts(counts, partly):
 
 def main(words):
     if len(words) == 1:
-        page = " ".join((ROOT / "docs/DIFFERENCES.md").read_text(encoding="utf-8").split())
+        page = " ".join((ROOT / "docs/DEPARTURES.md").read_text(encoding="utf-8").split())
         lacking = [listed for listed, _ in reasons.REASONS if listed not in page]
         unexplained = compare(words[0])
         for name, it in unexplained:
             print(f"{name}: {it.shown()}")
         for listed in lacking:
-            print(f"docs/DIFFERENCES.md doesn't say: {listed}")
+            print(f"docs/DEPARTURES.md doesn't say: {listed}")
         sys.exit(1 if unexplained or lacking else 0)
     if len(words) > 2 and words[1] == "--new":
         texts = [unescaped(it) for it in words[2:]]

@@ -6,7 +6,7 @@
 Makes N texts (20,000) from the seed S (1), and reads them by tests/faces/fuzz.c, which says what has to hold. Where
 clang has libFuzzer, that tries N texts more, which need not be UTF-8. With PROGRAM, a program over the Rust crate as
 `tests/against_crate.py` wants it, the events and places of the N texts are compared with the crate's: each difference has
-to be explained by words of `docs/DIFFERENCES.md`, as `tests/reasons.py` says. The text that goes wrong is shown.
+to be explained by words of `docs/DEPARTURES.md`, as `tests/reasons.py` says. The text that goes wrong is shown.
 
 The library is the one that `rt lib` or `rt ci` left in crates/saphyr_parser_c/out, as for `tests/faces.py`.
 """

@@ -1,4 +1,4 @@
-"""Why a list of a text is another than the Rust crate's: for what words of `docs/DIFFERENCES.md`.
+"""Why a list of a text is another than the Rust crate's: for what words of `docs/DEPARTURES.md`.
 
 A reason is taken out of the text, and the crate's list of what is left has to be ours: a tab becomes a space, an escape
 of a tag becomes letters, which become the escaped characters in the list, and so on. No place moves by that. Where a

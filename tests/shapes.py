@@ -12,7 +12,7 @@ why, and was written from the pages and the Rust crate's lists, never from what 
 `cases` of tests/faces reads each text whole, and `pieces` in pieces, with the library that tests/faces.py takes. The
 program `test_cases` reads it from a string, from an iterator and from a list with a window of eight, and takes the
 events in each way that it has. Or PROGRAM alone reads it, and prints as tests/faces/cases.c does. With --against that
-is the program over the Rust crate that tests/against_crate.py describes. No text here is one that docs/DIFFERENCES.md
+is the program over the Rust crate that tests/against_crate.py describes. No text here is one that docs/DEPARTURES.md
 tells, so the crate has to give these lists too.
 """
 import concurrent.futures

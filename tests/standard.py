@@ -5,8 +5,8 @@
 
 PROGRAM is the one that `rt ci` or `rt run` leaves in crates/check_yaml/out. These texts are checked:
 
-- each text of the table of docs/YAML.md on what the parser reads though the standard doesn't derive it: it has to be
-  refused by the rule of its row, and each two of them that are documents of one text by both rules;
+- each text of the table of docs/DEPARTURES.md on what the parser reads though the standard doesn't derive it: it has to
+  be refused by the rule of its row, and each two of them that are documents of one text by both rules;
 - texts whose entries break rules: each that is named beside the text has to be told, and no other;
 - what docs/CHECK_YAML.md shows of a text: that is what is printed;
 - if valgrind is there, a deep text that deviates, at two sizes: twice the text takes twice the instructions;
@@ -17,8 +17,8 @@ PROGRAM is the one that `rt ci` or `rt run` leaves in crates/check_yaml/out. The
   the others are derived is proved. Texts of up to 5 take two processes some ten minutes so;
 - with --suite the folder that suite.py takes: its valid cases have to be standard, and the others not.
 
-The grammar is wider than the standard in four rules (docs/YAML.md), which the program asks for all the same: `narrow`
-tells them.
+The grammar is wider than the standard in four rules (docs/DEPARTURES.md), which the program asks for all the same:
+`narrow` tells them.
 """
 import argparse
 import collections
@@ -92,7 +92,7 @@ OF_WIDER = "underscore-in-handle", "escaped-empty-line"
 
 def rows():
     """The texts of the table, each with its rule."""
-    with open(f"{TOP}/docs/YAML.md", encoding="utf-8") as page:
+    with open(f"{TOP}/docs/DEPARTURES.md", encoding="utf-8") as page:
         lines = page.read().split("\n| rule | production, changed |")[1].split("\n\n")[0].split("\n")[2:]
     rule = ""
     for line in lines:

@@ -224,7 +224,7 @@ typedef struct saphyr_event {
 typedef struct saphyr_deviation {
     /* The first place that shows it. Of a text that is refused, where the fault is. */
     saphyr_marker place;
-    /* The name of the rule that is broken there, as `flow-indentation`. The page YAML.md has them. */
+    /* The name of the rule that is broken there, as `flow-indentation`. The page DEPARTURES.md has them. */
     saphyr_text rule;
     /* The production of the standard, and what it asks. */
     saphyr_text sentence;

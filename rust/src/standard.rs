@@ -11,7 +11,7 @@ use std::fmt;
 pub struct Deviation {
     /// The first place that shows it.
     pub place: Marker,
-    /// The name of the rule that is broken there. `docs/YAML.md` of the repository has them.
+    /// The name of the rule that is broken there. `docs/DEPARTURES.md` of the repository has them.
     pub rule: &'static str,
     /// The production of the standard, and what it asks.
     pub sentence: &'static str,
