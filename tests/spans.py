@@ -31,6 +31,9 @@ LINE_BREAK = re.compile("\r\n|\r|\n")
 ESCAPED, NAMED = re.compile(r"\\(.)"), {"n": "\n", "r": "\r", "t": "\t", "b": "\b", "\\": "\\"}
 NOTHING = "nothing, at the next token"
 COMMA = "the comma or the bracket after it, and its tail"
+DOCUMENT_END = "`DocumentEnd`", "the `...`, else the next `---`, else nothing, at the end of the text"
+BRACKET = "a flow collection's start or end", "the bracket and its tail"
+AT_COLON, NO_KEY = ("a key before `:`, a value after it", "nothing, at the colon"), "a key after `?`, a whole document"
 
 # The rows of the page: the first column, or that of the row above where it is empty, and the second.
 ROWS = {
@@ -39,9 +42,9 @@ ROWS = {
     "explicit": ("`DocumentStart(true)`", "the `---`"),
     "implicit": ("`DocumentStart(false)`", "what the document's first token covers"),
     "before a block": ("`DocumentStart(false)`", "nothing, if a block collection comes first"),
-    "dots": ("`DocumentEnd`", "the `...`"),
-    "dashes": ("`DocumentEnd`", "otherwise the next `---`"),
-    "end": ("`DocumentEnd`", "otherwise nothing, at the end of the text"),
+    "dots": DOCUMENT_END,
+    "dashes": DOCUMENT_END,
+    "end": DOCUMENT_END,
     "alias": ("`Alias`", "the `*` and the name"),
     "plain": ("`Scalar`, plain", "its first character to its last"),
     "quoted": ("`Scalar`, quoted", "both quotes and their tail"),
@@ -51,17 +54,14 @@ ROWS = {
     ),
     "empty lines": ("`Scalar`, literal or folded", "including the empty lines after it"),
     "no lines": ("`Scalar`, literal or folded", "without content: nothing, after the spaces of the line after it"),
-    "header": (
-        "`Scalar`, literal or folded",
-        "without content, at the end of the text: the header and everything after it",
-    ),
+    "header": ("`Scalar`, literal or folded", "without content, at the end of the text: all from the header on"),
     "with properties": ("a scalar with properties", "the first property to the end of the scalar"),
     "properties": ("a scalar of properties alone", "the first to the last"),
-    "[": ("`SequenceStart`, `[`", "the bracket and its tail"),
-    "{": ("`MappingStart`, `{`", "the same"),
-    "]": ("`SequenceEnd`, `]`", "the same"),
-    "}": ("`MappingEnd`, `}`", "the same"),
-    ",}": ("`MappingEnd`, `}`", "after a comma: that comma and its tail"),
+    "[": BRACKET,
+    "{": BRACKET,
+    "]": BRACKET,
+    "}": BRACKET,
+    ",}": ("`MappingEnd`, after a comma", "that comma and its tail"),
     "sequence": ("`SequenceStart`, block", "nothing, at the first `-`"),
     "at its key": (
         "`SequenceStart`, block",
@@ -72,7 +72,7 @@ ROWS = {
     "block end": ("`SequenceEnd`, `MappingEnd`, block", f"{NOTHING} or at the end of the text"),
     "mark behind": (
         "`SequenceEnd`, `MappingEnd`, block",
-        "of a sequence at its key's column: what the next `?` covers, if that is next",
+        "of a sequence at its key's column, before a `?`: what that covers",
     ),
     "pair": ("`MappingStart` of a pair in `[]`", "nothing, at its first key"),
     "? pair": ("`MappingStart` of a pair in `[]`", "the `?`, and blanks, breaks and comments after it"),
@@ -82,14 +82,14 @@ ROWS = {
         "with a `?`: nothing, where the value's first token ends, or the token in its place",
     ),
     "entry": ("an entry after `-`", "nothing, after the dash and its tail"),
-    "value": ("a value after `:`", "nothing, at the colon"),
-    "? pair value": ("a value after `:`", f"in a pair in `[]` with a `?`: {COMMA}"),
+    "value": AT_COLON,
+    "? pair value": (AT_COLON[0], f"the value in a pair in `[]` with a `?`: {COMMA}"),
     "no value": ("a value without `:`, in block", NOTHING),
-    "no value before a mark": ("a value without `:`, in block", "what the next `?` covers, if that is next"),
+    "no value before a mark": ("a value without `:`, in block", "before a `?`: what that covers"),
     "no value in flow": ("a value without `:`, in flow", COMMA),
-    "key": ("a key before `:`", "nothing, at the colon"),
-    "? key": ("a key after `?`", "what the next token covers"),
-    "document": ("a whole document", "what the next token covers"),
+    "key": AT_COLON,
+    "? key": (NO_KEY, "what the next token covers"),
+    "document": (NO_KEY, "what the next token covers"),
 }
 
 
