@@ -389,7 +389,7 @@ saphyr_node saphyr_get(saphyr_parser *parser, saphyr_node node, const char *key,
 
 /*
  * Returns the node whose anchor has this id, so the one that an alias names, or SAPHYR_NO_NODE. An alias may be inside
- * the node that it names. It looks it up, and goes over no nodes.
+ * the node that it names. It looks at one node after the other.
  */
 saphyr_node saphyr_anchored(saphyr_parser *parser, size_t id);
 
