@@ -42,8 +42,10 @@ fn main() {
 /// Warns if the library is not there for the target.
 fn warn_of_target() {
     let variable = |name| env::var(name).unwrap_or_default();
-    if (variable("CARGO_CFG_TARGET_ARCH"), variable("CARGO_CFG_TARGET_OS"))
-        != ("x86_64".into(), "linux".into())
+    if (
+        variable("CARGO_CFG_TARGET_ARCH"),
+        variable("CARGO_CFG_TARGET_OS"),
+    ) != ("x86_64".into(), "linux".into())
     {
         println!(
             "cargo:warning=the proved library is there for Linux on x86-64 alone, as x86_64-unknown-linux-gnu. \

@@ -18,12 +18,12 @@ which is asked in its place, many texts at once; of what is found the program is
 processors.
 
 A method of `Search` is a definition: given a place, it yields each way in which tokens from there on meet it, with what
-they tell and the place behind them. `OPEN` names what is known that no definition asks: the search keeps to these
+they tell and the place behind them. `OPEN` names what the parser asks and no definition does: the search keeps to these
 conditions too, and an answer that is taken for the want of one is counted under its name. `-` stands for an answer that
 keeps to all: a class without a name, which wants a condition. A definition that comes to ask a condition takes its name
-out of `OPEN`. `FAULTS` names what the parser refuses and no method looks for: an answer of a refused text that has it
-is counted under its name. A list of a refused text that the grammar of YAML has without E1 to E8 is the right one; such
-lists are counted under `of YAML`.
+out of `OPEN`. A list of a refused text that the grammar of YAML has without E1 to E8 is the right one; such lists are
+counted under `of YAML`. The script fails if a text that is read has a second list, by whatever name, or if one has no
+name.
 
 A list that a fault ends may end anywhere, and differ from the parser's before. What matters most is counted: whole
 documents, from the text's start, that are given before a fault, and that the parser doesn't give. The definitions take
@@ -55,6 +55,7 @@ from recognizer import Grammar, printed as printed_forest
 
 TOP = os.path.dirname(os.path.dirname(os.path.abspath(__file__)))
 PROGRAM, DATA = TOP + "/crates/dump_events/out/dump_events", TOP + "/crates/test_cases/data/"
+PAGE = TOP + "/docs/DEFINITIONS.md"
 ALPHABET = "a:-?#[]{},&!*|>\"'. \n"
 PIECES = ["a", "a ", "a: ", ": ", ":\n", "- ", "-\n", "? ", "\n ", "\n  ", "\n- ", "\n: ", "\n? ", "\na: ", "&a ",
           "&a\n", "!a ", "*a ", "|\n", ">\n", "--- ", "\n...\n", " #", "[a", "{a", ", ", "a\n", '"a"', "'a'", "%TAG ",
@@ -90,6 +91,10 @@ NAMED_HANDLE = re.compile("![0-9A-Za-z_-]*!")
 SPACES = re.compile(" *")
 BLANKS = re.compile(r"[ \t]*")
 WHITE_SPACE = re.compile(r"[ \t\n\r]*")
+LONE_TABS = re.compile(r"\t+[0-9A-Za-z_-]")
+TAB_BETWEEN = re.compile(r"[ \t]*\t[ \t]*-(?=[\0 \t\n\r]|\Z)")
+BEHIND_QUESTION = re.compile(r"(?:[ \n\r]|#[^\0\n\r\ufeff]*)*")
+LAST_DASH = re.compile(r"(?:\A|[ \t\n\r])-\Z")
 LINE_TAIL = re.compile(r"[ \t]*(?:(?<=[ \t])#[^\0\n\r\ufeff]*)?(?=[\0\n\r]|\Z)")
 VERSION = re.compile(r"%YAML[ \t]+[0-9]{1,9}\.[0-9]{1,9}")
 TAG = re.compile(r"%TAG[ \t]+")
@@ -97,42 +102,46 @@ RESERVED = re.compile(r"%([^\0 \t\n\r\ufeff]+)(?:[ \t][^\0\n\r\ufeff]*)?")
 HEADER = re.compile(r"[|>]([1-9]?)([-+]?)([1-9]?)[ \t]*(?:(?<=[ \t])#[^\0\n\r\ufeff]*)?(\r\n|\r|\n)?")
 LEADING = re.compile(r"[ \n\r]*")
 
-# What no definition asks, by a name: a smallest text, an answer of it that is taken for the want of this alone, and a
-# pattern that a text has where it may be wanted.
+# What the parser asks and no definition does, by a name: a smallest text, an answer of it that is taken for the want of
+# this alone, and a pattern that each text has where it may be wanted.
 OPEN = {
     # 6.6: it is asked of what is inside a token's span alone
     "a blank before a comment": ("[]#", "+SEQ / -SEQ", r"\S#"),
-    # [126], of `-` alone
+    # [126], of `-` alone; E4 behind another word
     "no indicator behind a dash": ("[-]", "+SEQ / =VAL :- / -SEQ", r"-[,\[\]{}]"),
     # E8: of YAML, unless the mapping is on the line of a colon
     "something behind a question mark": ("?", "+MAP / =VAL : / =VAL : / -MAP", r"\?\Z"),
     # 8.1: right of its collection's column, as other nodes
-    "a block scalar's column": (":\n|\n a", "+MAP / =VAL : / =VAL |a\\n / -MAP", r"[\n\r][ \t]*[|>&!]"),
+    "a block scalar's column": ("-\n|", "+SEQ / =VAL | / -SEQ", r"[\n\r][ \t]*[|>&!]"),
     # [183], [187]: it begins on a line of its own, or behind `-`, `?` or the colon of no key
     "the line of a block collection": ("a: -", "+MAP / =VAL :a / +SEQ / =VAL : / -SEQ / -MAP", r"\S[ \t]+[^\s#]"),
-}
-# What the parser refuses and no definition asks, by a name: a smallest text, an answer of it that is taken, and a
-# pattern that each such text has.
-FAULTS = {
-    # E4: where the scalar begins with an indicator it is not of YAML
-    "a dash before an indicator": ("[| -]", "+SEQ / =VAL :| - / -SEQ", r"[ \t\n\r]-[,\[\]{}]"),
-    # 6.1: no tab is left of where content begins
-    "a tab as indentation": (":\n\ta", "+MAP / =VAL : / =VAL :a / -MAP", r"(?m)^ *\t[ \t]*[^ \t\n\r]"),
-    # 7.4: the later lines of brackets are right of their collection's column
-    "a line in brackets": ("- [\n]", "+SEQ / +SEQ / -SEQ / -SEQ", r"(?s)[\[{].*[\n\r]"),
-    # 7.3: so are those of a quoted scalar, which may be at the column by the definitions
-    "a line in quotes": (': "\n"', '+MAP / =VAL : / =VAL "  / -MAP', r"(?s)[\"'].*[\n\r]"),
-    # 7.4.2: E3, and no bracket behind a colon that nothing ends like JSON before
-    "a colon beside brackets": ("[:[]]", "+SEQ / +MAP / =VAL : / +SEQ / -SEQ / -MAP / -SEQ", r":[\[{]"),
+    # [185]: spaces alone are between the dashes of a compact sequence
+    "no tab between dashes": ("-\t-", "+SEQ / +SEQ / =VAL : / -SEQ / -SEQ", r"-[ \t]*\t[ \t]*-"),
+    # 6.1: in front of content no tab is left of where that may begin
+    "no tab as indentation": (":\n\ta", "+MAP / =VAL : / =VAL :a / -MAP", r"(?:\A|[\n\r]) *\t"),
+    # E1: of YAML, unless another rule is broken too
+    "no tab behind a colon": (":\ta", "+MAP / =VAL : / =VAL :a / -MAP", r":\t"),
+    # E2: of YAML, unless another rule is broken too
+    "no tab behind a question mark": ("?\t", "+MAP / =VAL : / =VAL : / -MAP", r"(?s)\?.*\t"),
+    # 7.4: up to the first plain scalar they are right of their collection's column, and then not left of it
+    "the column of a line in brackets": ("- [\n]", "+SEQ / +SEQ / -SEQ / -SEQ", r"(?s)[\[{].*[\n\r]"),
+    # 7.3: behind a colon, and where other content has to, it is right of its collection's column
+    "the column of a line in quotes": (': "\n"', '+MAP / =VAL : / =VAL "  / -MAP', r"(?s)[\"'].*[\n\r]"),
+    # 7.4.2: what ends like JSON is before it
+    "no bracket behind a colon": ("[:[]]", "+SEQ / +MAP / =VAL : / +SEQ / -SEQ / -MAP / -SEQ", r":[\[{]"),
+    # E3: of YAML, unless another rule is broken too
+    "a colon on the line of a bracket": ("{[]\n:a}", "+MAP / +SEQ / -SEQ / =VAL :a / -MAP", r"(?s)[\]}].*[\n\r].*:"),
 }
 WAIVED = "key with a colon", "own braces"
 ASKED, REFUSED = 0, 1
 
-# A place: its index and column; whether the last token that has a text is a quoted scalar or the end of a flow
-# collection; how many starts and keys without a text stand there; and how many events were told before, where they are
-# known (`Search.known`).
-Place = collections.namedtuple("Place", "index col ends_json bare emitted")
-START = Place(0, 0, False, 0, 0)
+# A place: its index and column; how the last token that has a text ends like JSON, if so; how many starts and keys
+# without a text stand there; how many events were told before, where they are known (`Search.known`); whether content
+# has to be right of the innermost block collection's column; and whether the last token is a plain scalar, in a text
+# with a tab.
+Place = collections.namedtuple("Place", "index col ends_json bare emitted is_deeper is_behind_plain")
+NOT_JSON, QUOTED, BRACKET = "", "quoted", "bracket"
+START = Place(0, 0, NOT_JSON, 0, 0, False, False)
 Leaf = collections.namedtuple("Leaf", "name anchor tag style value")
 Opening = collections.namedtuple("Opening", "name anchor tag")
 Reference = collections.namedtuple("Reference", "name anchor_name")
@@ -230,7 +239,7 @@ class Search:
 
     def __init__(self, text, bare, waived=(), known=None):
         self.text, self.most_bare, self.waived, self.known = text, bare, waived, known
-        self.known_ways, self.furthest = {}, 0
+        self.known_ways, self.furthest, self.has_tab = {}, 0, "\t" in text
         self.line_starts, self.behind_white = [0], []
         for index in range(len(text)):
             self.line_starts.append(index + 1 if self.ends_line(index) else self.line_starts[-1])
@@ -269,16 +278,16 @@ class Search:
         """The place at an index behind (IsPassed, end_of_text)."""
         start = self.line_starts[index]
         col = index - start if start > place.index else place.col + index - place.index
-        return Place(index, col, place.ends_json, place.bare, place.emitted)
+        return Place(index, col, place.ends_json, place.bare, place.emitted, place.is_deeper, place.is_behind_plain)
 
-    def along(self, place, count, ends_json=False):
+    def along(self, place, count, ends_json=NOT_JSON):
         """The place behind so many characters of a token on its line."""
-        return Place(place.index + count, place.col + count, ends_json, 0, place.emitted)
+        return Place(place.index + count, place.col + count, ends_json, 0, place.emitted, place.is_deeper, False)
 
-    def behind(self, place, index, ends_json=False):
+    def behind(self, place, index, ends_json=NOT_JSON):
         """The place behind a token that may go over several lines."""
         place = self.passed(place, index)
-        return Place(index, place.col, ends_json, 0, place.emitted)
+        return Place(index, place.col, ends_json, 0, place.emitted, place.is_deeper, False)
 
     def has_break(self, place, other):
         return any(c in BREAK for c in self.text[place.index:other.index])
@@ -289,14 +298,31 @@ class Search:
         """The place behind blanks, breaks and comments (AreApart)."""
         return self.passed(place, self.behind_white[place.index])
 
+    def arrive(self, place, context, column):
+        """The place of the next token, or None if none may begin there."""
+        here = self.apart(place)
+        is_left = context == IN_FLOW and here.col < column + place.is_deeper
+        broken = self.unless("the column of a line in brackets", not is_left)
+        broken |= self.unless("no tab as indentation", not self.has_tab or not self.is_behind_tab(place, here, column))
+        return here if self.may(broken) else None
+
+    def is_behind_tab(self, place, here, column):
+        """Whether a tab is left of where content may begin, and content behind it."""
+        front = self.text[self.line_starts[here.index]:here.index]
+        if here.index in (place.index, len(self.text)) or front.strip(BLANK) or "\t" not in front:
+            return False
+        is_right = place.is_deeper or place.is_behind_plain and "#" not in self.text[place.index:here.index]
+        return front.index("\t") < column + is_right
+
     def without_text(self, place):
         """The same place behind a start or a key that has no text (HasNoText, IsBlockStart)."""
-        more = Place(place.index, place.col, place.ends_json, place.bare + 1, place.emitted)
-        return [more] if place.bare < self.most_bare else []
+        return [place._replace(bare=place.bare + 1)] if place.bare < self.most_bare else []
 
     def stands(self, place, c):
-        """The place behind a character that stands at a place (TakesCharacter)."""
-        return [self.along(place, 1, c in "]}")] if self.at(place.index) == c else []
+        """The place behind a character that stands at a place, if there is one (TakesCharacter)."""
+        if place is None or self.at(place.index) != c:
+            return []
+        return [self.along(place, 1, BRACKET if c in "]}" else NOT_JSON)]
 
     def marker(self, place, text):
         is_marker = self.text.startswith(text, place.index) and self.is_document_indicator(place.index)
@@ -316,17 +342,32 @@ class Search:
         if context != IN_FLOW and place.col != column:
             return
         is_mark = self.at(place.index) == "?" and self.at(place.index + 1) in BLANK_OR_BREAKZ
-        is_last = place.index + 1 == len(self.text)
-        if is_mark and self.may(self.unless("something behind a question mark", not is_last)):
-            yield True, self.along(place, 1)
+        broken = self.unless("something behind a question mark", place.index + 1 < len(self.text))
+        follows = BEHIND_QUESTION.match(self.text, place.index + 1) if is_mark else None
+        broken |= self.unless("no tab behind a question mark", not follows or self.at(follows.end()) != "\t")
+        if is_mark and self.may(broken):
+            yield True, self.along(place, 1)._replace(is_deeper=context == IN_FLOW and place.is_deeper)
         yield from ((False, t) for t in self.without_text(place))
 
-    def value_tokens(self, place, context):
-        """The place behind a colon (IsColon)."""
-        following, in_flow = self.at(place.index + 1), context == IN_FLOW
-        ends = following in BLANK_OR_BREAKZ or in_flow and (following in FLOW or place.ends_json)
-        for behind in self.stands(place, ":") if ends or in_flow else []:
-            yield behind, self.unless("colon apart", ends)
+    def value_tokens(self, place, context, column):
+        """The place behind a colon that comes next (IsColon). Content is right of the column of a block mapping."""
+        here, in_flow = self.arrive(place, context, column), context == IN_FLOW
+        for t in self.stands(here, ":"):
+            following = self.at(t.index)
+            if following in BLANK_OR_BREAKZ or in_flow and (following in FLOW or here.ends_json):
+                broken = self.colon_breaks(place, here, following) if in_flow else self.tab_breaks(t)
+                yield t._replace(is_deeper=not in_flow or t.is_deeper), broken
+
+    def colon_breaks(self, place, here, following):
+        """What a colon in brackets breaks, behind a token that ends at a place."""
+        is_far = place.ends_json == BRACKET and self.has_break(place, here)
+        is_beside = following not in BLANK_OR_BREAKZ + ",]}"
+        broken = self.unless("a colon on the line of a bracket", not (is_far and is_beside))
+        return broken | self.unless("no bracket behind a colon", here.ends_json or following not in "[{")
+
+    def tab_breaks(self, place):
+        """What is broken behind a colon outside brackets."""
+        return self.unless("no tab behind a colon", not LONE_TABS.match(self.text, place.index))
 
     # ## Spelling/Tag.antt
     def decoded(self, index, among):
@@ -432,7 +473,7 @@ class Search:
             if not is_apart and following in BLANK_OR_BREAKZ + MARK + ":" + FLOW:
                 piece = self.text[place.index:there.index]
                 if self.may_stand(piece, context, following) and self.ends_plain(there, context, column):
-                    yield plain_value(normalized(piece)), there
+                    yield plain_value(normalized(piece)), there._replace(is_deeper=False, is_behind_plain=self.has_tab)
 
     def ends_plain(self, place, context, column):
         """Whether no plain scalar goes on behind the white space at a place (EndsPlain)."""
@@ -447,7 +488,8 @@ class Search:
         """Whether a piece has no indicator that ends it inside flow (IsSafeInFlow), or begins none outside."""
         if context != IN_FLOW:
             return piece[0] not in "|>"
-        if piece == "-" and following in FLOW and not self.may(self.unless("no indicator behind a dash", False)):
+        is_dash = following in FLOW and LAST_DASH.search(piece)
+        if not self.may(self.unless("no indicator behind a dash", not is_dash)):
             return False
         return not set(piece) & set(FLOW) and not (piece[-1] == ":" and following in FLOW)
 
@@ -481,7 +523,7 @@ class Search:
         quote, index, items = self.at(place.index), place.index + 1, []
         while index < len(self.text):
             if self.at(index) == quote and not (quote == "'" and self.at(index + 1) == "'"):
-                yield quote, folded(items), self.behind(place, index + 1, ends_json=True)
+                yield quote, folded(items), self.behind(place, index + 1, QUOTED)
                 return
             found = self.quoted_item(quote, index)
             if not found:
@@ -491,8 +533,14 @@ class Search:
             if found[0][0] in ("break", "escaped break") and self.is_document_indicator(index):
                 return
             closes = found[0][0] == "escaped break" and self.at(index) == quote
-            if found[0][0] in ("break", "escaped break") and not (closes or self.is_quoted_line(index, column)):
+            if found[0][0] in ("break", "escaped break") and not (closes or self.may_go_on(place, index, column)):
                 return
+
+    def may_go_on(self, place, index, column):
+        """Whether a quoted scalar that begins at a place may go on with the line at an index."""
+        is_right = self.is_quoted_line(index, column + place.is_deeper)
+        goes_on = self.unless("the column of a line in quotes", is_right)
+        return self.is_quoted_line(index, column) and self.may(goes_on)
 
     # ## Reading/BlockText.antt
     def header(self, index):
@@ -536,7 +584,7 @@ class Search:
             fit = all(is_read_line(indentation, line) for line in lines)
             if fit and self.text[end - 1:end + 1] != "\r\n" and self.is_behind_lines(indentation, t):
                 value = block_value(style, chomping, indentation, "\n".join(lines), self.at(end) == END)
-                yield style, value, t
+                yield style, value, t._replace(is_deeper=False)
             if self.at(end) in END + MARK or is_start and self.is_document_indicator(end):
                 return
             is_start = self.at(end) in BREAK
@@ -546,7 +594,8 @@ class Search:
             yield from self.quoted_tokens(place, column)
         if self.at(place.index) in "|>":
             yield from self.block_scalar_tokens(place, context, column)
-        yield from (("plain", *it) for it in self.plain_tokens(place, context, column))
+        broken = self.unless("the column of a line in brackets", context != IN_FLOW or place.col > column)
+        yield from (("plain", *it) for it in (self.plain_tokens(place, context, column) if self.may(broken) else ()))
 
     # ## Grammar/TokenGrammar.antt. `column` is that of the innermost open block collection. A context says where a node
     # stands.
@@ -554,15 +603,22 @@ class Search:
     def properties(self, place, context, column):
         """No property, an anchor, a tag or both (YieldProperties)."""
         yield (None, None), place, 0
-        here = self.apart(place)
-        for anchor, t in self.name_tokens(here, "&") if self.is_indented(here, context, column) else []:
+        for anchor, t in self.names(place, "&", context, column):
             yield (anchor, None), t, 0
-            tags = self.tag_tokens(self.apart(t), context) if self.is_indented(self.apart(t), context, column) else []
-            yield from (((anchor, tag), u, 0) for tag, u in tags)
-        for tag, t in self.tag_tokens(here, context) if self.is_indented(here, context, column) else []:
+            yield from (((anchor, tag), u, 0) for tag, u in self.tags(t, context, column))
+        for tag, t in self.tags(place, context, column):
             yield (None, tag), t, 0
-            names = self.name_tokens(self.apart(t), "&") if self.is_indented(self.apart(t), context, column) else []
-            yield from (((anchor, tag), u, 0) for anchor, u in names)
+            yield from (((anchor, tag), u, 0) for anchor, u in self.names(t, "&", context, column))
+
+    def names(self, place, indicator, context, column):
+        """The name of the anchor or alias that comes next, and the place behind it."""
+        here = self.arrive(place, context, column)
+        return self.name_tokens(here, indicator) if here and self.is_indented(here, context, column) else ()
+
+    def tags(self, place, context, column):
+        """Each tag that comes next, and the place behind it."""
+        here = self.arrive(place, context, column)
+        return self.tag_tokens(here, context) if here and self.is_indented(here, context, column) else ()
 
     def is_indented(self, place, context, column):
         """Whether a token of a flow node may begin here: outside brackets right of the innermost block collection,
@@ -580,24 +636,25 @@ class Search:
     @way
     def node(self, place, context, column):
         """A node (YieldsNode)."""
-        here = self.apart(place)
-        for name, t in self.name_tokens(here, "*") if self.is_indented(here, context, column) else []:
+        for name, t in self.names(place, "*", context, column):
             yield from ((emitted, u, 0) for emitted, u in self.emit(t, Reference("=ALI", name)))
         for (anchor, tag), t, broken in self.properties(place, context, column):
-            content, has_property = self.apart(t), (anchor, tag) != (None, None)
+            content, has_property = self.arrive(t, context, column), (anchor, tag) != (None, None)
             if self.may(broken):
                 ways = self.flow_content(t, context, column, anchor, tag)
                 yield from ((emitted, u, broken | more) for emitted, u, more in ways)
-            broken |= self.unless("own line", not has_property or self.has_break(t, content))
-            if context != IN_FLOW and self.may(broken):
+            broken |= self.unless("own line", not has_property or content and self.has_break(t, content))
+            if content and context != IN_FLOW and self.may(broken):
                 ways = self.block_collection(content, context, column, anchor, tag)
                 yield from ((emitted, u, broken | more) for emitted, u, more in ways)
 
     def flow_content(self, place, context, column, anchor, tag):
         """What no block collection is: a scalar, which may be left out behind a property, or a flow collection."""
-        content = self.apart(place)
+        content = self.arrive(place, context, column)
         if (anchor, tag) != (None, None):
             yield from ((emitted, t, 0) for emitted, t in self.emit(place, Leaf("=VAL", anchor, tag, "plain", "")))
+        if content is None:
+            return
         is_indented = self.is_indented(content, context, column)
         left = self.unless("a block scalar's column", is_indented)
         for style, value, t in self.scalar_tokens(content, context, column) if self.may(left) else []:
@@ -605,6 +662,7 @@ class Search:
                 yield from ((emitted, u, left) for emitted, u in self.emit(t, Leaf("=VAL", anchor, tag, style, value)))
         if not is_indented:
             return
+        content = content._replace(is_deeper=content.is_deeper or context != IN_FLOW and column >= 0)
         for name, collection in (("+SEQ", self.flow_sequence), ("+MAP", self.flow_mapping)):
             if name == "+MAP" or self.at(content.index) == "[":
                 for emitted, t in self.emit(content, Opening(name, anchor, tag)):
@@ -618,7 +676,7 @@ class Search:
     def flow_sequence(self, place, column):
         for t in self.stands(place, "["):
             for emitted, u, broken in self.flow_entries(t, column, self.flow_entry):
-                for v in self.stands(self.apart(u), "]"):
+                for v in self.stands(self.arrive(u, IN_FLOW, column), "]"):
                     yield from self.closed(emitted, v, broken, "-SEQ")
 
     @way
@@ -629,8 +687,8 @@ class Search:
         starts += [(t, lacks) for t in self.without_text(place) if self.may(lacks)]
         for t, lacks_start in starts:
             for emitted, u, broken in self.flow_entries(t, column, self.flow_pair):
-                end = self.apart(u)
-                ends = [(v, 0) for v in self.stands(end, "}")] + [(end, lacks)] * self.may(lacks)
+                end = self.arrive(u, IN_FLOW, column)
+                ends = [(v, 0) for v in self.stands(end, "}")] + [(end, lacks)] * bool(end and self.may(lacks))
                 for v, lacks_end in ends:
                     yield from self.closed(emitted, v, broken | lacks_start | lacks_end, "-MAP")
 
@@ -645,7 +703,7 @@ class Search:
     def other_flow_entries(self, place, column, name):
         """A comma or none, or a comma and more entries (YieldOtherFlowEntries, YieldOtherFlowPairs)."""
         yield (), place, 0
-        for t in self.stands(self.apart(place), ","):
+        for t in self.stands(self.arrive(place, IN_FLOW, column), ","):
             yield (), t, 0
             for emitted, u, broken in getattr(self, name)(t, column):
                 for others, v, more in self.other_flow_entries(u, column, name):
@@ -656,8 +714,8 @@ class Search:
         """A node, or a mapping of a single pair. That has a start and an end without a text, but for a `?` in it, and
         no properties (AreBare)."""
         yield from self.node(place, IN_FLOW, column)
-        here = self.apart(place)
-        for emitted, t in self.emit(here, Opening("+MAP", None, None)):
+        here = self.arrive(place, IN_FLOW, column)
+        for emitted, t in self.emit(here, Opening("+MAP", None, None)) if here else []:
             for others, u, broken in self.single_pair(t, column):
                 yield from self.closed(emitted + others, u, broken, "-MAP")
 
@@ -688,14 +746,15 @@ class Search:
     @way
     def marked_value(self, place, context, column):
         """A colon and a node (YieldsMarkedValue)."""
-        for t, broken in self.value_tokens(self.apart(place), context):
+        for t, broken in self.value_tokens(place, context, column):
             for emitted, u, more in self.optional(t, context, column) if self.may(broken) else []:
                 yield emitted, u, broken | more
 
     @way
     def key_alone(self, place, context, column):
         """A key without a value (YieldsMarkedKey)."""
-        for has_mark, t in self.key_tokens(self.apart(place), context, column):
+        start = self.arrive(place, context, column)
+        for has_mark, t in self.key_tokens(start, context, column) if start else []:
             lacks = self.unless("key with a colon", has_mark)
             for emitted, u, broken in self.optional(t, self.key_context(has_mark, context), column):
                 for others, v, _ in self.left_out(u) if self.may(lacks | broken) else []:
@@ -704,8 +763,8 @@ class Search:
     @way
     def marked_pair(self, place, context, column, is_single):
         """A key and its value (YieldsMarkedPair)."""
-        start = self.apart(place)
-        for has_mark, t in self.key_tokens(start, context, column):
+        start = self.arrive(place, context, column)
+        for has_mark, t in self.key_tokens(start, context, column) if start else []:
             for emitted, u, broken in self.optional(t, self.key_context(has_mark, context), column):
                 colon = self.apart(u)
                 broken |= self.key_breaks(has_mark, start, colon, context, column, is_single)
@@ -736,8 +795,10 @@ class Search:
                     ways = self.block_entries(u, place.col) if name == "SEQ" else self.block_pairs(u, place.col, False)
                     for others, v, broken in ways:
                         broken |= key | self.unless("some entry", v != u)
-                        ends = self.ends_block(self.apart(v), place.col)
-                        yield from self.closed(emitted + others, v, broken, "-" + name) if ends else []
+                        end = self.arrive(v, IN_BLOCK, place.col)
+                        if end and self.ends_block(end, place.col):
+                            left = v._replace(is_deeper=False)
+                            yield from self.closed(emitted + others, left, broken, "-" + name)
         if context in (IN_BLOCK_MAPPING, AS_BLOCK_KEY) and self.is_dash(place) and self.may(key):
             for emitted, t in self.emit(place, Opening("+SEQ", anchor, tag)):
                 for others, u, broken in self.block_entries(t, column):
@@ -753,18 +814,25 @@ class Search:
     def block_entries(self, place, column):
         """The entries of a block sequence at its column (YieldBlockEntries, IsDash)."""
         yield (), place, 0
-        dash = self.apart(place)
-        for t in self.stands(dash, "-") if self.is_dash(dash) and dash.col == column else []:
-            for emitted, u, broken in self.optional(t, IN_BLOCK, column):
+        dash = self.arrive(place, IN_BLOCK, column)
+        for t, lacks in self.behind_dash(dash) if dash and self.is_dash(dash) and dash.col == column else []:
+            for emitted, u, broken in self.optional(t, IN_BLOCK, column) if self.may(lacks) else []:
                 for others, v, more in self.block_entries(u, column):
-                    yield emitted + others, v, broken | more
+                    yield emitted + others, v, lacks | broken | more
+
+    def behind_dash(self, dash):
+        """The place behind a `-`, and what is broken there. Content on a later line, and brackets, are right of it."""
+        index = dash.index + 1
+        is_deeper = LINE_TAIL.match(self.text, index) or self.at(BLANKS.match(self.text, index).end()) in FLOW
+        broken = self.unless("no tab between dashes", not TAB_BETWEEN.match(self.text, index))
+        yield self.along(dash, 1)._replace(is_deeper=bool(is_deeper)), broken
 
     @way
     def block_pairs(self, place, column, is_behind_key):
         """The entries of a block mapping (YieldBlockPairs). Behind a key without a value none begins with a colon."""
         yield (), place, 0
-        here = self.apart(place)
-        at_column = self.unless("entry's column", here.col == column)
+        here = self.arrive(place, IN_BLOCK, column)
+        at_column = self.unless("entry's column", here and here.col == column)
         if not self.may(at_column):
             return
         pairs = [(it, False) for it in self.marked_pair(here, IN_BLOCK_MAPPING, column, False)]
@@ -840,7 +908,7 @@ class Search:
         """The place behind byte order marks, and if need be ends of documents (AreMarks, AreEndsAndMarks)."""
         here = self.apart(place)
         if self.at(here.index) == MARK and here.col == 0:
-            return self.marks(here._replace(index=here.index + 1, ends_json=False, bare=0), has_ends)
+            return self.marks(here._replace(index=here.index + 1, ends_json=NOT_JSON, bare=0), has_ends)
         ends = self.marker(here, "...") if has_ends else []
         return self.marks(ends[0], True) if ends else here
 
@@ -1020,12 +1088,11 @@ class Count:
 
     @staticmethod
     def classes(text, others, strict, is_cut, bare):
-        """The other answers by names: what YAML has of a refused text, what keeps to all conditions, and what breaks one
-        or several."""
+        """The other answers by names: what YAML has of a refused text, what keeps to all conditions, and what breaks
+        one or several."""
         shown = map(printed_forest, Grammar(text, frozenset()).forests() if is_cut else ())
         left = others - {tuple((it or "").split("\n")[:-1]) for it in shown}
-        fault = next((name for name, (_, _, it) in FAULTS.items() if is_cut and re.search(it, text)), "-")
-        found = {"of YAML": others - left, fault: left & strict}
+        found = {"of YAML": others - left, "-": left & strict}
         for name in OPEN if left - strict else []:
             found[name] = (left - strict) & lines_of(Search(text, bare, [name]).answers())
         found["several"] = left.difference(*found.values())
@@ -1041,7 +1108,7 @@ class Count:
               f"of {len(self.not_taken):,} its own answer is not taken")
 
     def is_wrong(self):
-        return bool(self.not_taken or "-" in self.second or "-" in self.refused)
+        return bool(self.not_taken or self.second or "-" in self.refused)
 
 
 def small_texts(words):
@@ -1119,19 +1186,24 @@ def check_cases(words):
     return 1 if wrong else 0
 
 
+def on_page(text):
+    """A text as pages write it: `:` LF TAB `a`."""
+    parts = re.findall("[^\n\t]+|[\n\t]", text)
+    return " ".join({"\n": "LF", "\t": "TAB"}.get(it, f"`{it}`") for it in parts)
+
+
 def check_open(words):
-    """Whether each open condition is one: its text has its answer for the want of this alone. What no method looks for
-    is found in its text too."""
-    wrong = []
-    for name, (text, answer, _) in OPEN.items():
+    """Whether each open condition is one: its text has its answer for the want of this alone, fits its pattern, and is
+    on the page. Returns whether one is not."""
+    with open(PAGE, encoding="utf-8") as page:
+        said, wrong = " ".join(page.read().split()), []
+    for name, (text, answer, pattern) in OPEN.items():
         known = ("+STR", "+DOC", *answer.split(" / "), "-DOC", "-STR")
         has = [known in lines_of(Search(text, words.bare, waived).answers()) for waived in ((), (name,))]
-        if has != [False, True]:
+        if has != [False, True] or not re.search(pattern, text):
             wrong.append(f"{name}: {answer!r} is not an answer of {text!r} for the want of this alone")
-    for name, (text, answer, pattern) in FAULTS.items():
-        known = ("+STR", "+DOC", *answer.split(" / "), "-DOC", "-STR")
-        if not re.search(pattern, text) or known not in lines_of(Search(text, words.bare).answers()):
-            wrong.append(f"{name}: {answer!r} is not an answer of {text!r}")
+        if f"({on_page(text)}" not in said:
+            wrong.append(f"{name}: docs/DEFINITIONS.md has no {on_page(text)}")
     print(*wrong, sep="\n", end="\n" * bool(wrong))
     return bool(wrong)
 

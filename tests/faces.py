@@ -4,11 +4,11 @@
     tests/faces.py
 
 Builds the C programs of tests/faces and the crate of rust/, and runs each case of crates/test_cases/data through
-both: their events and places are to be the case's, and its lines those that `dump_events` prints. Line by line each
-event has to be there when the rule of tests/prompt.py says. The C face is misused, each request for memory over the
-worked texts is refused in turn, and where valgrind is there, it looks for leaks. Where there is no compiler of C or no
-cargo, it says so, tests nothing and fails, unless the variable SKIP_MISSING is set. SAPHYR_PARSER_LIB may name another
-folder with the library, as an absolute path.
+both: their events and places are to be the case's, and its lines those that `dump_events` prints. Cut at lines, before
+their ends or at bytes, each event has to be there when the rule of tests/prompt.py says. The C face is misused, each
+request for memory over the worked texts is refused in turn, and where valgrind is there, it looks for leaks. Where
+there is no compiler of C or no cargo, it says so, tests nothing and fails, unless the variable SKIP_MISSING is set.
+SAPHYR_PARSER_LIB may name another folder with the library, as an absolute path.
 """
 import concurrent.futures
 import os
@@ -19,12 +19,13 @@ import subprocess
 import sys
 import tempfile
 
-from prompt import late
+import prompt
 from refused_memory import DATA, ROOT, cases_of, judge_lines, program, refuser, sweep, unescaped
 
 CRATE = f"{ROOT}/crates/saphyr_parser_c"
 PROGRAMS = ("cases", "dump_events", "misuse", "pieces", "refusals", "trees")
 PIECES = (1, 2, 3, 4096, "cuts")  # bytes, or two pieces, cut at each place
+CUTS = ("lines", "ends", "odd", "even", "bytes")  # the pieces with which an event has to be there in time
 REFUSED_PIECES = (0, 2, 4096)  # 0: the whole text
 HOW = ["-std=c11", "-D_GNU_SOURCE", "-O2", "-Wall", "-Wextra", f"-I{CRATE}"]
 WRAP = [f"-Wl,--wrap={name}" for name in ("malloc", "realloc", "free")]  # two programs refuse by functions of their own
@@ -137,19 +138,32 @@ def check_pieces(made, count, cases):
             fail(f"{case.name}, in C in pieces of {count}: {answer.decode()!r}")
 
 
-def check_prompt(made, cases):
-    """Each case through C in one process, line by line: each event is there when it is due."""
+def check_prompt(made, how, cases):
+    """Each case through C in one process, in pieces that are cut so: each event is there when it is due."""
     texts = b"".join(map(framed, cases))
-    answers = subprocess.run([made["pieces"], "lines"], input=texts, capture_output=True).stdout.split(b"\xff")[:-1]
+    answers = subprocess.run([made["pieces"], how], input=texts, capture_output=True).stdout.split(b"\xff")[:-1]
     if len(answers) != len(cases):
-        fail(f"C line by line stopped behind {len(answers)} of {len(cases)} cases")
+        fail(f"C by {how} stopped behind {len(answers)} of {len(cases)} cases")
     for case, answer in zip(cases, answers):
         lines = answer.decode().split("\n")
         if "\n".join(line for line in lines if not line.startswith("~")).encode() != listed(case):
-            fail(f"{case.name}, in C line by line: {answer.decode()!r}")
-        found = late(case, lines)
+            fail(f"{case.name}, in C by {how}: {answer.decode()!r}")
+        found = prompt.late(case, lines)
         if found:
-            fail(f"{case.name}, in C line by line: event {found[0]} is not there behind {found[1]} bytes")
+            fail(f"{case.name}, in C by {how}: event {found[0]} is not there behind {found[1]} bytes")
+
+
+def check_table(made):
+    """The table of docs/FACES.md holds line by line and byte by byte."""
+    with open(f"{ROOT}/docs/FACES.md", encoding="utf-8") as it:
+        rows = list(prompt.table(it.read()))
+    text = prompt.table_text(rows)
+    for how in ("lines", "bytes"):
+        framed_text = b"0 %d\n" % len(text) + text
+        said = subprocess.run([made["pieces"], how], input=framed_text, capture_output=True).stdout.decode("latin-1")
+        for (line, wanted), brought in zip(rows, prompt.table_answers(rows, said.split("\n"))):
+            if wanted != brought:
+                fail(f"the table of FACES.md by {how}: {line!r} brings {brought}")
 
 
 def check_trees(made, cases):
@@ -232,7 +246,8 @@ def main():
         check_lists(made, cases)
         check_trees(made, cases)
         list(pool.map(lambda count: check_pieces(made, count, cases), PIECES))
-        check_prompt(made, cases)
+        list(pool.map(lambda how: check_prompt(made, how, cases), CUTS))
+        check_table(made)
         list(pool.map(check_lines, (case for case in cases if not case.name.startswith("cut "))))
         cargo("test")
         said = subprocess.run([made["misuse"]], capture_output=True).stdout.decode()

@@ -1,4 +1,5 @@
-"""When an event has to be there, if a text is added line by line: the rule of docs/FACES.md, "From a pipe".
+"""When an event has to be there, if a text is added in pieces that end with a line or before its end, or byte by byte:
+the rule of docs/FACES.md, "From a pipe".
 
 1. The line of a `---` or a `...` brings its own event, and all before it.
 2. An event that has characters of its own comes at the latest with the line in which the next such event begins. One
@@ -8,6 +9,8 @@
 4. Where 256 bytes or more wait by then, as many may have to come again first.
 
 Behind a NUL, which a text may not have, nothing has to be there.
+
+The page's table says which events come with which line of a text.
 """
 import collections
 import re
@@ -16,6 +19,7 @@ LITTLE = 256
 PLACES = re.compile(r"> (.*) @ (\d+),\d+,\d+ (\d+),\d+,\d+")
 BRACKET = re.compile(rb"[][{}]")
 NO_KEY = re.compile(rb"(^---|[^\s,?:[{-]:)[ \t]*$")
+ROW = re.compile(r"  \| (none|`.*`|no more) \| (.*) \|")
 
 Event = collections.namedtuple("Event", "name start end")
 
@@ -108,3 +112,27 @@ def late(case, lines):
         elif line.startswith("> "):
             given += 1
     return None
+
+
+def table(page):
+    """The lines of the page's table, each with the events that it brings. The first and the last row have no line."""
+    for row in filter(None, map(ROW.fullmatch, page.split("\n"))):
+        yield row[1].strip("`") if row[1][0] == "`" else "", re.findall("`([^`]*)`", row[2])
+
+
+def table_text(rows):
+    return "".join(f"{line}\n" for line, _ in rows[1:-1]).encode()
+
+
+def table_answers(rows, lines):
+    """The events that each row of the table brought. The lines are what `pieces lines` or `pieces bytes` printed."""
+    ends, brought, came = [0], [[] for _ in rows], 0
+    for line, _ in rows[1:-1]:
+        ends.append(ends[-1] + len(line) + 1)
+    for line in lines:
+        if line.startswith("~ "):
+            came = max(int(line[2:]), came + 1)
+        elif line.startswith("> "):
+            at = next((at for at, end in enumerate(ends) if came <= end), len(ends))
+            brought[at].append(line[2:].partition(" @ ")[0].removesuffix(" ---"))
+    return brought

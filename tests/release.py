@@ -7,13 +7,16 @@ The examples of release/examples print the events of a small text: in C99 and C+
 `pkg-config` and through CMake with the shared library, and in Python; and the crate's example in a cargo project with a
 `[patch]`. Their lines are to be those of `dump_events`. The programs of the release's README, and the one of its page
 on the faces, print what they say. The package for Python is installed in an empty environment of each CPython from 3.8
-on that is found on the PATH or that pyenv has, and run there over all cases (tests/release/python_module.py). The pages
-are read (release_pages.py). The shared library exports the header's calls alone. The version is the same wherever it
-stands, and so is the address of the repository, if one is given. Where there is no compiler of C, the script says so,
-and tests nothing; what else is missing it says, and tests the rest. Without that compiler, cargo, Python's headers or
-a Python that can make an environment it fails, unless the variable SKIP_MISSING is set.
+on that is found on the PATH or that pyenv has, and run there over all cases (tests/release/python_module.py). The
+release is installed below a folder by its install.sh, and by its package for Debian where there is dpkg; lintian, if it
+is there, finds no error in that. Each file has its sum. The pages are read (release_pages.py). The shared library
+exports the header's calls alone. The version is the same wherever it stands, and so is the address of the repository,
+if one is given. Where there is no compiler of C, the script says so, and tests nothing; what else is missing it says,
+and tests the rest. Without that compiler, cargo, Python's headers or a Python that can make an environment it fails,
+unless the variable SKIP_MISSING is set.
 """
 import glob
+import hashlib
 import json
 import os
 import re
@@ -33,7 +36,8 @@ FIRST = b"1:1 ports\n1:9 80\n1:13 443\n"  # what the programs of the README prin
 CALLS = ["add", "anchored", "check_standard", "clone", "count", "describe", "expanded", "free", "get", "item",
          "keep_tags", "key", "load", "load_next", "new", "new_pieces", "new_utf8", "next", "peek", "root", "valid_up_to",
          "value", "version"]
-PATHS = b".name = parser (1:7)\n.ports[0] = 80 (2:9)\n.ports[1] = 443 (2:13)\n"  # what the example `config` prints
+# What the example `config` prints. The last item is an alias.
+PATHS = b".name = parser (1:7)\n.ports[0] = 80 (2:9)\n.ports[1] = 443 (2:13)\n.ports[2] = parser (1:7)\n"
 STRICT = ["-Wall", "-Wextra", "-pedantic", "-Werror"]
 # Each call that takes NULL, at -O0 too, and `{}` in C++.
 NULLS = """#include <saphyr_parser.h>
@@ -101,8 +105,8 @@ VERSIONS = {
     "share/man/man1/check_yaml.1": r'^\.TH .*"saphyr_parser (.*)"',
     "share/man/man1/dump_events.1": r'^\.TH .*"saphyr_parser (.*)"',
     "share/man/man3/saphyr_parser.3": r'^\.TH .*"saphyr_parser (.*)"',
-    "share/saphyr_parser/rust/Cargo.toml": r'^version = "(.*)"',
 }
+VERSION_OF_CRATE = r'^version = "(.*)"'
 FAILED = []
 
 
@@ -131,9 +135,10 @@ class Release:
         self.env = {**os.environ, "REPOSITORY": ADDRESS}
         self.folder, dump, _ = folder, program("dump_events"), program("check_yaml")
         self.call([f"{ROOT}/release.sh", "--out", f"{folder}/made"])
-        (name,) = (it for it in os.listdir(f"{folder}/made") if not it.endswith(".gz"))
+        (name,) = (it for it in os.listdir(f"{folder}/made") if os.path.isdir(f"{folder}/made/{it}"))
         with tarfile.open(f"{folder}/made/{name}.tar.gz") as it:
             it.extractall(folder)
+        self.packages = [shutil.move(it, folder) for it in glob.glob(f"{folder}/made/*.deb")]
         shutil.rmtree(f"{folder}/made")
         self.at, self.share = f"{folder}/{name}", f"{folder}/{name}/share/saphyr_parser"
         self.rust, self.examples = f"{self.share}/rust", f"{self.share}/examples"
@@ -155,10 +160,10 @@ class Release:
             sys.exit(f"{' '.join(words)} fails:\n{ran.stdout}{ran.stderr}")
         return ran.stdout
 
-    def check(self, name, words, wanted=None):
+    def check(self, name, words, wanted=None, **variables):
         """Runs a program that was built. A shared library is found in the release alone."""
         self.built.append(name)
-        printed = self.run(words, LD_LIBRARY_PATH=f"{self.at}/lib")
+        printed = self.run(words, LD_LIBRARY_PATH=f"{self.at}/lib", **variables)
         if wanted is None and isinstance(printed, bytes):
             printed = re.sub(rb"^\d+:\d+-\d+:\d+ ", b"", printed, flags=re.M)
         wanted = self.wanted if wanted is None else wanted
@@ -180,9 +185,11 @@ def check_c(release, tools):
     """The archive alone, in C and in C++."""
     write(f"{release.folder}/nulls.c", NULLS)
     write(f"{release.folder}/first.c", block(release.readme, "c"))
-    programs = {"events": None, "pipe": SCALARS, "config": PATHS, "documents": b"1:1 8\n", "nulls": b"", "first": FIRST}
+    programs = {"events": None, "pipe": SCALARS, "config": PATHS, "documents": b"1:1 8\n", "lookup name": b"parser\n",
+                "nulls": b"", "first": FIRST}
     for compiler, standard in ((tools["cc"], "c99"), (tools["c++"], "c++17")):
-        for name, wanted in programs.items() if compiler else ():
+        for call, wanted in programs.items() if compiler else ():
+            name, *arguments = call.split()
             if name == "first" and standard != "c99":
                 continue
             source = release.folder if name in ("nulls", "first") else release.examples
@@ -190,7 +197,7 @@ def check_c(release, tools):
             words = ["-x", standard.rstrip("0123456789"), f"-std={standard}", *STRICT, f"-I{release.at}/include"]
             words += [f"{source}/{name}.c", "-x", "none", f"{release.at}/lib/libsaphyr_parser.a", "-o", made]
             release.call([compiler, *words])
-            release.check(f"{name} in {standard}", [made], wanted)
+            release.check(f"{name} in {standard}", [made, *arguments], wanted)
 
 
 def check_pkg_config(release, tools):
@@ -319,6 +326,12 @@ def check_names(release):
         fail(f"rust/src/face.rs follows another header than that of version {number}")
 
 
+def cargo_version(version):
+    """The version of the crate: cargo ignores what follows `+`, so its last number has that of the release too."""
+    crate, release = version.split("+rattle.")
+    return f"{crate}{int(release):02}"
+
+
 def check_versions(release):
     """The version, and the licences, which the crate has once more."""
     version = read(f"{ROOT}/VERSION").strip()
@@ -326,6 +339,8 @@ def check_versions(release):
         if (said := found(pattern, f"{release.at}/{file}")) != version:
             fail(f"{file} has the version {said}, and VERSION {version}")
     program = "crates/check_yaml/src/main.rt"
+    if (said := found(VERSION_OF_CRATE, f"{release.rust}/Cargo.toml")) != (wanted := cargo_version(version)):
+        fail(f"Cargo.toml has the version {said}, and not {wanted}")
     if (said := found(r'^const VERSION: &str = "check_yaml (.*)";', f"{ROOT}/{program}")) != version:
         fail(f"{program} has the version {said}, and VERSION {version}")
     for name in ("LICENSE-MIT", "LICENSE-APACHE"):
@@ -349,6 +364,66 @@ def check_manifest(release, tools):
         fail(f"cargo metadata names the repository {package['repository']}")
 
 
+def check_sums(release):
+    """Each file has its sum, and the page on provenance names the commit, and the sums of what the gate left."""
+    release.call(["sha256sum", "--check", "--quiet", "SHA256SUMS"], release.at)
+    listed = {line.split("  ", 1)[1] for line in read(f"{release.at}/SHA256SUMS").splitlines()}
+    files = {it for it in files_below(release.at) if not os.path.islink(f"{release.at}/{it}")}
+    if listed != files - {"SHA256SUMS"}:
+        fail(f"SHA256SUMS has other files than the release: {sorted(listed ^ files)}")
+    told = read(f"{release.at}/PROVENANCE.txt")
+    for path in (libraries()[0], program("check_yaml"), program("dump_events")):
+        with open(path, "rb") as it:
+            if f"{hashlib.sha256(it.read()).hexdigest()}  {os.path.basename(path)}\n" not in told:
+                fail(f"PROVENANCE.txt has not the sum of {path}")
+    commit = subprocess.run(["git", "rev-parse", "HEAD"], cwd=ROOT, capture_output=True, text=True).stdout.strip()
+    for name in (commit, "\ntoolchain  rattle-", " for bin/check_yaml\n", " for lib/libsaphyr_parser.so."):
+        if name not in told:
+            fail(f"PROVENANCE.txt doesn't name {name!r}")
+
+
+def check_installed(release, compiler, root, prefix, name):
+    """What is installed below a folder: the first program in C with the shared library, and the checker."""
+    made, lib = f"{release.folder}/{name.replace(' ', '_')}", f"{root}{prefix}/lib"
+    words = [compiler, f"-I{root}{prefix}/include", f"{release.folder}/first.c", f"-L{lib}", "-lsaphyr_parser"]
+    release.call([*words, "-o", made])
+    release.check(name, ["env", f"LD_LIBRARY_PATH={lib}", made], FIRST)
+    release.check(f"{name}'s checker", [f"{root}{prefix}/bin/check_yaml", "--version"],
+                  f"check_yaml {read(f'{ROOT}/VERSION')}".encode())
+
+
+def check_installer(release, compiler):
+    """The release's own install.sh has the same files as `release.sh install`, and refuses words."""
+    root = f"{release.folder}/installed"
+    ran = subprocess.run([f"{release.at}/install.sh"], env={**release.env, "DESTDIR": root}, capture_output=True,
+                         text=True)
+    if ran.returncode or ran.stderr or files_below(f"{root}/usr/local") != files_below(f"{release.folder}/prefix"):
+        fail(f"install.sh: {ran.stderr}")
+    check_installed(release, compiler, root, "/usr/local", "install.sh")
+    for words, status, said in ((["--help"], 0, "usage: "), (["/usr"], 2, "can't take these words: /usr.")):
+        ran = subprocess.run([f"{release.at}/install.sh", *words], cwd="/", capture_output=True, text=True)
+        if ran.returncode != status or said not in ran.stdout + ran.stderr:
+            fail(f"install.sh {' '.join(words)} has the status {ran.returncode}, and says {ran.stderr}")
+
+
+def check_package(release, compiler):
+    """The package for Debian, installed below a folder of its own, or unpacked where nobody may install."""
+    for package in release.packages:
+        root = f"{release.folder}/debian"
+        for folder in ("info", "updates", "triggers"):
+            os.makedirs(f"{root}/var/lib/dpkg/{folder}")
+        write(f"{root}/var/lib/dpkg/status", "")
+        words = ["dpkg", "--force-depends", "--force-not-root", "--force-script-chrootless", f"--root={root}", "-i"]
+        release.call([*words, package] if os.geteuid() == 0 else ["dpkg-deb", "-x", package, root])
+        check_installed(release, compiler, root, "/usr", "the package for Debian")
+        if release.wheels:
+            release.check("its Python", [sys.executable, "-c", block(release.readme, "python")], b"1:9 80\n1:13 443\n",
+                          PYTHONPATH=f"{root}/usr/lib/python3/dist-packages")
+        said = release.run(["lintian", package]) if shutil.which("lintian") else b""
+        if re.search(rb"^E:", said if isinstance(said, bytes) else said.stdout, re.M):
+            fail(f"lintian: {said}")
+
+
 def install(prefix, **variables):
     """Runs `release.sh install`. No address is given, unless the variables do."""
     env = {**os.environ, "PREFIX": prefix, "REPOSITORY": "", **variables}
@@ -360,7 +435,9 @@ def check_install(release):
     prefix = f"{release.folder}/prefix"
     ran = install(prefix)
     # The page README stands with the other pages.
-    there = sorted(["share/saphyr_parser/README.md", *(it for it in files_below(release.at) if it != "README.md")])
+    moved = {"README.md", "PROVENANCE.txt"}
+    there = sorted([*(f"share/saphyr_parser/{it}" for it in moved),
+                    *(it for it in files_below(release.at) if it not in {*moved, "SHA256SUMS", "install.sh"})])
     if ran.returncode or files_below(prefix) != there:
         fail(f"release.sh install: {ran.stderr}")
     for wrong in wrong_links(prefix):
@@ -403,6 +480,7 @@ def main():
         if (said := found("^The source and the proofs: (.*)", release.readme)) != ADDRESS:
             fail(f"README.md has the address {said}")
         check_names(release)
+        check_sums(release)
         check_install(release)
         manuals = [f"saphyr_{it}" for it in CALLS + ["status_text", "parser"]]
         for wrong in (*wrong_links(release.at), *wrong_words(release.at), *wrong_manuals(release.at, manuals)):
@@ -410,6 +488,8 @@ def main():
         tools = {name: shutil.which(name, path=release.env["PATH"]) for name in ("pkg-config", "cmake", "cargo")}
         tools |= {"cc": compiler, "c++": shutil.which("c++") or shutil.which("clang++")}
         check_c(release, tools)
+        check_installer(release, compiler)
+        check_package(release, compiler)
         check_checker(release)
         tested = check_python(release)
         for name, check in (("pkg-config", check_pkg_config), ("cmake", check_cmake), ("cargo", check_cargo)):

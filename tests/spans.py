@@ -7,10 +7,11 @@ An example is a row's text and span: PROGRAM gives the events of the text, and o
 PROGRAM reads and prints as tests/faces/cases.c does. Without one that file is compiled, with the library that
 tests/faces.py takes.
 
-What a row says is a rule: a `Reader` finds the row of each event of a text, and the span that the row means. So it does
-for the cases of crates/test_cases/data that are not refused and have no byte order mark, and each of their events has
-to have that span. The order of spans that the page tells is looked at too. A row of the page that the script doesn't
-know fails it, and so do words that the page lacks, and a row that no event of a case has.
+What a row says is a rule: a `Reader` finds the row of each event of a text, and the span that the row means, with its
+lines and columns. So it does for the examples, and for the cases of crates/test_cases/data that are not refused and
+have no byte order mark: each of their events has to have that span. The order of spans that the page tells is looked at
+too. A row of the page that the script doesn't know fails it, and so do words that the page lacks, and a row that no
+event of a case has.
 """
 import collections
 import re
@@ -25,7 +26,8 @@ from against_crate import DATA, ROOT, cases
 PAGE = ROOT / "docs/SPANS.md"
 BLANK, BREAK, MARK = " \t", "\r\n", "\ufeff"
 EVENT = re.compile(r"([+=-][A-Z]{3})( ---)?( &\d+)?( <.*?>)?(?: ([:'\"|>])(.*)| \*\d+)?", re.S)
-EXAMPLE = re.compile(r"`([^`]*)`: (`\d+\.\.\d+`)")
+EXAMPLE = re.compile(r"`([^`]*)`: `(\d+)\.\.(\d+)`(?:, line (\d+))?")
+LINE_BREAK = re.compile("\r\n|\r|\n")
 ESCAPED, NAMED = re.compile(r"\\(.)"), {"n": "\n", "r": "\r", "t": "\t", "b": "\b", "\\": "\\"}
 NOTHING = "nothing, at the next token"
 COMMA = "the comma or the bracket after it, and its tail"
@@ -91,8 +93,12 @@ ROWS = {
 }
 
 
+# The rows whose span is nothing, at the start of a line after the text, where nothing is left of it.
+AFTER_TEXT = {"stream end", "end", "block end", "no value", "? key", "document"}
+
 # Texts with their events, one of which has a wrong span: that of a bracket begins behind it, that of an alias ends
-# before its name does, and that of a stream's end is behind the text.
+# before its name does, and that of a stream's end is behind the text; that of a sequence is on another line, that of a
+# bracket in another column, that of a document's end on the line of the text, and that of a scalar ends on the next.
 WRONG = {
     "[[]]": "> +STR @ 0,1,0 0,1,0 / > +DOC @ 0,1,0 1,1,1 / > +SEQ @ 0,1,0 1,1,1 / > +SEQ @ 2,1,2 2,1,2 / "
             "> -SEQ @ 2,1,2 3,1,3 / > -SEQ @ 3,1,3 4,1,4 / > -DOC @ 4,2,0 4,2,0 / > -STR @ 4,2,0 4,2,0",
@@ -101,11 +107,20 @@ WRONG = {
                     "> -STR @ 11,3,0 11,3,0",
     "a": "> +STR @ 0,1,0 0,1,0 / > +DOC @ 0,1,0 1,1,1 / > =VAL :a @ 0,1,0 1,1,1 / > -DOC @ 1,2,0 1,2,0 / "
          "> -STR @ 2,2,0 2,2,0",
+    "a:\r\n- b": "> +STR @ 0,1,0 0,1,0 / > +DOC @ 0,1,0 0,1,0 / > +MAP @ 0,1,0 0,1,0 / > =VAL :a @ 0,1,0 1,1,1 / "
+                 "> +SEQ @ 6,3,2 6,3,2 / > =VAL :b @ 6,2,2 7,2,3 / > -SEQ @ 7,3,0 7,3,0 / > -MAP @ 7,3,0 7,3,0 / "
+                 "> -DOC @ 7,3,0 7,3,0 / > -STR @ 7,3,0 7,3,0",
+    "[é]": "> +STR @ 0,1,0 0,1,0 / > +DOC @ 0,1,0 1,1,1 / > +SEQ @ 0,1,0 1,1,1 / > =VAL :é @ 1,1,1 2,1,2 / "
+           "> -SEQ @ 2,1,3 3,1,4 / > -DOC @ 3,2,0 3,2,0 / > -STR @ 3,2,0 3,2,0",
+    "'a'": "> +STR @ 0,1,0 0,1,0 / > +DOC @ 0,1,0 3,1,3 / > =VAL 'a @ 0,1,0 3,1,3 / > -DOC @ 3,1,3 3,1,3 / "
+           "> -STR @ 3,2,0 3,2,0",
+    "b": "> +STR @ 0,1,0 0,1,0 / > +DOC @ 0,1,0 1,1,1 / > =VAL :b @ 0,1,0 1,2,0 / > -DOC @ 1,2,0 1,2,0 / "
+         "> -STR @ 1,2,0 1,2,0",
 }
 
 
 class Event:
-    """An event as a case has it, with its span as indices."""
+    """An event as a case has it, with its span as places, and as indices."""
 
     def __init__(self, line):
         words, _, span = line[2:].rpartition(" @ ")
@@ -113,8 +128,8 @@ class Event:
         self.kind, self.explicit, *properties, self.style, value = found.groups()
         self.value = value and unescaped(value)
         self.properties = sum(map(bool, properties))
-        self.start, self.end = (tuple(map(int, place.split(","))) for place in span.split(" "))
-        self.span = self.start[0], self.end[0]
+        self.places = tuple(tuple(map(int, place.split(","))) for place in span.split(" "))
+        self.span = tuple(index for index, _, _ in self.places)
         self.is_left_out = self.kind == "=VAL" and (self.style, self.value, self.properties) == (":", "", 0)
 
 
@@ -159,6 +174,17 @@ class Reader:
 
     def column(self, i):
         return i - max(self.text.rfind(c, 0, i) for c in BREAK) - 1
+
+    def places(self, span, row, column):
+        """The places of a row's span in a collection at a column, each with its index, line and column. An index may be
+        None. What is left of a block collection on the last line ends it there."""
+        end = len(self.text)
+        is_behind = row in AFTER_TEXT and span == (end, end) and self.column(end) >= column
+        return tuple(i if i is None else self.place(i, is_behind) for i in span)
+
+    def place(self, i, is_behind):
+        line, column = len(LINE_BREAK.findall(self.text[:i])) + 1, self.column(i)
+        return (i, line + 1, 0) if is_behind and column else (i, line, column)
 
     def is_mark(self, i, mark):
         """Whether `?`, `:` or `-` is an indicator here."""
@@ -353,12 +379,13 @@ class Reader:
         return "dots" if self.c(i) == "." else "dashes", (i, i + 3)
 
     def rows(self):
-        """Each event with its row and the span that the row means."""
+        """Each event with its row and the places of the span that the row means."""
         for number, event in enumerate(self.events):
+            column = self.open[-1].column or 0 if self.open else 0
             if event.kind == "+STR":
                 row, span = "stream start", (0, 0)
             elif event.kind == "-STR":
-                row, span = "stream end", (len(self.text),) * 2 if event.start[2] == 0 else None
+                row, span = "stream end", (len(self.text),) * 2
             elif event.kind == "+DOC":
                 row, span = self.document_start(event, self.events[number + 1])
             elif event.kind == "-DOC":
@@ -367,7 +394,7 @@ class Reader:
                 row, span = self.collection_end()
             else:
                 row, span = self.node(event)
-            yield event, row, span
+            yield event, row, self.places(span, row, column)
 
 
 def folded(text):
@@ -387,14 +414,14 @@ def read(text, lines):
 
 
 def page_rows():
-    """The rows of both tables: the first two cells, a text, and the span there."""
+    """The rows of both tables: the first two cells, a text, the span there, and the line where it begins or None."""
     first = words = ""
     for line in PAGE.read_text(encoding="utf-8").split("\n"):
         cells = [cell.strip() for cell in re.split(r"(?<!\\)\|", line)]
         if len(cells) == 5:
             first, words = cells[1] or first, cells[2] or words
-            for text, span in EXAMPLE.findall(cells[3]):
-                yield first, words, unescaped(text.replace("\\|", "|")), span
+            for text, start, end, line in EXAMPLE.findall(cells[3]):
+                yield first, words, unescaped(text.replace("\\|", "|")), (int(start), int(end)), line and int(line)
 
 
 def unescaped(text):
@@ -411,16 +438,24 @@ def given(program, texts, *words):
 def check_page(program):
     """What is wrong with the page's examples, and which rows it has and should not have, or lacks."""
     rows = list(page_rows())
-    stated = {(first, words) for first, words, _, _ in rows}
+    stated = {(first, words) for first, words, *_ in rows}
     wrong = [f"no rule for this row: {it}" for it in stated - set(ROWS.values())]
     wrong += [f"the page lacks this row: {it}" for it in set(ROWS.values()) - stated]
     answers = given(program, [it[2] for it in rows]) if program else []
-    for (first, words, text, span), lines in zip(rows, answers):
-        spans = {f"`{event.span[0]}..{event.span[1]}`" for event, row, _ in read(text, lines)
-                 if ROWS[row] == (first, words)}
-        if span not in spans:
-            wrong.append(f"{text!r}: {first}, {words}: {span} isn't in {sorted(spans)}")
+    for (first, words, text, span, line), lines in zip(rows, answers):
+        events = read(text, lines)
+        found = [event for event, row, _ in events if ROWS[row] == (first, words)]
+        if not any(it.span == span and line in ("", it.places[0][1]) for it in found):
+            wrong.append(f"{text!r}: {first}, {words}: {span} isn't in {[it.places for it in found]}")
+        wrong += [f"{text!r}: {it}" for it in wrong_spans(events)]
     return wrong
+
+
+def wrong_spans(events):
+    """What is wrong with the spans of events, and with their order."""
+    yield from (f"{row}: {event.kind} {event.places}, and by the page {places}"
+                for event, row, places in events if event.places != places)
+    yield from check_order(events)
 
 
 def check_order(events):
@@ -446,16 +481,14 @@ def check_cases():
         for name, text, _, lines in cases(path):
             events = read(text, lines)
             counts.update(row for _, row, _ in events)
-            found = [f"{row}: {event.kind} {event.span}, and by the page {span}"
-                     for event, row, span in events if event.span != span]
-            wrong += [f"{name}, {text!r}: {it}" for it in [*found, *check_order(events)]]
+            wrong += [f"{name}, {text!r}: {it}" for it in wrong_spans(events)]
     return wrong + [f"no case has this row: {ROWS[row]}" for row in ROWS if not counts[row]], counts
 
 
 def check_wrong():
     """Which of the wrong lists have no span that is found to be wrong."""
     return [f"{text!r}: no wrong span is found" for text, lines in WRONG.items()
-            if all(event.span == span for event, _, span in read(text, lines.split(" / ")))]
+            if all(event.places == places for event, _, places in read(text, lines.split(" / ")))]
 
 
 def compiled(folder, name="cases"):

@@ -79,7 +79,7 @@ extern "C" {
 #define SAPHYR_VERSION 3000u
 
 /* The release that this header came with. Before the `+` is the version of the Rust crate whose events these are. */
-#define SAPHYR_PARSER_VERSION "0.3.3+rattle.3"
+#define SAPHYR_PARSER_VERSION "0.3.3+rattle.4"
 
 /* What a call returns. Below 0, the call failed. */
 enum saphyr_status {

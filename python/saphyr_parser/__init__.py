@@ -104,8 +104,9 @@ class Deviation(NamedTuple):
 
 
 class _Fault(ValueError):
-    """`reason` says why, and `start` where. `name` is the text's, `opened` where the innermost collection begins that is
-    open by the events so far, and `shown` the line with a caret below the place. Each of these three may be None."""
+    """`reason` says why, and `start` where. `name` is the text's, `opened` where what is open there begins: a scalar in
+    quotes, which is `start` itself, or else the innermost collection by the events so far; and `shown` the line with a
+    caret below the place. Each of these three may be None."""
 
     def __init__(self, reason: str, start: Marker, name: Optional[str] = None, opened: Optional[Marker] = None,
                  shown: Optional[str] = None) -> None:
@@ -116,7 +117,7 @@ class _Fault(ValueError):
         lines = [f"{_place(self.name, self.start)}: {self.reason}"]
         if self.shown:
             lines.append(self.shown)
-        if self.opened:
+        if self.opened and self.opened != self.start:
             lines.append(f"{_place(self.name, self.opened)}: the collection that is open there begins here")
         return "\n".join(lines)
 
@@ -180,6 +181,8 @@ def _fault(is_too_large: bool, reason: str, start: Marker, name: Optional[str], 
            line: Optional[Tuple[str, str]]) -> _Fault:
     """What the extension raises. It tells the line as the parts before and behind the place."""
     fault: Type[_Fault] = TooLarge if is_too_large else Refused
+    if line and line[1][:1] in ("'", '"') and "quoted scalar" in reason:
+        opened = start  # of a fault inside quotes the library tells where these begin
     return fault(reason, start, name, opened, line and _shown(start.column, *line))
 
 

@@ -1,11 +1,16 @@
 /*
- * Prints each scalar of a YAML text: its path, its text and its place, as `.ports[0] = 80 (2:9)`.
+ * Prints each scalar of a YAML text: its path, its text and its place, as `.ports[0] = 80 (2:9)`. An alias stands for
+ * the node that it names.
  *
  *     cc -IRELEASE/include config.c RELEASE/lib/libsaphyr_parser.a -o config
  *     ./config < FILE
  */
 #include <saphyr_parser.h>
 #include <stdio.h>
+#include <stdlib.h>
+
+/* How many nodes there may be, also once each alias is a copy of its node; and how many collections in each other. */
+enum { MOST_NODES = 1000000, DEEPEST = 100 };
 
 /* The last step of a path, by a key or by an index, and the path before it. */
 struct path {
@@ -16,6 +21,12 @@ struct path {
 
 static saphyr_parser trees; /* Zeroed, as what is static is. */
 static saphyr_event event;
+
+/* The node that an alias names, and any other node itself. */
+static saphyr_node followed(saphyr_node node) {
+    saphyr_describe(&trees, node, &event);
+    return event.kind == SAPHYR_ALIAS ? saphyr_anchored(&trees, event.anchor) : node;
+}
 
 static void print_path(const struct path *path) {
     if (path) {
@@ -28,7 +39,9 @@ static void print_path(const struct path *path) {
     }
 }
 
+/* Follows aliases, and ends since the nodes were counted with each alias as a copy. */
 static void print(saphyr_node node, const struct path *path) {
+    node = followed(node);
     saphyr_describe(&trees, node, &event);
     if (event.kind == SAPHYR_SCALAR) {
         print_path(path);
@@ -37,20 +50,69 @@ static void print(saphyr_node node, const struct path *path) {
     }
     for (size_t index = 0; index < saphyr_count(&trees, node); index++) {
         saphyr_node value = saphyr_value(&trees, node, index);
-        saphyr_describe(&trees, saphyr_key(&trees, node, index), &event);
+        saphyr_describe(&trees, followed(saphyr_key(&trees, node, index)), &event);
         struct path longer = {path, event.value, index};
         print(value == SAPHYR_NO_NODE ? saphyr_item(&trees, node, index) : value, &longer);
     }
 }
 
-int main(void) {
-    static uint8_t text[1 << 20];
-    int32_t status = saphyr_new(text, fread(text, 1, sizeof text, stdin), false, &trees);
-    if (status == SAPHYR_OK && (status = saphyr_load(&trees, 100000, 100, &event)) == SAPHYR_OK) {
-        print(saphyr_root(&trees, 0), NULL);
+/* Reads a file to its end. NULL if it can't be read, or there is no memory. */
+static uint8_t *read_all(FILE *file, size_t *len) {
+    uint8_t *text = NULL;
+    size_t room = 0;
+    for (*len = 0; !feof(file);) {
+        if (*len == room) {
+            uint8_t *larger = (uint8_t *)realloc(text, room = 2 * room + 4096);
+            if (!larger) {
+                break;
+            }
+            text = larger;
+        }
+        *len += fread(text + *len, 1, room - *len, file);
+        if (ferror(file)) {
+            break;
+        }
+    }
+    if (feof(file)) {
+        return text;
+    }
+    free(text);
+    return NULL;
+}
+
+/* Says why there are no trees. */
+static int refuse(int32_t status) {
+    if (event.start.line) {
+        fprintf(stderr, "%zu:%zu: ", event.start.line, event.start.col + 1);
+    }
+    if (status == SAPHYR_REFUSED) {
+        fprintf(stderr, "%.*s\n", (int)event.value.len, (const char *)event.value.at);
     } else {
-        fprintf(stderr, "%zu:%zu: %s\n", event.start.line, event.start.col + 1, saphyr_status_text(status));
+        fprintf(stderr, "%s\n", saphyr_status_text(status));
+    }
+    return 1;
+}
+
+int main(void) {
+    size_t len;
+    uint8_t *text = read_all(stdin, &len);
+    if (!text) {
+        fputs("can't read the text\n", stderr);
+        return 2;
+    }
+    int32_t status = saphyr_new(text, len, false, &trees);
+    if (status == SAPHYR_OK) {
+        status = saphyr_load(&trees, MOST_NODES, DEEPEST, &event);
+    }
+    int failed = status == SAPHYR_OK ? 0 : refuse(status);
+    /* A few lines of aliases may stand for more nodes than can be printed, or for nodes without end. */
+    if (saphyr_expanded(&trees, 0) > MOST_NODES) {
+        fputs("there are too many nodes once aliases are followed\n", stderr);
+        failed = 1;
+    } else {
+        print(saphyr_root(&trees, 0), NULL);
     }
     saphyr_free(&trees);
-    return status != SAPHYR_OK;
+    free(text);
+    return failed;
 }

@@ -41,7 +41,7 @@ mod standard;
 
 pub use crate::encoding::NotUtf8;
 pub use crate::event::{Event, EventReceiver, SpannedEventReceiver, Tag};
-pub use crate::face::trees::{Documents, Limits, LoadError, Node, NodeKind, Trees};
+pub use crate::face::trees::{Documents, Limits, LoadError, Merged, Node, NodeKind, Trees};
 pub use crate::input::{str::StrInput, BufferedInput, Input};
 pub use crate::parser::Parser;
 pub use crate::scanner::{Marker, ScalarStyle, ScanError, Span};

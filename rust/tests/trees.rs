@@ -4,7 +4,8 @@ use saphyr_parser::{
     Documents, Event, Limits, LoadError, Marker, Node, NodeKind, Parser, Span, Tag, Trees,
 };
 use std::borrow::Cow;
-use std::{fs, thread};
+use std::sync::{Mutex, OnceLock};
+use std::{fs, panic, ptr, thread};
 
 const TEXT: &str = "%TAG !e! tag:e,2000:\n--- !e!a\nport: &x 8080\n? [k]\n: *x\nhosts: [a, 'b']\nport: 1\n--- >\n t\n";
 
@@ -101,10 +102,120 @@ fn goes_to_another_thread() {
     });
 }
 
+/// What a function panics with, and its line.
+fn panicked(call: impl FnOnce() -> usize + panic::UnwindSafe) -> (String, u32) {
+    static SAID: Mutex<(String, u32)> = Mutex::new((String::new(), 0));
+    static ALONE: Mutex<()> = Mutex::new(());
+    let _alone = ALONE.lock();
+    let before = panic::take_hook();
+    panic::set_hook(Box::new(|it| {
+        let line = it.location().map_or(0, panic::Location::line);
+        *SAID.lock().unwrap() = (it.to_string(), line);
+    }));
+    let result = panic::catch_unwind(call);
+    panic::set_hook(before);
+    assert!(result.is_err());
+    SAID.lock().unwrap().clone()
+}
+
 #[test]
-#[should_panic(expected = "no such key")]
-fn panics_where_a_key_is_not_there() {
-    let _ = &load("a: b")[0]["c"];
+fn says_what_is_not_there() {
+    let text = "a: &x {b: [1]}\nc: *x\n";
+    let (here, said) = (line!(), "there is no key \"d\" in the mapping at 1:4");
+    let (told, line) = panicked(|| load(text)[0]["c"]["d"].len());
+    assert!(told.contains(said) && line == here + 1, "{told} {line}");
+    let (told, _) = panicked(|| load(text)[0]["a"]["b"][1].len());
+    assert!(
+        told.contains("there is no item 1 in the sequence at 1:11"),
+        "{told}"
+    );
+    let (told, _) = panicked(|| load(text)[0]["a"]["b"][0]["e"].len());
+    assert!(
+        told.contains("there is no key \"e\" in the scalar at 1:12"),
+        "{told}"
+    );
+    let (told, _) = panicked(|| load(text)[1].len());
+    assert!(told.contains("there is no document 1, but 1"), "{told}");
+}
+
+#[test]
+fn follows_aliases() {
+    let text = "&k a: &x {b: [&y 1, *y]}\nc: *x\n? *k\n: d\n*y : &z [*z]\ne: *z\n";
+    let trees = load(text);
+    let root = &trees[0];
+    let value = |key| {
+        root.pairs()
+            .find(|(it, _)| it.as_str() == Some(key))
+            .unwrap()
+            .1
+    };
+    // Look-ups by name follow, walks do not.
+    assert_eq!(root["c"]["b"][0].as_str(), Some("1"));
+    assert_eq!(root["c"]["b"][1].kind(), NodeKind::Alias);
+    assert_eq!((value("c").len(), value("c").pairs().count()), (0, 0));
+    assert!(value("c").item(0).is_none() && value("e").items().next().is_none());
+    assert!(ptr::eq(root["c"].followed(), &root["a"]) && ptr::eq(root.followed(), root));
+    // The first of equal keys counts, and an alias as a key has its node's text.
+    assert!(ptr::eq(&root["a"], value("a")));
+    let looped = &root["1"];
+    assert!(ptr::eq(&looped[0][0], &looped[0]) && looped[0].kind() == NodeKind::Alias);
+}
+
+#[test]
+fn merges_mappings() {
+    let text = "a: &a {x: 1, y: 2, '<<': 3}\nb: &b {y: 4, z: [5]}\nc: {<<: [*a, *b], x: 6, x: 7}\n\
+                d: &d {<<: *d, w: 8}\ne: {<<: 9, ? [k] : 10}\nf: {<<: *d, ! <<: *a}\n";
+    let trees = load(text);
+    let keys = |name: &str| {
+        let pairs = trees[0][name].merged();
+        let texts = pairs.map(|(key, value)| format!("{key:?} {value:?}"));
+        texts.collect::<Vec<_>>().join(", ")
+    };
+    assert_eq!(keys("c"), r#""x" "6", "y" "2", "<<" "3", "z" ["5"]"#);
+    assert_eq!(keys("d"), r#""w" "8""#);
+    assert_eq!(keys("e"), r#""<<" "9", ["k"] "10""#);
+    assert_eq!(keys("f"), r#""<<" *1, "w" "8""#);
+    assert_eq!(trees[0]["b"]["z"].merged().count(), 0);
+}
+
+#[test]
+fn ends_in_a_bomb_and_in_cycles() {
+    let mut text = String::from("m0: &m0 {k0: v}\n");
+    for n in 1..60 {
+        let of = n - 1;
+        text += &format!("m{n}: &m{n} {{<<: [*m{of}, *m{of}, *m{n}], k{n}: *m{of}}}\n");
+    }
+    let trees = Trees::from_string(text, Limits::default()).unwrap();
+    assert_eq!(trees[0]["m59"].merged().count(), 60);
+    assert_eq!(trees.expanded_nodes(0), Some(u64::MAX));
+    assert_eq!(format!("{trees:?}").matches("v\"").count(), 1);
+}
+
+/// What holds a text of its own can be stored, and shared.
+static SHARED: OnceLock<Trees<'static>> = OnceLock::new();
+
+#[test]
+fn keeps_its_text_and_is_shared() {
+    fn is_shared<T: Send + Sync>() {}
+    is_shared::<Trees<'static>>();
+    let shared = SHARED.get_or_init(|| {
+        let text: String = (0..999)
+            .map(|n| format!("k{n}: &a{n} [v{n}]\nl{n}: *a{n}\n"))
+            .collect();
+        Trees::from_string(text, Limits::default()).unwrap()
+    });
+    thread::scope(|scope| {
+        for start in 0..8 {
+            scope.spawn(move || {
+                for n in (start..999).step_by(7) {
+                    let value = &shared[0][format!("l{n}").as_str()][0];
+                    assert_eq!(value.as_str(), Some(format!("v{n}").as_str()));
+                }
+            });
+        }
+    });
+    let refused = Trees::from_string("[".to_owned(), Limits::default()).unwrap_err();
+    assert!(matches!(refused, LoadError::Refused(_)), "{refused}");
 }
 
 /// The events of a node, and where they are: those of a tree that a parser would have given.

@@ -432,6 +432,28 @@ static void tells_an_unclosed_bracket(void) {
     saphyr_free(&parser);
 }
 
+/* A clone tells an event when its parser does: it looks at what waits where that does. */
+static void clones_where_much_waits(void) {
+    saphyr_parser parser = {0}, copy = {0};
+    saphyr_event event = {0};
+    char many[301] = {0};
+    const char *const pieces[] = {"- \"", many, many, "a b c d e", "\"\n- b\n", "- c\n", many, "- d\n"};
+    int32_t status, wanted;
+    memset(many, 'x', sizeof many - 1);
+    expect(saphyr_new_pieces(false, 0, 0, &parser), SAPHYR_OK, "a text in pieces");
+    for (size_t at = 0; at < sizeof pieces / sizeof *pieces; at++) {
+        expect(add(&parser, pieces[at]), SAPHYR_OK, "a piece");
+        do {
+            expect(saphyr_clone(&parser, &copy), SAPHYR_OK, "a clone where much waits");
+            wanted = saphyr_next(&parser, &event);
+            status = saphyr_next(&copy, &event);
+            expect(status, wanted, "a clone where much waits");
+        } while (wanted == SAPHYR_EVENT);
+    }
+    saphyr_free(&parser);
+    saphyr_free(&copy);
+}
+
 /* Long texts in pieces. Each piece is looked at a few times, so this ends soon. */
 static void reads_long_texts(void) {
     static const struct {
@@ -506,6 +528,7 @@ int main(void) {
     keeps_to_what_may_wait();
     keeps_to_how_many_characters_may_come();
     tells_an_unclosed_bracket();
+    clones_where_much_waits();
     reads_long_texts();
     adds_where_it_may();
     knows_the_standard();

@@ -1,11 +1,13 @@
 /*
  * Reads texts from standard input, and prints the events of each with their places, as the cases of
  * crates/test_cases have them. Each comes in pieces of as many bytes as the argument says. Now and then the next event
- * is peeked before it is taken, and clones have to give it too. With `lines` each piece is a line. Behind each comes a line
- * with `~` and how many bytes came. With `cuts` the text comes whole, and a text of at most 200 bytes also in two
- * pieces, cut at each place: it says where that gives something else.
+ * is peeked before it is taken, and clones have to give it too. With `lines` each piece is a line, and with `bytes` a
+ * byte. With `ends` a line's end is a piece of its own; with `odd` and `even` the next line comes with it, if that has
+ * such a number. Behind each of these pieces comes a line with `~` and how many bytes came. With `cuts` the text comes
+ * whole, and a text of at most 200 bytes also in two pieces, cut at each place: it says where that gives something
+ * else.
  *
- *     pieces COUNT | lines | cuts
+ *     pieces COUNT | lines | ends | odd | even | bytes | cuts
  *
  * A text comes behind a line with `1` or `0`, for `keep_tags`, and how many bytes it has. Its lines end in the byte FF.
  */
@@ -55,10 +57,22 @@ static int32_t next_in_each_way(saphyr_parser *parser, saphyr_event *event) {
     return status;
 }
 
+/* Whether it is said how many bytes came, and whether pieces end before a line's end too. */
+static bool says_came, cuts_ends;
+
+/* A line with a number that has this rest by 2 comes with the end of the one before, unless the rest is 2. */
+static size_t goes_on = 2, number;
+
+/* Whether a piece ends there, behind its first byte. */
+static bool is_cut(const uint8_t *at) {
+    bool is_line = at[-1] == '\n' && ++number % 2 != goes_on;
+    return is_line || (cuts_ends && (*at == '\r' || *at == '\n'));
+}
+
 /* How many bytes the next piece has. A `count` of 0 stands for a line. */
 static size_t piece_of(const uint8_t *text, size_t len, size_t count) {
     size_t piece = 0;
-    while (piece < len && (count ? piece < count : !piece || text[piece - 1] != '\n')) {
+    while (piece < len && (count ? piece < count : !piece || !is_cut(text + piece))) {
         piece++;
     }
     return piece;
@@ -70,6 +84,7 @@ static void print_case(const uint8_t *text, size_t len, bool keep_tags, size_t c
     saphyr_event event = {0};
     size_t added = 0, calls = 0;
     int32_t status = saphyr_new_pieces(keep_tags, 0, 0, &parser);
+    number = 0;
     while (status >= 0) {
         bool is_plain = len > 500 || calls++ % 4 > 0;
         status = is_plain ? saphyr_next(&parser, &event) : next_in_each_way(&parser, &event);
@@ -87,7 +102,7 @@ static void print_case(const uint8_t *text, size_t len, bool keep_tags, size_t c
         status = saphyr_add(&parser, bytes, piece);
         free(bytes);
         added += piece;
-        if (!count) {
+        if (says_came) {
             fprintf(line.file, "~ %zu\n", added);
         }
         if (status != SAPHYR_OK) {
@@ -124,9 +139,14 @@ static void print_cuts(const uint8_t *text, size_t len, bool keep_tags) {
 }
 
 int main(int argc, char **argv) {
-    size_t len, count = argc == 2 ? strtoul(argv[1], NULL, 10) : 1; /* `lines` is no number, and so 0. */
-    bool cuts = argc == 2 && !strcmp(argv[1], "cuts");
+    const char *how = argc == 2 ? argv[1] : "1";
+    size_t len, count = strtoul(how, NULL, 10); /* A word is no number, and so 0. */
+    bool cuts = !strcmp(how, "cuts"), odd = !strcmp(how, "odd"), even = !strcmp(how, "even");
     int keep_tags;
+    says_came = !count && !cuts;
+    cuts_ends = odd || even || !strcmp(how, "ends");
+    goes_on = odd ? 1 : even ? 0 : 2;
+    count += !strcmp(how, "bytes");
     while (scanf("%d %zu", &keep_tags, &len) == 2 && getchar() == '\n') {
         uint8_t *text = malloc(len + 1);
         if (!text || fread(text, 1, len, stdin) != len) {

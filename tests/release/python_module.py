@@ -163,6 +163,13 @@ def check_faults():
         expect(raised(lambda: saphyr_parser.check_standard(path)), said, "a file that is not UTF-8, by check_standard")
     said = "Refused: 1:3: unexpected character: `@'\n    - @a\n      ^\n1:1: the collection"
     expect(raised(lambda: load("\ufeff- @a\r- b"))[: len(said)], said, "a fault behind a byte order mark")
+    for text in ("a: [b, 'c\n", 'a:\n- "b\\q"\n', "k: 'a\nb: c\n"):
+        try:
+            load(text)
+        except saphyr_parser.Refused as fault:
+            quote = min(text.find(it) for it in "'\"" if it in text)
+            expect((fault.opened, fault.start.index), (fault.start, quote), f"the quote that is open in {text!r}")
+            expect(str(fault).count("\n"), 2, f"one place of {text!r}")
     shown = raised(lambda: load("- x\n- a: '" + "\u4f60\t" * 500 + "' b" + "c" * 500, name="N"))
     place, line, caret = shown.split("\n")[:3]
     expect(place[:18], "Refused: N:2:1009:", "the place of a long line")

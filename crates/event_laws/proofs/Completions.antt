@@ -127,9 +127,6 @@ pair_closes ps es h = mapping_closes (CloseSequence ∷ ps) (events.SequenceEnd 
 abbrev leaf : Part
 leaf = Leaf forest.no_properties Plain []
 
-skip : (R : Claim) (ks : List Kind) (ps : List Part) → R ks ps → Then IsSkipped R ks (leaf ∷ ps)
-skip R ks ps r = put IsSkipped R [] (leaf ∷ []) ks ps (refl, refl) r
-
 maybe : (R : Claim) (ks : List Kind) (ps : List Part) → R ks ps → Then (IsOptionalOf InFlow) R ks (leaf ∷ ps)
 maybe R ks ps r = put (IsOptionalOf InFlow) R [] (leaf ∷ []) ks ps (forest.left_out, inl (refl, refl), refl) r
 
@@ -155,6 +152,9 @@ pair_value : (R : Claim) (ks : List Kind) (ps : List Part) → R ks ps
 pair_value R ks ps r = put (IsAnyValueOf InFlow) (AtPairEnd R) [] (leaf ∷ []) _ _ (inr (refl, refl))
     (pair_ends R ks ps r)
 
+-- A state inside a document is completed by the shortest end of its collection, before the completion of the states
+-- outside it. Where the grammar asks for a node first, one is left out. Three states ask that what follows begins with
+-- a `-` or a `:` if what was ahead did, so theirs begin with one.
 inside : (s other : State) (ss : List State) → IsInsideDocument s → Completion other ss → Completion s (other ∷ ss)
 inside state.DocumentContent o ss i c = complete _ _ c.kinds leaf c.parts empty_scalar c.emitted
     (put (IsOptionalOf InBlock) (FollowsStates o ss) [] (leaf ∷ []) c.kinds c.parts
@@ -248,7 +248,8 @@ inside state.FlowMappingValue o ss i c = complete _ _ (Value ∷ FlowMappingEnd 
     (passing Value tt (left_out (brace_ended c.have)))
 inside state.FlowMappingEmptyValue o ss i c = complete _ _ (FlowMappingEnd ∷ c.kinds) leaf (CloseMapping ∷ c.parts)
     empty_scalar (events.MappingEnd ∷ c.emitted)
-    (skip (InMapping (FollowsStates o ss)) _ _ (pairs_end (FollowsStates o ss) c.kinds c.parts c.follows))
+    (put IsSkipped (InMapping (FollowsStates o ss)) [] (leaf ∷ []) _ _ (refl, refl)
+    (pairs_end (FollowsStates o ss) c.kinds c.parts c.follows))
     (λ ahead. tt) (refl, (tt, c.bare))
     (λ e. refl) (mapping_closes c.parts c.emitted c.emits)
     (left_out (brace_ended c.have))

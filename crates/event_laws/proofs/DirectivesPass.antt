@@ -80,7 +80,7 @@ abbrev pub declaring_in : List Directive → Memory → Memory
 declaring_in ds e = record { anchors = e.anchors; prefixes = declaring ds e.prefixes; keep = e.keep }
 
 version_passes : (b : Bool) (d : Declared) (place : Marker) → b ≡ false → (let r : Result Declared Refusal =
-    if b then Err (record { text = fault.DuplicateVersionDirective; mark = place }) else Ok
+    if b then Err (record { text = fault.DuplicateVersionDirective; mark = place; may_change = false }) else Ok
     (record { version = true; handles = d.handles }) in r) ≡ Ok (record { version = true; handles = d.handles })
 version_passes b d place h = cc
 

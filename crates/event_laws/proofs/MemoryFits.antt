@@ -150,6 +150,9 @@ kept_meaning keep kept handle front names k h = grind arith
 
 -- ## After each part
 
+-- By the part. Most only count an anchor, and name it (`fits_noted`). The two that do more are a document's start,
+-- which forgets the anchors and declares prefixes (`declaring_meaning`), and its end, which forgets the prefixes unless
+-- they are kept (`kept_meaning`).
 fits_after : (b keep : Bool) (front : List Part) (e : Memory) (p : Part) (more : ℕ) → May b p → FitsParts b keep front e
     → anchors front + one_more_anchor (anchor_of p) more < 2 ^ 64
     → FitsParts (is_inside_behind p b) keep (p ∷ front) (after p e)

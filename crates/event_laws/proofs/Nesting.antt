@@ -63,6 +63,9 @@ behind_moved n place h = simp h
 
 -- ## Nodes
 
+-- By recursion on the tree. A collection is its first part, its entries and its last part, one after the other
+-- (`and_then`): the first opens a nest, in which the entries leave the place as it was, and the last goes back to the
+-- nest around it, where the node was due.
 mutual
   node_passes : (keep : Bool) (node : Node) (front rest : List Part) (es : List Happening) (n : Nest)
       (place : NestPlace) → place_behind_node n.innermost ≡ Some place

@@ -212,7 +212,8 @@ pub says_behind : (mark : Kind) (x o : State) (span : SpansByKinds → List Kind
     ≡ steps.node_or_nothing o (span f (j ∷ l)) (record { span = f l; kind = j }) (at f l x ss e))
     → SaysBehind mark x o
 says_behind mark x o span more go n t h g f k ks ss e ps z l =
-    optional_says o n t h g f k ks (λ l. at f (mark ∷ l) x ss e) x (λ l. ss) e ps (span f) z (λ l. more) (λ j l. go f j l ss e) l
+    optional_says o n t h g f k ks (λ l. at f (mark ∷ l) x ss e) x (λ l. ss) e ps (span f) z (λ l. more)
+    (λ j l. go f j l ss e) l
 
 -- ## Pairs
 

@@ -78,8 +78,8 @@ emitted_same (Err f) (Err g) h = (g, refl)
 beside_placeless : (s : State) (m : Machine) → s ≢ state.End
     → EmitsAlike without_places (event_step_at s m) (event_step_at s (placeless m))
 beside_placeless s m on = steps_alike without_places (λ r q o. o) s text_start text_start m (placeless m) on
-    (λ e b c k. k) (puts without_places _ (λ p. text_start) (placeless_tokens m.tokens) m.keep_tags m (λ p. (refl, refl)) (refl, refl)
-    refl)
+    (λ e b c k. k) (puts without_places _ (λ p. text_start) (placeless_tokens m.tokens) m.keep_tags m
+    (λ p. (refl, refl)) (refl, refl) refl)
 
 pub steps_same : (s : State) (m : Machine) → Same (event_step_at s m) (event_step_at s (placeless m))
 steps_same u0 m = grind (arith, emitted_same, beside_placeless)

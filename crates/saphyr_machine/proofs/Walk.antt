@@ -29,7 +29,7 @@ pub record Walk : Type 1 where
   pub start : Spans text_start text_start
   pub first : (a b : Marker) → Spans a b → Spans a a
   pub last : (a b : Marker) → Spans a b → Spans b b
-  pub fails : (text : FaultText) (a : Marker) → Spans a a → Fails (record { text = text; mark = a })
+  pub fails : (text : FaultText) (a : Marker) → Spans a a → Fails (record { text = text; mark = a; may_change = false })
   pub nothing : (low : Marker) (d : ℕ) (r : Option Refusal) → Ahead low d r [] → Fails (ending_refusal r)
   pub own : (low : Marker) (d : ℕ) (r : Option Refusal) (t : Piece) (ts : List Piece) → Ahead low d r (t ∷ ts)
       → Spans low t.span.start × Spans t.span.start t.span.end

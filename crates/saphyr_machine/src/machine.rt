@@ -131,9 +131,14 @@ impl<T: Input> Machine<T> {
 
     // The text is refused at a place.
     pub(super) fn refuse(&mut self, text: FaultText, mark: Marker) -> Stopped
-        ensures { self.new.scanner.stop ≡ Refused (record { text = text; mark = mark }) }
+        ensures { self.new.scanner.stop
+            ≡ Refused (record { text = text; mark = mark; may_change = false }) }
     {
-        self.scanner.stop_at(Stop::Refused(Refusal { text, mark }))
+        self.scanner.stop_at(Stop::Refused(Refusal {
+            text,
+            mark,
+            may_change: false,
+        }))
     }
 
     // The tokens are over, where a refusal doesn't end them.
@@ -250,7 +255,7 @@ impl<T: Input> Machine<T> {
     pub(super) fn refuse_next(&mut self, text: FaultText) -> Stopped
         requires { IsReady self.old.scanner }
         ensures { (more : List ℕ) → IfOk (spec.taken_token (machine_in more self.old)) (λ taken.
-            self.new.scanner.stop ≡ Refused (record { text = text; mark = taken.0.span.start })) }
+            self.new.scanner.stop ≡ Refused (record { text = text; mark = taken.0.span.start; may_change = false })) }
     {
         let mark = self.span().start;
         self.refuse(text, mark)

@@ -380,8 +380,8 @@ impl PieceReader {
             since: String::new(self.alloc),
             weight: self.weight,
             look_past: self.look_past,
-            ending: Ending::Any,
-            seen: 0,
+            ending: self.ending,
+            seen: self.seen,
             looked: self.looked,
             alloc: self.alloc,
         })

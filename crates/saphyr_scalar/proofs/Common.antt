@@ -14,7 +14,7 @@ pub use Rattle.saphyr_input.specs.Places.{can_be_plain, goes_on, is_blank_or_bre
 pub use Rattle.saphyr_input.specs.Separation.{blank_len, comment_len, found_blanks, is_bare_comment, is_skipped, separation_len}
 pub use Rattle.saphyr_input.specs.declared.input.SkipTabs.{SkipTabs}
 pub use Rattle.saphyr_input.specs.declared.input.SkipTabs.TheVariants.{Yes}
-pub use Rattle.saphyr_scalar.specs.Views.Cursor.{Cursor, along, next_line, pass, pass_all_blanks, pass_blanks, pass_break, pass_comment, pass_line, pass_spaces, refuse, separation, ◌>>=◌}
+pub use Rattle.saphyr_scalar.specs.Views.Cursor.{Cursor, along, next_line, pass, pass_all_blanks, pass_blanks, pass_break, pass_comment, pass_line, pass_spaces, is_missing, refuse, refuse_open, separation, ◌>>=◌}
 pub use Rattle.saphyr_scalar.specs.Views.Reader.{Fails, Gives, Moves, ReadsOn, cursor_of, loaded}
 pub use Rattle.saphyr_scalar.specs.declared.scalar.block.header.BlockHeader.{BlockHeader}
 pub use Rattle.saphyr_scalar.specs.declared.scalar.block.lines.EmptyLines.{EmptyLines}

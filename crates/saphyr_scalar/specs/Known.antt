@@ -1,8 +1,6 @@
 -- A text of which more comes: what its end leaves open, and a reader with more behind its text.
 use Rattle.std.specs.Prelude.{◌≡◌, ℕ, Bool, true, false, ◌||◌, ◌&&◌, ◌==◌, List, [], ◌∷◌, ◌++◌, slice_index, if◌then◌else◌}
 use Rattle.saphyr_input.specs.Indicators.{colon, full_stop, hyphen}
-use Rattle.saphyr_scalar.specs.declared.scalar.fault.FaultText.{FaultText}
-use Rattle.saphyr_scalar.specs.declared.scalar.fault.FaultText.TheVariants.{UnprintableCharacter, MisplacedByteOrderMark, ContentAfterDocumentEnd, UnexpectedCharacter, TabInBlockIndentation, DirectiveEndExpected, DirectiveNameCharacter, VersionNumberTooLong, TagDirectiveEndExpected, TagEndExpected, TagEscapeLeadingByte, TagEscapeTrailingByte, TagEscapeCodePoint, MisplacedBracket, RecursionLimit, BlockScalarIndicatorZero, BlockScalarHeaderEndExpected, BlockScalarTabFirst, BlockScalarLineIndentation, TabAsIndentation, ContentAfterQuotes, EscapedCodePoint, PlainDashBeforeFlow, TabInsidePlain, TabNotAllowed, ColonBeforeFlow, ColonWithoutWhitespace, CommentWithoutWhitespace}
 use Rattle.saphyr_scalar.specs.Views.Cursor.{Cursor}
 
 -- with which a document marker begins
@@ -38,35 +36,3 @@ pub record IsRestOfText (rest text : List ℕ) : Type 0 where
 -- the same place, with more behind the text
 abbrev pub longer : List ℕ → Cursor → Cursor
 longer more s = record s { rest = s.rest ++ more }
-
--- a fault that is told by characters that were seen, whatever comes behind them
-abbrev pub is_seen : FaultText → Bool
-is_seen UnprintableCharacter = true
-is_seen MisplacedByteOrderMark = true
-is_seen ContentAfterDocumentEnd = true
-is_seen (UnexpectedCharacter c) = true
-is_seen TabInBlockIndentation = true
-is_seen DirectiveEndExpected = true
-is_seen DirectiveNameCharacter = true
-is_seen VersionNumberTooLong = true
-is_seen TagDirectiveEndExpected = true
-is_seen TagEndExpected = true
-is_seen TagEscapeLeadingByte = true
-is_seen TagEscapeTrailingByte = true
-is_seen TagEscapeCodePoint = true
-is_seen MisplacedBracket = true
-is_seen RecursionLimit = true
-is_seen BlockScalarIndicatorZero = true
-is_seen BlockScalarHeaderEndExpected = true
-is_seen BlockScalarTabFirst = true
-is_seen BlockScalarLineIndentation = true
-is_seen TabAsIndentation = true
-is_seen ContentAfterQuotes = true
-is_seen EscapedCodePoint = true
-is_seen PlainDashBeforeFlow = true
-is_seen TabInsidePlain = true
-is_seen TabNotAllowed = true
-is_seen ColonBeforeFlow = true
-is_seen ColonWithoutWhitespace = true
-is_seen CommentWithoutWhitespace = true
-is_seen _ = false

@@ -94,7 +94,8 @@ pub front_taken : (q : Queue) (p : Place) (t : Piece) → BeginsWithPlace (Some 
     → (coded_opening p.front ≡ opening.Nothing → ⊥) → first_of (queue q) ≡ Some t → IsFront t
 front_taken q p t h some is =
     let ps = places_behind p q in
-    front_token (coded_opening p.front) (place_at p q.texts) ps (queue_at (place_at p q.texts ∷ ps) (first_number q)) t some
+    front_token (coded_opening p.front) (place_at p q.texts) ps
+    (queue_at (place_at p q.texts ∷ ps) (first_number q)) t some
     (ap first_of (sym (first_queued q p h)) ∙ is)
 
 -- Behind the start of a mapping comes its first key.

@@ -258,7 +258,8 @@ adds_apart p e handle text s far bare h k =
 -- The token of a place that is put behind the others comes behind theirs.
 pub put_behind : (q : Queue) (qs : List Place) (p : Place) (t : Piece) (new : Texts) → qs ≡ q.places.items ++ p ∷ []
     → AddsBehind t p q.texts new
-    → Fit (drop q.spent qs) new × (queue_at (places_at (drop q.spent qs) new) (first_number q) ≡ seen.with_piece t (queue q))
+    → Fit (drop q.spent qs) new
+    × (queue_at (places_at (drop q.spent qs) new) (first_number q) ≡ seen.with_piece t (queue q))
 unfolding queue_places
 put_behind q qs p t new is adds =
     let both = adds (drop q.spent q.places.items) q.fit in

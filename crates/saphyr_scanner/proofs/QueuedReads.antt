@@ -182,7 +182,8 @@ pub token_put : {A X : Type 0} (q : Queue) (qs : List Place) (p : Place) (kind :
     (new : Texts) (s : Cursor) (known : X) (f : TokenRead A X) → qs ≡ q.places.items ++ p ∷ []
     → PlacesToken kind start q.texts new s (Ok (p, known)) f
     → Fit (drop q.spent qs) new
-    × (queue_with_token kind (queue q) start f ≡ Ok (queue_at (places_at (drop q.spent qs) new) (first_number q), known, s))
+    × (queue_with_token kind (queue q) start f
+    ≡ Ok (queue_at (places_at (drop q.spent qs) new) (first_number q), known, s))
 token_put q qs p kind start new s known (Err e) is h = absurd h
 token_put q qs p kind start new s known (Ok x) is h =
     let both = put_behind q qs p (read_piece kind start x) new is h.2 in

@@ -7,5 +7,4 @@ pub mod Queue
 pub mod Scanning
 pub mod Engine
 pub mod Ahead
-pub mod TooLong
 pub mod Lines

@@ -78,6 +78,8 @@ pub(crate) struct Engine<T: Input> {
 
 impl<T: Input> Engine<T> {
     ghost use Rattle.std.specs.Prelude.{false};
+    ghost use Rattle.saphyr_scalar.specs.Known.{may_be_open};
+    ghost use Rattle.saphyr_scalar.specs.Views.Cursor.{is_missing};
     ghost use Rattle.saphyr_scalar.specs.Views.Reader.{Moves};
     ghost use Rattle.saphyr_scanner.specs.Views.Engine.{state, stopped_by, CarriesBy, Performs};
     ghost use Rattle.saphyr_scanner.specs.Views.Tokens.{kind_with, no_parts};
@@ -113,21 +115,62 @@ impl<T: Input> Engine<T> {
         self.level.context.is_block()
     }
 
-    // The text is refused at a place.
-    fn refuse(&mut self, text: FaultText, mark: Marker) -> Stopped
-        ensures { self.new.stop ≡ Refused (record { text = text; mark = mark }) }
+    // The text is refused at a place. Where it is open, what comes behind what came may change that.
+    fn refuse(&mut self, text: FaultText, mark: Marker, may_change: bool) -> Stopped
+        ensures { self.new.stop ≡ Refused (record { text = text; mark = mark; may_change = may_change }) }
     {
-        self.stop = Stop::Refused(Refusal { text, mark });
+        self.stop = Stop::Refused(Refusal {
+            text,
+            mark,
+            may_change,
+        });
         Stopped
     }
 
-    // The text is refused at the place that is reached.
+    // The text is refused at the place that is reached, whatever comes.
     fn refuse_here(&mut self, text: FaultText) -> Stopped
         ensures { self.new.stop ≡ Refused (record
-            { text = text; mark = (state self.old).core.cursor.mark }) }
+            { text = text; mark = (state self.old).core.cursor.mark; may_change = false }) }
     {
         let mark = self.reader.mark();
-        self.refuse(text, mark)
+        self.refuse(text, mark, false)
+    }
+
+    // The text is refused at a place, unless what is left of it is open.
+    fn refuse_open(&mut self, text: FaultText, mark: Marker) -> Stopped
+        ensures { self.new.stop ≡ Refused (record {
+          text = text;
+          mark = mark;
+          may_change = may_be_open (state self.old).core.cursor.rest;
+        }) }
+    {
+        let may_change = self.reader.is_at_open_end();
+        self.refuse(text, mark, may_change)
+    }
+
+    // The text is refused at the place that is reached, unless what is left of it is open.
+    fn refuse_open_here(&mut self, text: FaultText) -> Stopped
+        ensures { self.new.stop ≡ Refused (record {
+          text = text;
+          mark = (state self.old).core.cursor.mark;
+          may_change = may_be_open (state self.old).core.cursor.rest;
+        }) }
+    {
+        let mark = self.reader.mark();
+        self.refuse_open(text, mark)
+    }
+
+    // The text is refused at a place, once its character `n` came.
+    fn refuse_behind(&mut self, n: usize, text: FaultText, mark: Marker) -> Stopped
+        requires { n < 8 }
+        ensures { self.new.stop ≡ Refused (record {
+          text = text;
+          mark = mark;
+          may_change = is_missing n (state self.old).core.cursor.rest;
+        }) }
+    {
+        let may_change = self.reader.is_missing(n);
+        self.refuse(text, mark, may_change)
     }
 
     // Puts a token without parts from one place to another into the queue.
@@ -198,7 +241,7 @@ impl<T: Input> Engine<T> {
         };
         self.comment = None;
         if self.goes_on_behind(comment) {
-            return Err(self.refuse(FaultText::CommentInsideText, comment));
+            return Err(self.refuse_open(FaultText::CommentInsideText, comment));
         }
         Ok(())
     }

@@ -31,12 +31,18 @@ fn end_gap<T: Input>(
 {
     let mark = reader.mark();
     if tabbed && is_bom(c) {
-        let text = FaultText::MisplacedByteOrderMark;
-        return Err(Refusal { text, mark });
+        return Err(Refusal {
+            text: FaultText::MisplacedByteOrderMark,
+            mark,
+            may_change: false,
+        });
     }
     if tabbed && !is_z(c) {
-        let text = FaultText::TabInBlockIndentation;
-        return Err(Refusal { text, mark });
+        return Err(Refusal {
+            text: FaultText::TabInBlockIndentation,
+            mark,
+            may_change: false,
+        });
     }
     Ok(broke)
 }

@@ -7,8 +7,7 @@ ghost use Rattle.saphyr_scanner.specs.Steps.Remaining.{scan};
 ghost use Rattle.saphyr_scanner.specs.Steps.State as spec;
 ghost use Rattle.saphyr_scanner.specs.declared.growth.Growth.TheVariants.{Starved, Whole};
 ghost use Rattle.saphyr_scanner.specs.Views.Engine.{Keeps};
-ghost use Rattle.saphyr_scanner.specs.Views.Scanning.{IsReady, IsUndecided, PeeksToken, Readies, is_growing, tokens_in};
-ghost use Rattle.saphyr_scanner.specs.Views.TooLong as long;
+ghost use Rattle.saphyr_scanner.specs.Views.Scanning.{Drops, EndsTokens, IsReady, IsUndecided, PeeksToken, Readies, is_growing, tokens_in};
 ghost use Rattle.saphyr_scanner.specs.Views.Tokens.{Piece, Remaining, before, kind_with, parts_view, text_of, token_kind};
 ghost use Rattle.saphyr_scanner.specs.SpansInOrder.{AreInOrder};
 ghost use Rattle.saphyr_scanner.specs.TokensTaken.{AreTakenFrom};
@@ -16,23 +15,12 @@ ghost use Rattle.saphyr_scanner.specs.TokensTaken.{AreTakenFrom};
 use crate::engine::Engine;
 use crate::growth::Growth;
 use crate::law::{orders_spans, takes_all_tokens, takes_characters_off};
-use crate::stopped::{Halt, Stopped, keep};
+use crate::stopped::{Stopped, keep};
 use crate::token::{TokenKind, TokenParts};
 use saphyr_input::input::{CloneInput, Input};
 use saphyr_scalar::{Span, Stop, TagParts};
 use std::alloc::{AllocError, Global};
 use std::marker::Model;
-
-// What a call told that reads up to a limit: it stopped where the limit was passed.
-#[inline(always)]
-fn within(read: Result<(), Halt>) -> Result<(), Stopped>
-    ensures { result ≡ long.within read }
-{
-    match read {
-        Ok(()) => Ok(()),
-        Err(_) => Err(Stopped),
-    }
-}
 
 /// The tokens of a text, one after the other.
 ///
@@ -123,12 +111,34 @@ impl<T: Input> Scanner<T> {
         Ok(())
     }
 
+    // A candidate that is too far is dropped. If it had to be a key, that ends the tokens. It starves where what comes
+    // may change that.
+    #[inline(always)]
+    fn drop_far_key(&mut self) -> Result<(), Stopped>
+        ensures dropped { OnOk result (Drops self.old self.new) }
+        ensures refused { OnErr result ((more : List ℕ)
+            → EndsTokens self.new.stop (tokens_in more self.old)) }
+    {
+        let dropped = self.engine.drop_far_key();
+        if dropped.is_ok() {
+            return dropped;
+        }
+        if !matches!(self.growth, Growth::Growing) {
+            return dropped;
+        }
+        if self.engine.is_decided(dropped) {
+            return dropped;
+        }
+        self.growth = Growth::Starved;
+        Err(self.stop_at(Stop::OutOfMemory))
+    }
+
     // Reads until the next token can be handed out, where a candidate may be far or hold it.
     #[inline(never)]
     fn fill_past_candidate(&mut self) -> Result<(), Stopped>
         ensures { Readies result self.old self.new }
     {
-        self.engine.drop_far_key()?;
+        self.drop_far_key()?;
         if self.engine.needs_token() {
             return self.read_on();
         }
@@ -150,7 +160,7 @@ impl<T: Input> Scanner<T> {
         }
         // A law. It does nothing when it runs.
         takes_characters_off();
-        within(self.engine.read_tokens(self.limit))
+        self.engine.read_tokens(self.limit)
     }
 
     // Reads on where more of the text may come. It is separate for speed: a text is mostly whole.
@@ -169,10 +179,10 @@ impl<T: Input> Scanner<T> {
         let starts = self.engine.is_at_start();
         let read = self.engine.read_tokens(self.limit);
         if starts {
-            return within(read);
+            return read;
         }
         if self.engine.is_decided(read) {
-            return within(read);
+            return read;
         }
         self.growth = Growth::Starved;
         Err(self.stop_at(Stop::OutOfMemory))

@@ -9,26 +9,6 @@ use saphyr_scalar::Stop;
 #[derive(Clone, Copy, Debug, PartialEq, Eq)]
 pub struct Stopped;
 
-/// Why no token is read on.
-#[derive(Clone, Copy)]
-pub(crate) enum Halt {
-    /// With the last one the text is too long.
-    Limit,
-    /// A step stopped.
-    Step,
-}
-
-impl From<Stopped> for Halt {
-    ghost use Rattle.saphyr_scanner.specs.declared.stopped.Halt.TheVariants.{Step};
-
-    ghost from_gives = { λ _ e. e ≡ Step };
-
-    #[inline(always)]
-    fn from(_stopped: Stopped) -> Halt {
-        Halt::Step
-    }
-}
-
 /// Passes on what a call returned, and keeps what ended the reading, if something did.
 #[inline(always)]
 pub(crate) fn keep<R, E: Into<Stop>>(stop: &mut Stop, read: Result<R, E>) -> Result<R, Stopped>

@@ -26,7 +26,7 @@ pub use Rattle.saphyr_scalar.specs.Steps.Block.{EmptyLinesRead, is_indentation, 
 pub use Rattle.saphyr_scalar.specs.Steps.Quoted.{QuotedGap, TextRead, mid_line, on_line, over_lines, with_front, with_run}
 pub use Rattle.saphyr_scalar.specs.Values.Block.{Content, Empty, Line, chomped_alone, contents, contents_behind, empty_at_end, has_content, is_more_indented, lines_value}
 pub use Rattle.saphyr_scalar.specs.Values.Folding.{folded, line_feeds}
-pub use Rattle.saphyr_scalar.specs.Views.Cursor.{Cursor, along, next_line, pass, pass_all_blanks, pass_blanks, pass_break, pass_comment, refuse, start_cursor, ◌>>=◌}
+pub use Rattle.saphyr_scalar.specs.Views.Cursor.{Cursor, along, next_line, pass, pass_all_blanks, pass_blanks, pass_break, pass_comment, refuse_open, start_cursor, ◌>>=◌}
 pub use Rattle.saphyr_scalar.specs.declared.scalar.fault.Refusal.{Refusal}
 pub use Rattle.saphyr_scalar.specs.declared.scalar.position.Marker.{Marker}
 pub use Rattle.saphyr_scalar.specs.declared.values.BlockStyle.{BlockStyle}

@@ -52,7 +52,8 @@ empty_behind i x t (p ∷ ps) ((j, low, is), hs) b =
     (Empty ∷ r.0, rw (piece_cut j p (joined_pieces ps) t is) (spec.empty_line j r.0 (joined_pieces ps ++ t) low r.1))
 
 -- spaces come after a line at least
-empty_then_spaces : (i k : ℕ) (x p : List ℕ) (ps : List (List ℕ)) → k ≤ i → x ≡ [] → AreEach (IsEmptyBlockLine i) (p ∷ ps)
+empty_then_spaces : (i k : ℕ) (x p : List ℕ) (ps : List (List ℕ)) → k ≤ i → x ≡ []
+    → AreEach (IsEmptyBlockLine i) (p ∷ ps)
     → AreSomeEmptyLines i x (joined_pieces (p ∷ ps) ++ spaces k)
 empty_then_spaces i k x p [] fits e ((j, low, is), hs) =
     (Empty ∷ [], rw (piece_cut j p [] (spaces k) is) (spec.empty_line_and_spaces j k low fits e))

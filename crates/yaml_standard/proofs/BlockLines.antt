@@ -15,7 +15,8 @@ use Rattle.yaml_standard.proofs.Separation.{shorter_by}
 
 -- ## Empty lines
 
-pub empty_line_taken : (i n : ℕ) (a b c : List ℕ) → SplitsSpaces i n a b → b ≡ 10 ∷ c → TakesOff (IsEmptyBlockLine i) a c
+pub empty_line_taken : (i n : ℕ) (a b c : List ℕ) → SplitsSpaces i n a b → b ≡ 10 ∷ c
+    → TakesOff (IsEmptyBlockLine i) a c
 empty_line_taken i n a b c s e = record {
   piece = spaces n ++ 10 ∷ [];
   is = (n, s.0, refl);

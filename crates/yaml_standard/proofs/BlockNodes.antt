@@ -90,7 +90,8 @@ pub no_entries : (kind : Kind) (m : ℕ) (a : List ℕ) → TakesBefore (AreBloc
 no_entries kind.Sequence m a = nothing_taken _ a (NoNode, refl)
 no_entries kind.Mapping m a = nothing_taken _ a (NoPair, refl)
 
-collection_of : (kind : Kind) (place : Position) (m : ℕ) (p q r behind : List ℕ) → IsSomeLead place (least_at kind place) m p
+collection_of : (kind : Kind) (place : Position) (m : ℕ) (p q r behind : List ℕ)
+    → IsSomeLead place (least_at kind place) m p
     → IsBlockEntry kind m q (r ++ behind) → AreBlockEntries kind m r behind → IsSomeNode place (p ++ (q ++ r)) behind
 collection_of kind.Sequence place m p q r behind (properties, lead) (text, (node, h), e) (nodes, k) = (
   Seq properties (MoreNodes node nodes),

@@ -23,12 +23,14 @@ abbrev pub IsBehindKey : ℕ → List ℕ → List ℕ → List ℕ → Type 0
 IsBehindKey m start t behind = HoldsOfFront (λ key. key ≢ []) start (t ++ behind) × IsAfterMarkedKey m t behind
 
 key_alone : (m : ℕ) (b d : List ℕ) (key : Node) (node : List ℕ) → has_tab_ahead false b ≡ false → b ≡ node ++ d
-    → node ≢ [] → IsBlockNodeAt key (BehindMark m) node d → is_value_ahead false m 0 d ≡ false → IsBlockEntry kind.Mapping m (63 ∷ node) d
+    → node ≢ [] → IsBlockNodeAt key (BehindMark m) node d → is_value_ahead false m 0 d ≡ false
+    → IsBlockEntry kind.Mapping m (63 ∷ node) d
 key_alone m b d key node no_tab e some is_key none =
     (key, left_out, inr (inl (node, refl, (some, ap (has_tab_ahead false) (sym e) ∙ no_tab), is_key, none, refl)))
 
 marked : (m : ℕ) (b d : List ℕ) (key : Node) (node rest : List ℕ) → has_tab_ahead false b ≡ false
-    → b ≡ node ++ (rest ++ d) → node ≢ [] → IsBlockNodeAt key (BehindMark m) node (rest ++ d) → IsAfterMarkedKey m rest d
+    → b ≡ node ++ (rest ++ d) → node ≢ [] → IsBlockNodeAt key (BehindMark m) node (rest ++ d)
+    → IsAfterMarkedKey m rest d
     → IsBlockEntry kind.Mapping m (63 ∷ (node ++ rest)) d
 marked m b d key node rest no_tab e some is_key (inl (none, no_value)) =
     subst (λ (x : List ℕ). IsBlockEntry kind.Mapping m (63 ∷ x) d) (sym (ap (λ x. node ++ x) none ∙ append-nil node))
@@ -51,7 +53,8 @@ marked m b d key node rest no_tab e some is_key (inr (colon, text, value, mark, 
     )
 
 pub marked_pair : (m : ℕ) (a b c d : List ℕ) → a ≡ 63 ∷ b → has_tab_ahead false b ≡ false
-    → TakesBefore (IsSomeNode (BehindMark m)) b c → TakesBefore (IsBehindKey m b) c d → TakesBefore (IsBlockEntry kind.Mapping m) a d
+    → TakesBefore (IsSomeNode (BehindMark m)) b c → TakesBefore (IsBehindKey m b) c d
+    → TakesBefore (IsBlockEntry kind.Mapping m) a d
 marked_pair m a b c d e no_tab key rest =
     let whole = key.cut ∙ ap (λ x. key.piece ++ x) rest.cut in
     record {
@@ -128,7 +131,8 @@ collection_is_key (Scalar p style value) indent t between is h = absurd is
 collection_is_key (Seq p nodes) indent t between is h = (inl h, inr refl)
 collection_is_key (Map p pairs) indent t between is h = (inl h, inr refl)
 
-pub collection_pair : (m indent : ℕ) (a b c d : List ℕ) → indent ≡ m + 1 → TakesOff (IsSomeCollection (flow 255 indent)) a b
+pub collection_pair : (m indent : ℕ) (a b c d : List ℕ) → indent ≡ m + 1
+    → TakesOff (IsSomeCollection (flow 255 indent)) a b
     → TakesBefore (IsColonBefore a) b c → TakesBefore (IsSomeNode (BehindKey m)) c d
     → TakesBefore (IsBlockEntry kind.Mapping m) a d
 collection_pair m indent a b c d e key colon value =

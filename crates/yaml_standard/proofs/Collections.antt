@@ -34,7 +34,8 @@ one_less room left some is = omega (arith, some, is)
 -- a bracket, and the rest of a collection
 abbrev IsInside : Kind → Flow → List ℕ → Type 0
 IsInside kind at t =
-    (rest : List ℕ) × IsRest (AreFlowEntries kind at) at.indent (last_bracket kind) rest × (t ≡ first_bracket kind ∷ rest)
+    (rest : List ℕ) × IsRest (AreFlowEntries kind at) at.indent (last_bracket kind) rest
+    × (t ≡ first_bracket kind ∷ rest)
 
 cut_at_bracket : (bracket close : ℕ) (p q s e rest : List ℕ) → q ≡ bracket ∷ rest → rest ≡ s ++ (e ++ close ∷ [])
     → p ++ q ≡ (p ++ (bracket ∷ s)) ++ (e ++ close ∷ [])
@@ -55,7 +56,8 @@ collection_of kind.Mapping at left p q room (properties, before) (rest, (s, e, i
 )
 
 pub collection_opened : (kind : Kind) (at : Flow) (left : ℕ) (a b c d : List ℕ) → at.room ≡ suc left
-    → TakesOff (IsSomeFront at.indent) a b → b ≡ first_bracket kind ∷ c → Closes (goal.Entries (flow left at.indent) kind) c d
+    → TakesOff (IsSomeFront at.indent) a b → b ≡ first_bracket kind ∷ c
+    → Closes (goal.Entries (flow left at.indent) kind) c d
     → TakesOff (IsSomeCollection at) a d
 collection_opened kind at left a b c d room front bracket rest =
     joined front
@@ -114,7 +116,8 @@ pub others_more : (kind : Kind) (at : Flow) (a b c d : List ℕ) → TakesOff (I
     → Closes (goal.Entries at kind) c d → Closes (goal.AfterEntry at kind) a d
 others_more kind at a b c d s e t =
     joined s
-    (known_then {Q = IsRest (AreFlowEntries kind at) at.indent (last_bracket kind)} {R = IsBehindComma kind at} (44 ∷ [])
+    (known_then {Q = IsRest (AreFlowEntries kind at) at.indent (last_bracket kind)}
+    {R = IsBehindComma kind at} (44 ∷ [])
     (λ q k. comma_and kind at q k) e t)
     (λ p q h k. (p, k.0, h, k.1, ap (λ x. p ++ x) k.2))
 
@@ -149,18 +152,22 @@ from_entry kind at b c d entry rest =
       is = (
         (p ++ k.0) ++ k.1,
         entry_and kind at (p ++ k.0) k.1 is_entry k.3,
-        ap (λ x. p ++ x) k.4 ∙ sym (append_assoc p k.0 end) ∙ sym (append_assoc (p ++ k.0) k.1 (last_bracket kind ∷ [])),
+        ap (λ x. p ++ x) k.4 ∙ sym (append_assoc p k.0 end)
+            ∙ sym (append_assoc (p ++ k.0) k.1 (last_bracket kind ∷ [])),
       );
       cut = entry.cut ∙ ap (λ x. p ++ x) rest.cut ∙ sym (append_assoc p rest.piece d);
     }
 
-pub entry_first : (known kind : Kind) (at : Flow) (a b c d : List ℕ) → kind ≡ known → TakesOff (IsSeparation at.indent) a b
-    → TakesOff (IsEntryBefore known at c) b c → Closes (goal.AfterEntry at known) c d → Closes (goal.Entries at kind) a d
+pub entry_first : (known kind : Kind) (at : Flow) (a b c d : List ℕ) → kind ≡ known
+    → TakesOff (IsSeparation at.indent) a b
+    → TakesOff (IsEntryBefore known at c) b c → Closes (goal.AfterEntry at known) c d
+    → Closes (goal.Entries at kind) a d
 entry_first known kind at a b c d is s entry rest =
     subst (λ (k : Kind). Closes (goal.Entries at k) a d) (sym is)
     (joined s (from_entry known at b c d entry rest) (λ p q h k. (p, k.0, h, k.1, ap (λ x. p ++ x) k.2)))
 
-pub node_entry : (at : Flow) (a b : List ℕ) → Closes (goal.Node at) a b → TakesOff (IsEntryBefore kind.Sequence at b) a b
+pub node_entry : (at : Flow) (a b : List ℕ) → Closes (goal.Node at) a b
+    → TakesOff (IsEntryBefore kind.Sequence at b) a b
 node_entry at a b t =
     taken_so {P = λ x. Derives (goal.Node at) x b} (λ p h s x is e. (h.0, inl (p, s, h.1, is, refl))) t
 

@@ -127,7 +127,8 @@ content_taken is_bare place a b e s unmarked = record {
   cut = s.cut;
 }
 
-pub explicit_taken : (free : Bool) (a b c : List ℕ) → TakesOff (IsFront free) a b → TakesBefore (IsDocumentNode false) b c
+pub explicit_taken : (free : Bool) (a b c : List ℕ) → TakesOff (IsFront free) a b
+    → TakesBefore (IsDocumentNode false) b c
     → TakesBefore (IsSomeDocument free) a c
 explicit_taken free a b c s t =
     then {P = IsFront free} {Q = λ x. IsDocumentNode false x c}

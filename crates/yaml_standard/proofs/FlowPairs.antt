@@ -37,7 +37,8 @@ mark_taken indent a b c front e s is_front past none =
 pub entry_ends : (c : ℕ) (a b : List ℕ) → a ≡ c ∷ b → IsFalse (is_blank c) → c ≢ 10 → EndsEntry a
 entry_ends c a b e no_blank no_feed = (c, b, no_blank, no_feed, e)
 
-pub lone_mark : (in_brackets : Bool) (at : Flow) (a b : List ℕ) → TakesOff (IsQuestionInFlow at.indent) a b → EndsEntry b
+pub lone_mark : (in_brackets : Bool) (at : Flow) (a b : List ℕ)
+    → TakesOff (IsQuestionInFlow at.indent) a b → EndsEntry b
     → Closes (goal.Pair at in_brackets) a b
 lone_mark in_brackets at a b s ends =
     taken_so {P = IsQuestionInFlow at.indent}
@@ -152,7 +153,8 @@ pub key_and_value : (in_brackets : Bool) (at : Flow) (adjacent : Bool) (a b c : 
 key_and_value in_brackets at adjacent a b c s t =
     joined s t (λ p q h k. let x = keyed in_brackets at adjacent k.0 p q h k.1 in (x.0, k.0, x.1))
 
-pub key_alone : (in_brackets : Bool) (at : Flow) (a b : List ℕ) → in_brackets ≡ false → TakesOff (IsLeaf true at.indent) a b
+pub key_alone : (in_brackets : Bool) (at : Flow) (a b : List ℕ) → in_brackets ≡ false
+    → TakesOff (IsLeaf true at.indent) a b
     → Closes (goal.KeyOrValue at in_brackets) a b
 key_alone in_brackets at a b is s =
     subst (λ (x : Bool). Closes (goal.KeyOrValue at x) a b) (sym is)
@@ -204,7 +206,8 @@ line_keyed at key value p blanks q is h line are v = (
 )
 
 on_line : (at : Flow) (start : Bor (List ℕ)) (a b c : List ℕ)
-    → TakesOff (IsSomeCollection at) (chars start.now) a → Closes (goal.Colon start) a b → Closes (goal.Value at true) b c
+    → TakesOff (IsSomeCollection at) (chars start.now) a → Closes (goal.Colon start) a b
+    → Closes (goal.Value at true) b c
     → Closes (goal.KeyOrValue at true) (chars start.now) c
 on_line at start a b c s t u =
     let blanks = t.is.0 in
@@ -220,7 +223,8 @@ on_line at start a b c s t u =
     }
 
 pub collection_on_line : (in_brackets : Bool) (at : Flow) (start : Bor (List ℕ)) (a b c : List ℕ) → in_brackets ≡ true
-    → TakesOff (IsSomeCollection at) (chars start.now) a → Closes (goal.Colon start) a b → Closes (goal.Value at true) b c
+    → TakesOff (IsSomeCollection at) (chars start.now) a → Closes (goal.Colon start) a b
+    → Closes (goal.Value at true) b c
     → Closes (goal.KeyOrValue at in_brackets) (chars start.now) c
 collection_on_line in_brackets at start a b c is s t u =
     subst (λ (x : Bool). Closes (goal.KeyOrValue at x) (chars start.now) c) (sym is) (on_line at start a b c s t u)

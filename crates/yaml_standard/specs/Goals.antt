@@ -137,7 +137,8 @@ AreBlockEntries kind.Mapping m t behind = (pairs : Pairs) × AreOtherPairs most_
 abbrev pub IsAfterMarkedKey : ℕ → List ℕ → List ℕ → Type 0
 IsAfterMarkedKey m t behind =
     ((t ≡ []) × IsFalse (is_value_ahead false m 0 behind))
-    ⊎ ((colon text : List ℕ) × (value : Node) × IsValueMark m colon × IsBlockNodeAt value (grammar.BehindMark m) text behind
+    ⊎ ((colon text : List ℕ) × (value : Node) × IsValueMark m colon
+    × IsBlockNodeAt value (grammar.BehindMark m) text behind
     × (t ≡ colon ++ text))
 
 -- ## Goals

@@ -11,8 +11,8 @@ use crate::rule::Rule;
 use crate::spaces::behind_separation;
 use crate::walk::Stuck;
 
-/// The rule that a text breaks which can't be read on, and the text from the character on that breaks it. `is_told` says
-/// whether the parser has told what comes first there, as a part of the node before.
+/// The rule that a text breaks which can't be read on, and the text from the character on that breaks it. `is_told`
+/// says whether the parser has told what comes first there, as a part of the node before.
 pub(crate) fn broken_rule<'a>(lines: &'a str, stuck: Stuck<'a>, is_told: bool) -> (Rule, &'a str) {
     let text = stuck.text;
     let token = behind_separation(text, 0);

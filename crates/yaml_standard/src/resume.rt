@@ -54,8 +54,8 @@ fn begins_entry(kind: Kind, column: usize, line: &str) -> bool {
     }
 }
 
-/// Whether a line begins a document, or an entry of the collection that this goal is of. Of that no more comes where the
-/// parser has passed so many characters.
+/// Whether a line begins a document, or an entry of the collection that this goal is of. Of that no more comes where
+/// the parser has passed so many characters.
 fn begins_here(goal: Option<Goal<'_>>, hint: HintKind, line: Here<'_>, passed: usize) -> bool {
     match goal {
         Some(Goal::BlockEntries(kind, column)) => {

@@ -100,8 +100,8 @@ pub(crate) fn next_place(text: &str) -> (&str, bool)
     }
 }
 
-/// Reads documents up to the end, of which the first may be free. Where they can't be read on is told, or nothing if the
-/// grammar derives them.
+/// Reads documents up to the end, of which the first may be free. Where they can't be read on is told, or nothing if
+/// the grammar derives them.
 pub(crate) fn read_documents<'a>(
     alloc: Global,
     text: &'a str,

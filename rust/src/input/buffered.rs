@@ -132,29 +132,49 @@ impl<T: Iterator<Item = char>> Input for BufferedInput<T> {
     }
 }
 
-/// Puts characters of a source behind a text, as many as there is room for, or up to the first that does not go on
-/// behind those before it. Those of ASCII are put together first, which takes fewer instructions. Returns whether the
-/// source had not ended.
+/// Puts characters of a source behind a text, as many as there is room for, or up to the first of ASCII that does not
+/// go on behind those before it. Those of ASCII are put together first, which takes fewer instructions. Returns whether
+/// the source had not ended.
 fn push_all(
     text: &mut String,
     source: &mut impl Iterator<Item = char>,
-    ascii: &mut [u8],
+    mut ascii: &mut [u8],
     goes_on: impl Fn(&[u8], char) -> bool,
 ) -> bool {
-    for at in 0..ascii.len() {
-        match source.next() {
-            Some(c) if c.is_ascii() && goes_on(&ascii[..at], c) => ascii[at] = c as u8,
-            other => {
-                push_ascii(text, &ascii[..at]);
-                text.extend(other);
-                return other.is_some();
-            }
+    while !ascii.is_empty() {
+        let (count, next) = take_ascii(source, ascii, &goes_on);
+        push_ascii(text, &ascii[..count]);
+        let Some(c) = next else {
+            return count == ascii.len();
+        };
+        text.push(c);
+        if c.is_ascii() {
+            return true;
         }
+        ascii = &mut ascii[count + 1..];
     }
-    push_ascii(text, ascii);
     true
 }
 
+/// Takes characters of a source up to the first that is not ASCII or does not go on. Returns how many came before that,
+/// and it, unless the source has ended.
+#[inline]
+fn take_ascii(
+    source: &mut impl Iterator<Item = char>,
+    ascii: &mut [u8],
+    goes_on: impl Fn(&[u8], char) -> bool,
+) -> (usize, Option<char>) {
+    for at in 0..ascii.len() {
+        match source.next() {
+            Some(c) if c.is_ascii() && goes_on(&ascii[..at], c) => ascii[at] = c as u8,
+            other => return (at, other),
+        }
+    }
+    (ascii.len(), None)
+}
+
 fn push_ascii(text: &mut String, ascii: &[u8]) {
-    text.push_str(text_of_ascii(ascii));
+    if !ascii.is_empty() {
+        text.push_str(text_of_ascii(ascii));
+    }
 }

@@ -44,7 +44,8 @@ BlockPairsSay = PairsSay BlockEnd state.BlockMappingKey
 pub record IndentlessSay (ns : Nodes) (t : List Kind) : Type 0 where
   pub by : (f : SpansByKinds) (k : Kind) (ks : List Kind) (s : State) (ss : Outer) (e : Memory) (ps : List Part)
       → MayFollow InBlockMapping k → EmitsParts f (k ∷ ks) s ss (after_nodes ns e) ps
-      → EmitsParts f (t ++ k ∷ ks) state.IndentlessSequenceEntry (expecting s ss) e (entry_parts ns ++ CloseSequence ∷ ps)
+      → EmitsParts f (t ++ k ∷ ks) state.IndentlessSequenceEntry (expecting s ss) e
+      (entry_parts ns ++ CloseSequence ∷ ps)
 
 -- ## Collections
 
@@ -74,26 +75,6 @@ opens opening close y first closing make inside later p d front u content t f re
     node_opens f d x (expecting s ss) e m (at f all y (expecting s ss) (noted p.anchor e)) p front opening all first
     ((inside ++ closing ∷ []) ++ ps) make h c more (cc (between front u content t opening close rest k w)) v
     (λ r has. (span_up_to r (f all).end, step r all)) (rw (← same) emitted)
-
-flow_sequence : (p : forest.Properties) (ns : Nodes) (c : grammar.Context) (front content t : List Kind)
-    → grammar.YieldProperties p front
-    → grammar.IsBetween FlowSequenceStart FlowSequenceEnd (YieldFlowEntries ns) content → t ≡ front ++ content
-    → ((u : List Kind) → YieldFlowEntries ns u → FlowEntriesSay ns u) → NodeSays (forest.Seq p ns) c t
-flow_sequence p ns c front content t h d a g = record {
-  by = λ f k ks m x s ss e ps z more q l. opens FlowSequenceStart FlowSequenceEnd state.FlowSequenceFirstEntry
-      (OpenSequence p) CloseSequence SequenceStart (entry_parts ns) (after_nodes ns) p (context_of c) front d.0 content
-      t f (k ∷ ks) m x s ss e ps h tt d.2 a refl refl (λ q r. refl) more q (g d.0 d.1) l;
-}
-
-flow_mapping : (p : forest.Properties) (qs : Pairs) (c : grammar.Context) (front content t : List Kind)
-    → grammar.YieldProperties p front → grammar.IsBetween FlowMappingStart FlowMappingEnd (YieldFlowPairs qs) content
-    → t ≡ front ++ content → ((u : List Kind) → YieldFlowPairs qs u → FlowPairsSay qs u)
-    → NodeSays (forest.Map p qs) c t
-flow_mapping p qs c front content t h d a g = record {
-  by = λ f k ks m x s ss e ps z more q l. opens FlowMappingStart FlowMappingEnd state.FlowMappingFirstKey
-      (OpenMapping p) CloseMapping MappingStart (pair_parts qs) (after_pairs qs) p (context_of c) front d.0 content t f
-      (k ∷ ks) m x s ss e ps h tt d.2 a refl refl (λ q r. refl) more q (g d.0 d.1) l;
-}
 
 block_sequence : (p : forest.Properties) (ns : Nodes) (c : grammar.Context) (front content t : List Kind)
     → grammar.YieldProperties p front → grammar.AllowsBlock c
@@ -134,8 +115,8 @@ indentless_sequence p ns InBlockMapping front content others t h b d a g = recor
       ((entry_parts ns ++ CloseSequence ∷ []) ++ ps) =
       rw (append_assoc (entry_parts ns) (CloseSequence ∷ []) ps) emitted in
       node_opens f (context_of InBlockMapping) x (expecting s ss) e m
-      (at f (BlockEntry ∷ rest) state.IndentlessSequenceEntry (expecting s ss) (noted p.anchor e)) p front BlockEntry rest
-      (OpenSequence p) ((entry_parts ns ++ CloseSequence ∷ []) ++ ps) SequenceStart h tt more (cc) refl
+      (at f (BlockEntry ∷ rest) state.IndentlessSequenceEntry (expecting s ss) (noted p.anchor e)) p front BlockEntry
+      rest (OpenSequence p) ((entry_parts ns ++ CloseSequence ∷ []) ++ ps) SequenceStart h tt more (cc) refl
       (λ r has. (span_up_to r (f rest).end, refl)) inside;
 }
 
@@ -152,7 +133,11 @@ sequence_says p ns c t h flow block indentless = by_content h.3
   where
     by_content : grammar.YieldsSequence ns c (YieldFlowEntries ns) (YieldBlockEntries ns) h.1
         → NodeSays (forest.Seq p ns) c t
-    by_content (inl d) = flow_sequence p ns c h.0 h.1 t h.2 d h.4 flow
+    by_content (inl d) = record {
+      by = λ f k ks m x s ss e ps z more q l. opens FlowSequenceStart FlowSequenceEnd state.FlowSequenceFirstEntry
+          (OpenSequence p) CloseSequence SequenceStart (entry_parts ns) (after_nodes ns) p (context_of c) h.0 d.0 h.1
+          t f (k ∷ ks) m x s ss e ps h.2 tt d.2 h.4 refl refl (λ q r. refl) more q (flow d.0 d.1) l;
+    }
     by_content (inr (inl d)) = block_sequence p ns c h.0 h.1 t h.2 d.0 d.1 h.4 block
     by_content (inr (inr d)) =
         let first : (others : List Kind) × (h.1 ≡ BlockEntry ∷ others) = first_dash ns h.1 d.1 d.2 in
@@ -164,7 +149,11 @@ pub mapping_says : (p : forest.Properties) (qs : Pairs) (c : grammar.Context) (t
 mapping_says p qs c t h flow block = by_content h.3
   where
     by_content : grammar.YieldsMapping c (YieldFlowPairs qs) (YieldBlockPairs qs) h.1 → NodeSays (forest.Map p qs) c t
-    by_content (inl d) = flow_mapping p qs c h.0 h.1 t h.2 d h.4 flow
+    by_content (inl d) = record {
+      by = λ f k ks m x s ss e ps z more q l. opens FlowMappingStart FlowMappingEnd state.FlowMappingFirstKey
+          (OpenMapping p) CloseMapping MappingStart (pair_parts qs) (after_pairs qs) p (context_of c) h.0 d.0 h.1 t f
+          (k ∷ ks) m x s ss e ps h.2 tt d.2 h.4 refl refl (λ q r. refl) more q (flow d.0 d.1) l;
+    }
     by_content (inr d) = block_mapping p qs c h.0 h.1 t h.2 d.0 d.1 h.4 block
 
 -- ## Ends

@@ -36,14 +36,14 @@ over f e es q = grind (arith, ends)
 pub stream_ends : (f : SpansByKinds) (front : List Kind) (e : Memory) → AreEndsAndMarks front
     → EmitsParts f (front ++ StreamEnd ∷ []) state.ImplicitDocumentStart top e (CloseStream ∷ [])
 stream_ends f front e h =
-    plainly e (at f (front ++ StreamEnd ∷ []) state.ImplicitDocumentStart top e) (at f [] state.End top e) CloseStream []
-    events.StreamEnd (f []) (λ q. cc) refl (implicitly front f StreamEnd [] e h refl) (over f e)
+    plainly e (at f (front ++ StreamEnd ∷ []) state.ImplicitDocumentStart top e) (at f [] state.End top e)
+    CloseStream [] events.StreamEnd (f []) (λ q. cc) refl (implicitly front f StreamEnd [] e h refl) (over f e)
 
 pub stream_ends_at_once : (f : SpansByKinds) (e : Memory)
     → EmitsParts f (StreamEnd ∷ []) state.DocumentStart top e (CloseStream ∷ [])
 stream_ends_at_once f e =
-    plainly e (at f (StreamEnd ∷ []) state.DocumentStart top e) (at f [] state.End top e) CloseStream [] events.StreamEnd
-    (f []) (λ q. cc) refl (explicitly f StreamEnd [] e refl) (over f e)
+    plainly e (at f (StreamEnd ∷ []) state.DocumentStart top e) (at f [] state.End top e) CloseStream []
+    events.StreamEnd (f []) (λ q. cc) refl (explicitly f StreamEnd [] e refl) (over f e)
 
 -- ## What comes after a document
 
@@ -180,6 +180,7 @@ explicit_says n ds t c h f k ks m x e ps z more q l =
     (λ l. top) e' ps (document_end_follows k z) (λ l q. cc) (f ks) (content_is_left_out f k ks e' z)
     (λ j l s. content_begins f j l e' s) l in
     let goes : event_step m ≡ emit (events.DocumentStart true) (f rest)
-    (at f rest state.DocumentContent (expecting state.DocumentEnd top) e') = cc (all_directives_pass ds f rest x top e c) in
+    (at f rest state.DocumentContent (expecting state.DocumentEnd top) e') =
+    cc (all_directives_pass ds f rest x top e c) in
     plainly e m (at f rest state.DocumentContent (expecting state.DocumentEnd top) e') (OpenDocument true ds)
     (node_parts n ++ ps) (events.DocumentStart true) (f rest) more refl goes inside

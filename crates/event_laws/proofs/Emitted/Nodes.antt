@@ -109,6 +109,9 @@ pub record ComesToContent (f : SpansByKinds) (d : NodeContext) (x : State) (ss :
   pub has : Has e anchor tag properties
   pub goes : r ≡ node_content_at k properties d (record { span = f ks; kind = k }) (at f ks x ss (noted anchor e))
 
+-- By which properties the node has: none, one, or both in either order. The steps of each case compute up to the
+-- content. What they need is that the tag resolves (`tag_is_token`), and that the token behind is neither a property
+-- nor an alias.
 node_comes : (f : SpansByKinds) (d : NodeContext) (x : State) (ss : Outer) (e : Memory) (anchor : Option (List ℕ))
     (tag : Option Tag) (front : List Kind) (k : Kind) (ks : List Kind) (found : Option ResolvedTag)
     → AreBoth (option_map anchor_token anchor) (option_map tag_token tag) front → IsContentKind k

@@ -43,11 +43,12 @@ without_token p c front content t h some a b = record {
       let same : t ++ k ∷ ks ≡ front ++ k ∷ ks = rw (b, a) (append_assoc front [] (k ∷ ks)) in
       let n : Machine = at f (k ∷ ks) s ss (noted p.anchor e) in
       let piece : Piece = record { span = f ks; kind = k } in
-      node_opens f (context_of c) x (expecting s ss) e m n p front k ks (Leaf p forest.Plain []) ps (Scalar [] forest.Plain) h
-      (follow_is_content c k z) more (cc) refl (λ r has. (
+      node_opens f (context_of c) x (expecting s ss) e m n p front k ks (Leaf p forest.Plain []) ps
+      (Scalar [] forest.Plain) h (follow_is_content c k z) more (cc) refl (λ r has. (
         span_up_to r r.behind,
         follow_ends c k r piece (at f ks x (expecting s ss) (noted p.anchor e)) z
-            ∙ empty_is_emitted r piece (at f ks x (expecting s ss) (noted p.anchor e)) (has_one e p.anchor p.tag r some has),
+            ∙ empty_is_emitted r piece (at f ks x (expecting s ss) (noted p.anchor e))
+            (has_one e p.anchor p.tag r some has),
       )) l;
 }
 

@@ -64,8 +64,8 @@ key_says : (key : Node) (t : List Kind) → YieldsOptional key (YieldsNode key I
 unfolding event_step flow_sequence_entry_mapping_key node_here span_of_token
 key_says key t h g f k ks ss e ps z l =
     optional_says state.FlowSequenceEntryMappingValue key t h g f k ks
-    (λ l. at f l state.FlowSequenceEntryMappingKey ss e) state.FlowSequenceEntryMappingKey (λ l. ss) e ps (span_of_token f) z
-    (λ l q. cc) (λ j l. refl) l
+    (λ l. at f l state.FlowSequenceEntryMappingKey ss e) state.FlowSequenceEntryMappingKey (λ l. ss) e ps
+    (span_of_token f) z (λ l q. cc) (λ j l. refl) l
 
 -- the value, from its mark on, and the end of the pair
 value_says : (value : Node) (t : List Kind) → YieldsOptional value (YieldsNode value InFlow) t
@@ -78,8 +78,8 @@ unfolding event_step flow_sequence_entry_mapping_value flow_sequence_entry_mappi
 value_says value t h g f k ks ss e ps z l =
     optional_says state.FlowSequenceEntryMappingEnd value t h g f k ks
     (λ l. at f (Value ∷ l) state.FlowSequenceEntryMappingValue ss e) state.FlowSequenceEntryMappingValue
-    (λ l. ending (span_of_token f l).end ss) e (CloseMapping ∷ ps) (span_of_token f) (entry_ends k z).1 (λ l q. cc) (λ j l. refl)
-    (pair_ends_at f _ (k ∷ ks) ss (after_node value e) ps l)
+    (λ l. ending (span_of_token f l).end ss) e (CloseMapping ∷ ps) (span_of_token f) (entry_ends k z).1
+    (λ l q. cc) (λ j l. refl) (pair_ends_at f _ (k ∷ ks) ss (after_node value e) ps l)
 
 -- no value at all
 missing_value_says : (f : SpansByKinds) (k : Kind) (ks : List Kind) (ss : Outer) (e : Memory) (ps : List Part)

@@ -39,6 +39,9 @@ front_begins_no_feed : (front behind cs : List ℕ) → cs ≡ front ++ behind �
 front_begins_no_feed [] behind cs e f = refl
 front_begins_no_feed (d ∷ ds) behind cs e f = rw e at f
 
+-- The beginning is found for what is behind the first character: for less of the normalized text (`less`), or for the
+-- same (`same`) where the character is the CR of a CR LF, which normalizing drops. What is left to show is that the
+-- beginning keeps the CR with its LF, or has no LF behind a lone CR, as the whole text.
 with_first : (c : ℕ) (cs : List ℕ) (x : ℕ) (xs others : List ℕ) (return feed : Bool) → (c == carriage_return) ≡ return
     → (slice_index cs 0 == line_feed) ≡ feed → (normalized cs ≡ xs ++ others → WholeParts cs xs others)
     → (normalized cs ≡ x ∷ xs ++ others → WholeParts cs (x ∷ xs) others) → normalized (c ∷ cs) ≡ x ∷ xs ++ others

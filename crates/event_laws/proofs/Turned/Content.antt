@@ -92,13 +92,15 @@ module _ (p : forest.Properties) (q : NodeProperties) (front : List Piece) (r : 
             span = record { start = q.start; end = q.behind };
             machine = machine (t ∷ ts) r s ss (noted p.anchor e);
           }) else Err
-          (record { text = fault.NodeContentExpected; mark = t.span.start }))
+          (record { text = fault.NodeContentExpected; mark = t.span.start; may_change = false }))
       by true y = leaf_goes [] Plain [] (record { start = q.start; end = q.behind }) (place_of c) (t ∷ ts)
           (inr (has_one p.anchor p.tag e q h.has y, refl, refl, refl))
           (whole (front ++ []) _ _ (alone_is front q h.shape))
       by false y = tt
 
-  -- A collection begins with a token, and goes up to another, with the tokens of `A` between them.
+  -- A collection begins with a token, and goes up to another, with the tokens of `A` between them. What is particular
+  -- to its kind are premises. In what follows, the entries and the closing token become one node (`around`), and the
+  -- properties that were read before its opening are put in front of that.
   pub collection_goes : (A : Claim) (opening closing : Kind) (o : State) (part last : Part)
       (make : ℕ → Option ResolvedTag → Happening) (sp : Span) (c : NodeContext) (ts : List Piece)
       → event_in e part ≡ with_properties make e p → noted p.anchor e ≡ after part e

@@ -110,6 +110,9 @@ module _ (c : NodeContext) (r : Aside) (x s : State) (ss : List State) (e : Memo
       (leaf_goes p q front r s ss e h a (t ∷ []) style value (record { start = q.start; end = sp.end }) (place_of c) ts
       (inl refl) (whole _ _ _ (inl (content_is t.kind front q t refl h.shape, content_spans front q t h.shape b))))
 
+  -- By the token that begins the content. A scalar is a leaf. The four collections with a token of their own are
+  -- `collection_goes`, the block ones where the context allows them. A `-` begins a sequence at its mapping's column,
+  -- without being used. Behind any other token the node is its properties alone, or it is refused (`alone_turned`).
   content_turned : (k : Kind) (sp : Span) (front : List Piece) (p : forest.Properties) (q : NodeProperties)
       (ts : List Piece) → IsWellFormed k → Fronted e p q front → StartsAt front sp.start q
       → TurnedNode (front ++ piece_of k sp ∷ ts) (node_content_at k q c (piece_of k sp) (before ts (noted p.anchor e)))

@@ -62,7 +62,8 @@ module _ (w : Beside) where
         span = h.span;
         machine = left_behind_marker tokens.DocumentStart _ state.DocumentContent (state.DocumentEnd ∷ m.states)
             (state.DocumentEnd ∷ n.states) (without_anchors m) (without_anchors n)
-            (ap (λ ss. state.DocumentEnd ∷ ss) h.behind.states) (omega arith) (refl, (m.states, refl)) refl (forgets_anchors _ m n h.behind);
+            (ap (λ ss. state.DocumentEnd ∷ ss) h.behind.states) (omega arith) (refl, (m.states, refl)) refl
+            (forgets_anchors _ m n h.behind);
         closes = tt;
       }
   explicit_at tokens.ByteOrderMark t u m n h = refuses w _ t u h.span

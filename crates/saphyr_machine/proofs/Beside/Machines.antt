@@ -72,7 +72,7 @@ pub record Beside : Type 1 where
   pub first : (a b x y : Marker) → Spans a b x y → Spans a a x x
   pub last : (a b x y : Marker) → Spans a b x y → Spans b b y y
   pub refused : (text : FaultText) (a x : Marker) → Spans a a x x
-      → Refused (record { text = text; mark = a }) (record { text = text; mark = x })
+      → Refused (record { text = text; mark = a; may_change = false }) (record { text = text; mark = x; may_change = false })
   pub none : (a x : Marker) (d : ℕ) (us : List Piece) (o e : Option Refusal)
       → Ahead a x d (record { pieces = []; refusal = o }) (record { pieces = us; refusal = e })
       → Early (ending_refusal o) ⊎ ((us ≡ []) × Refused (ending_refusal o) (ending_refusal e))

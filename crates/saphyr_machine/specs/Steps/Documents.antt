@@ -58,7 +58,7 @@ is_directive _ = false
 -- a version is declared at most once
 abbrev pub with_version : Marker → Declared → Result Declared Refusal
 with_version place d =
-    if d.version then Err (record { text = fault.DuplicateVersionDirective; mark = place })
+    if d.version then Err (record { text = fault.DuplicateVersionDirective; mark = place; may_change = false })
     else Ok (record { version = true; handles = d.handles })
 
 abbrev pub version_declared : Marker → Declared → Machine → Result (Declared × Machine) Refusal
@@ -67,7 +67,7 @@ version_declared place d m = with_version place d >>= (λ e. Ok (e, m))
 -- and so is each handle
 abbrev pub with_handle : List ℕ → List ℕ → Marker → Declared → Machine → Result (Declared × Machine) Refusal
 with_handle handle prefix place d m =
-    if is_listed handle d.handles then Err (record { text = fault.DuplicateTagDirective; mark = place })
+    if is_listed handle d.handles then Err (record { text = fault.DuplicateTagDirective; mark = place; may_change = false })
     else Ok (
       record { version = d.version; handles = with_name handle d.handles },
       record m
@@ -181,7 +181,7 @@ abbrev pub token_behind_marks_at : Kind → Marker → Piece → Machine → Res
 token_behind_marks_at tokens.DocumentStart place t m = Ok (t, m)
 token_behind_marks_at tokens.DocumentEnd place t m = Ok (t, m)
 token_behind_marks_at tokens.StreamEnd place t m = Ok (t, m)
-token_behind_marks_at _ place t m = Err (record { text = fault.MisplacedByteOrderMark; mark = place })
+token_behind_marks_at _ place t m = Err (record { text = fault.MisplacedByteOrderMark; mark = place; may_change = false })
 
 unfoldable pub token_behind_marks : Marker → Machine → Result (Piece × Machine) Refusal
 token_behind_marks place m = do

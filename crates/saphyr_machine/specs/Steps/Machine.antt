@@ -83,12 +83,16 @@ abbrev pub emit : Happening → Span → Machine → Result Emitted Refusal
 emit what span m = Ok (record { what = what; span = span; machine = m })
 
 abbrev pub refusal_at : {X : Type 0} → FaultText → Piece → Result X Refusal
-refusal_at text t = Err (record { text = text; mark = t.span.start })
+refusal_at text t = Err (record { text = text; mark = t.span.start; may_change = false })
 
 -- What ends the tokens. A scanner gives the end of the stream or a refusal, so the second case doesn't come.
 abbrev pub ending_refusal : Option Refusal → Refusal
 ending_refusal (Some e) = e
-ending_refusal None = record { text = fault.DocumentStartExpected; mark = record { index = 0; line = 0; col = 0 } }
+ending_refusal None = record {
+  text = fault.DocumentStartExpected;
+  mark = record { index = 0; line = 0; col = 0 };
+  may_change = false;
+}
 
 abbrev pub with_pieces : List Piece → Machine → Machine
 with_pieces ts m = record m { tokens = record { pieces = ts; refusal = m.tokens.refusal } }

@@ -93,7 +93,7 @@ next_content p c m = do
 
 abbrev pub alias_of : Option ℕ → Span → Machine → Result Emitted Refusal
 alias_of (Some id) s m = emit (events.Alias id) s (pop m)
-alias_of None s m = Err (record { text = fault.UnknownAnchor; mark = s.start })
+alias_of None s m = Err (record { text = fault.UnknownAnchor; mark = s.start; may_change = false })
 
 unfoldable pub alias_node : List ℕ → Span → Machine → Result Emitted Refusal
 alias_node name s m = alias_of (meaning name m.anchors.ids) s m

@@ -1,5 +1,5 @@
 -- What the handle of a tag stands for (YAML 1.2.2, 6.8.2 and 6.9.1).
-use Rattle.std.specs.Prelude.{ℕ, ◌-◌, length, Bool, nat_le, nat_eq, ◌&&◌, if◌then◌else◌, List, Option, Some, None, Result, Ok, Err, codes, slice_index}
+use Rattle.std.specs.Prelude.{ℕ, ◌-◌, length, Bool, nat_le, nat_eq, false, ◌&&◌, if◌then◌else◌, List, Option, Some, None, Result, Ok, Err, codes, slice_index}
 use Rattle.std.specs.Str.{bytes_eq}
 use Rattle.saphyr_input.specs.Indicators.{exclamation_mark}
 use Rattle.saphyr_scalar.specs.declared.scalar.position.Marker.{Marker}
@@ -17,7 +17,7 @@ is_named_handle handle = nat_le 2 (length handle)
 abbrev pub undeclared_prefix : List ℕ → Marker → Result (List ℕ) Refusal
 undeclared_prefix handle place =
     if bytes_eq handle (codes "!!") then Ok (codes "tag:yaml.org,2002:")
-    else if is_named_handle handle then Err (record { text = fault.UndeclaredHandle; mark = place })
+    else if is_named_handle handle then Err (record { text = fault.UndeclaredHandle; mark = place; may_change = false })
     else Ok handle
 
 abbrev pub declared_prefix_or : Option (List ℕ) → Result (List ℕ) Refusal → Result (List ℕ) Refusal

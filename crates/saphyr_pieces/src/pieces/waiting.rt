@@ -286,6 +286,19 @@ impl PieceReader {
         self.more.get(looked..).is_none_or(may_matter) || self.more.starts_with("---")
     }
 
+    // Whether what came ends a line that the reader has with content, as where its line feed comes alone.
+    fn ends_line(&self) -> bool {
+        let text = self.reader.input().as_str();
+        if text.ends_with('\n') || !self.more.contains(['\n', '\r']) {
+            return false;
+        }
+        let line = match text.rsplit_once('\n') {
+            Some((_, line)) => line,
+            None => text,
+        };
+        has_content(line, usize::MAX)
+    }
+
     /// Whether the reader should try again. Nothing depends on it but when an event comes, and how long that takes.
     pub(super) fn has_enough(&mut self) -> bool
         requires sound { spec.IsSoundReader self.old }
@@ -299,7 +312,9 @@ impl PieceReader {
         let left = self.reader.input().as_str().len();
         let waits = left.saturating_add(self.weight);
         let decides = if came < waits.max(LITTLE) {
-            waits < LITTLE && self.has_new() && may_decide(&self.more, self.column_of_end())
+            waits < LITTLE
+                && self.has_new()
+                && (may_decide(&self.more, self.column_of_end()) || self.ends_line())
         } else {
             came.saturating_sub(self.seen) >= PART && self.may_end(waits)
         };

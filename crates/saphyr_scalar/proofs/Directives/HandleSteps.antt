@@ -1,5 +1,5 @@
 -- The handle of a tag directive, read behind its `!`.
-use Rattle.saphyr_scalar.proofs.Common.{◌≡◌, ℕ, ◌<◌, ◌≤◌, true, false, List, [], ◌++◌, length, slice_index, Ok, refl, sym, ap, ◌∙◌, arith, ◌==◌, codes, encode_utf8, nat_tests, nil_from_length, exclamation_mark, Marker, Cursor, pass, refuse}
+use Rattle.saphyr_scalar.proofs.Common.{◌≡◌, ℕ, ◌<◌, ◌≤◌, true, false, List, [], ◌++◌, length, slice_index, Ok, refl, sym, ap, ◌∙◌, arith, ◌==◌, codes, encode_utf8, nat_tests, nil_from_length, exclamation_mark, is_z, Marker, Cursor, pass, refuse_open}
 use Rattle.saphyr_scalar.specs.declared.scalar.fault.FaultText.TheVariants as fault
 use Rattle.saphyr_scalar.specs.Steps.Directive.{handle, handle_behind_word}
 use Rattle.saphyr_scalar.proofs.Given.{text_given}
@@ -38,11 +38,12 @@ primary_handle start s look grown c b first other short =
 
 pub handle_open : (start : Marker) (s look : Cursor) (grown : List ℕ) (c : ℕ) → BehindWord s look [] grown c
     → slice_index s.rest 0 ≡ exclamation_mark → (c ≡ exclamation_mark → ⊥) → 1 < length grown
-    → handle start s ≡ refuse fault.TagDirectiveHandleEndExpected start
+    → handle start s ≡ refuse_open (is_z c) fault.TagDirectiveHandleEndExpected start
 unfolding handle_behind_word
 handle_open start s look grown c b first other more =
     let read = b.read in
     let long = ap length b.text in
     let some : (length b.word == 0) ≡ false = grind (arith, nat_tests, long, more) in
     let test : (slice_index look.rest 0 == exclamation_mark) ≡ false = grind (arith, nat_tests, read, other) in
-    behind_mark start s look grown c b first ∙ rw (test, some) refl
+    behind_mark start s look grown c b first
+    ∙ rw (test, some) (λ i. refuse_open (is_z (sym read i)) fault.TagDirectiveHandleEndExpected start)

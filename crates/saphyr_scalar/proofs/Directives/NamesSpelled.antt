@@ -1,5 +1,5 @@
 -- What is read as a directive's name is spelled so.
-use Rattle.saphyr_scalar.proofs.Common.{◌≡◌, ◌≢◌, ℕ, Bool, true, List, [], ◌++◌, length, take, drop, slice_index, nat_eq, cond, Ok, Err, sym, ap, ◌∙◌, encode_utf8_all, prefix_len, take-append-drop, length-take-le, prefix_len-le-length, is_blank_or_breakz, is_yaml_non_space, Marker, Cursor, along}
+use Rattle.saphyr_scalar.proofs.Common.{◌≡◌, ◌≢◌, ℕ, Bool, true, false, List, [], ◌++◌, length, take, drop, slice_index, nat_eq, cond, Ok, Err, sym, ap, ◌∙◌, encode_utf8_all, prefix_len, take-append-drop, length-take-le, prefix_len-le-length, is_blank_or_breakz, is_yaml_non_space, Marker, Cursor, along}
 use Rattle.saphyr_scalar.specs.declared.scalar.fault.FaultText.TheVariants as fault
 use Rattle.saphyr_scalar.specs.Steps.Directive.{directive_name_of, name}
 use Rattle.saphyr_scalar.specs.Steps.Quoted.{mid_line}
@@ -29,10 +29,10 @@ name_spelled m xs text u h =
     let taken : List ℕ × Cursor = (encode_utf8_all w, mid_line (along m n) (drop n xs)) in
     let some = cond_not {A = List ℕ × Cursor} (nat_eq (length (encode_utf8_all w)) 0)
     (cond (is_blank_or_breakz (slice_index (drop n xs) 0)) (Ok taken)
-    (Err (record { text = fault.DirectiveNameCharacter; mark = m }))) (text, u)
-    (record { text = fault.DirectiveNameExpected; mark = m }) h in
+    (Err (record { text = fault.DirectiveNameCharacter; mark = m; may_change = false }))) (text, u)
+    _ h in
     let is = cond_ok {A = List ℕ × Cursor} (is_blank_or_breakz (slice_index (drop n xs) 0)) taken (text, u)
-    (record { text = fault.DirectiveNameCharacter; mark = m }) some.same in
+    (record { text = fault.DirectiveNameCharacter; mark = m; may_change = false }) some.same in
     let left : mid_line (along m n) (drop n xs) ≡ u = ap (λ (x : List ℕ × Cursor). x.1) is.same in
     let rest : drop n xs ≡ u.rest = ap (λ (x : Cursor). x.rest) left in
     record {

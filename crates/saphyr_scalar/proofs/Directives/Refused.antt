@@ -59,7 +59,8 @@ tag_refused start s = grind (arith, refused_bind, prefix_refused, by_test, slice
 
 value_refused : (start : Marker) (x : List ℕ × Cursor) → RefusedAt start (value start x)
 unfolding value version_directive behind_major
-value_refused start x = by_test (bytes_eq x.0 (codes "YAML")) _ _ (RefusedAt start) (λ _. (grind (arith, refused_bind, number_refused, by_test, slice_index)))
+value_refused start x = by_test (bytes_eq x.0 (codes "YAML")) _ _ (RefusedAt start)
+    (λ _. (grind (arith, refused_bind, number_refused, by_test, slice_index)))
     (λ _. by_test (bytes_eq x.0 (codes "TAG")) _ _ (RefusedAt start) (λ _. tag_refused start x.1) (λ _. tt))
 
 -- the end of a line that was reached from s

@@ -1,5 +1,5 @@
 -- What is read as a tag directive is spelled so.
-use Rattle.saphyr_scalar.proofs.Common.{◌≡◌, ℕ, ◌+◌, Bool, true, false, List, [], ◌∷◌, ◌++◌, length, length-append, append_assoc, take, drop, slice_index, nat_eq, cond, Result, Ok, Err, refl, sym, ap, ◌∙◌, arith, subst, encode_utf8_all, inl, inr, ◌||◌, ◌==◌, codes, encode_utf8, prefix_len, eqb-true, take-append-drop, exclamation_mark, is_alpha, is_tag_char, is_blank, is_blank_or_breakz, Marker, Refusal, Uri, Cursor, ◌>>=◌, along, pass_all_blanks, or_true_swap, other_than, by_test, run_ends}
+use Rattle.saphyr_scalar.proofs.Common.{◌≡◌, ℕ, ◌+◌, Bool, true, false, List, [], ◌∷◌, ◌++◌, length, length-append, append_assoc, take, drop, slice_index, nat_eq, cond, Result, Ok, Err, refl, sym, ap, ◌∙◌, arith, subst, encode_utf8_all, inl, inr, ◌||◌, ◌==◌, codes, encode_utf8, prefix_len, eqb-true, take-append-drop, exclamation_mark, is_alpha, is_tag_char, is_blank, is_blank_or_breakz, Marker, Refusal, Uri, Cursor, ◌>>=◌, along, pass_all_blanks, is_missing, refuse_open, or_true_swap, other_than, by_test, run_ends}
 use Rattle.saphyr_scalar.specs.declared.scalar.fault.FaultText.TheVariants as fault
 use Rattle.saphyr_scalar.specs.Steps.Directive.{handle_behind_word, handle, prefix, behind_prefix, tag_directive}
 use Rattle.saphyr_scalar.specs.Spelling.Directive.{ReadDirective, tag_prefix, AreSomeBlanks, IsWholeHandle}
@@ -46,7 +46,7 @@ word_spelled start m ys text u =
     let bytes = encode_utf8_all w in
     by_test (nat_eq (slice_index left 0) 33) (Ok (handle_of bytes, mid_line (along k 1) (drop 1 left)))
     (cond (nat_eq (length bytes) 0) (Ok (codes "!", mid_line k left))
-    (Err (record { text = fault.TagDirectiveHandleEndExpected; mark = start })))
+    (refuse_open (is_missing 0 left) fault.TagDirectiveHandleEndExpected start))
     (λ (r : Result (List ℕ × Cursor) Refusal). r ≡ Ok (text, u) → HandleOf m (33 ∷ ys) text u) (λ mark h.
     let handle = codes "!" ++ (w ++ codes "!") in
     let more : left ≡ 33 ∷ drop 1 left = cut_at 33 left refl (eqb-true (slice_index left 0) 33 mark) in
@@ -65,7 +65,7 @@ word_spelled start m ys text u =
     }))
     (λ mark h.
     let is = cond_ok {A = List ℕ × Cursor} (nat_eq (length bytes) 0) (codes "!", mid_line k left) (text, u)
-    (record { text = fault.TagDirectiveHandleEndExpected; mark = start }) h in
+    _ h in
     let none : w ≡ [] = none_value w is.test in
     let count : 1 ≡ 1 + n = omega (arith, run_count is_alpha ys, ap (λ (v : List ℕ). length v) none) in
     subst (OfHandle m (33 ∷ ys)) is.same (record {
@@ -102,7 +102,7 @@ prefix_spelled start m xs text u h =
     let begins : ℕ → Bool = λ x. is_tag_char x || (x == 33) in
     let is = cond_then (begins_prefix c0)
     (uri_character start (mid_line m xs) >>= λ (x : ℕ × Cursor). with_front (encode_utf8 x.0)
-    (decoded_at Uri start x.1)) (text, u) (record { text = fault.TagPrefixCharacter; mark = start }) h in
+    (decoded_at Uri start x.1)) (text, u) _ h in
     let one = bind_ok (uri_character start (mid_line m xs))
     (λ (x : ℕ × Cursor). with_front (encode_utf8 x.0) (decoded_at Uri start x.1)) (text, u) is.same in
     let c = one.given.0 in

@@ -72,10 +72,10 @@ line_spelled start m xs u h =
     let n = separation_len Yes xs in
     let one = bind_ok (separation Yes (mid_line m xs))
     (λ (x : SkipTabs × Cursor). cond (is_breakz (slice_index x.1.rest 0)) (Ok (pass_break x.1))
-    (Err (record { text = fault.DirectiveEndExpected; mark = start }))) u h in
+    (Err (record { text = fault.DirectiveEndExpected; mark = start; may_change = false }))) u h in
     let there : mid_line (along m n) (drop n xs) ≡ one.given.1 = separation_spelled m xs one.given one.first in
     let is = cond_ok {A = Cursor} (is_breakz (slice_index one.given.1.rest 0)) (pass_break one.given.1) u
-    (record { text = fault.DirectiveEndExpected; mark = start }) one.next in
+    (record { text = fault.DirectiveEndExpected; mark = start; may_change = false }) one.next in
     let line = tail_line_of m xs in
     record {
       tail = line.0;

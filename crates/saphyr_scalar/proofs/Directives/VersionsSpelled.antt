@@ -35,7 +35,7 @@ digits_spelled start n v m [] w u le = λ h. number_ended start n v w m [] u le 
 digits_spelled start n v m (c ∷ cs) w u le =
     by_test (is_digit c) _ _ (λ (r : Result (ℕ × Cursor) Refusal). r ≡ Ok (w, u) → DigitsOf n v w m (c ∷ cs) u)
     (λ digit. by_test (nat_lt n 9) (number_from start (suc n) (v * 10 + (c - 48)) (along m 1) cs)
-    (Err (record { text = fault.VersionNumberTooLong; mark = start }))
+    (Err (record { text = fault.VersionNumberTooLong; mark = start; may_change = false }))
     (λ (r : Result (ℕ × Cursor) Refusal). r ≡ Ok (w, u) → DigitsOf n v w m (c ∷ cs) u) (λ small h.
     let lt : n < 9 = grind (arith, nat_tests) in
     let others = digits_spelled start (suc n) (v * 10 + (c - 48)) (along m 1) cs w u (omega arith) h in
@@ -48,7 +48,7 @@ digits_spelled start n v m (c ∷ cs) w u le =
       text = ap (λ r. c ∷ r) others.text;
       place = cc (along_more m 1 (length others.digits) (suc (length others.digits)) (omega arith));
     })
-    (λ _ h. no_result (record { text = fault.VersionNumberTooLong; mark = start }) (w, u) (DigitsOf n v w m (c ∷ cs) u)
+    (λ _ h. no_result (record { text = fault.VersionNumberTooLong; mark = start; may_change = false }) (w, u) (DigitsOf n v w m (c ∷ cs) u)
     h)) (λ _ h. number_ended start n v w m (c ∷ cs) u le h)
 
 pub some_of_length : (t : List ℕ) → 0 < length t → t ≢ []
@@ -94,7 +94,7 @@ version_spelled start m xs d u begins h =
     let mid = one.given.1 in
     let dot = cond_then {A = ReadDirective × Cursor} (nat_eq (slice_index mid.rest 0) 46)
     (number start (pass 1 mid) >>= λ (y : ℕ × Cursor). Ok (version one.given.0 y.0, y.1)) (d, u)
-    (record { text = fault.VersionDigitOrDotExpected; mark = start }) one.next in
+    _ one.next in
     let two = bind_ok (number start (pass 1 mid)) (λ (y : ℕ × Cursor). Ok (version one.given.0 y.0, y.1)) (d, u)
     dot.same in
     let same = ok_same {A = ReadDirective × Cursor} (version one.given.0 two.given.0, two.given.1) (d, u) two.next in

@@ -1,5 +1,6 @@
 -- A plain scalar, read a piece at a time.
-use Rattle.saphyr_scalar.proofs.Common.{◌≡◌, ℕ, zero, suc, ◌+◌, ◌<◌, Bool, true, false, List, [], ◌∷◌, ◌++◌, length, take, drop, slice_index, Result, Ok, Err, refl, sym, ap, ◌∙◌, arith, encode_utf8_all, append_assoc, ◌&&◌, ◌==◌, not, nat_lt, encode_utf8, if◌then◌else◌, pred, IsErrAnd, nat_tests, append-nil, hyphen, Marker, Refusal, Stop, Moves, Fails, Cursor, ◌>>=◌, refuse, along, by_test}
+use Rattle.saphyr_scalar.proofs.Common.{◌≡◌, ℕ, zero, suc, ◌+◌, ◌<◌, Bool, true, false, List, [], ◌∷◌, ◌++◌, length, take, drop, slice_index, Result, Ok, Err, refl, sym, ap, ◌∙◌, arith, encode_utf8_all, append_assoc, ◌&&◌, ◌==◌, not, nat_lt, encode_utf8, if◌then◌else◌, pred, IsErrAnd, nat_tests, append-nil, hyphen, Marker, Refusal, Stop, Moves, Fails, Cursor, ◌>>=◌, refuse_open, along, by_test}
+use Rattle.saphyr_scalar.specs.Known.{may_be_open}
 use Rattle.saphyr_scalar.specs.declared.scalar.fault.FaultText.TheVariants as fault
 use Rattle.saphyr_scalar.specs.declared.scalar.fault.Stop.TheVariants as stop
 use Rattle.saphyr_scalar.specs.Steps.Quoted.{mid_line}
@@ -256,6 +257,6 @@ unfolding plain
 plain_refused f i s r h = cc
 
 pub no_plain : (f : Bool) (i : ℕ) (s t : Cursor) → word_starts f s ≡ Ok (false, t)
-    → plain f i s ≡ refuse fault.PlainEnd s.mark
+    → plain f i s ≡ refuse_open (may_be_open t.rest) fault.PlainEnd s.mark
 unfolding plain
 no_plain f i s t h = cc

@@ -1,7 +1,8 @@
 -- What is read as a plain scalar is the reading of a piece of the text.
 use Rattle.std.proofs.Common.{◌≡◌, ℕ, zero, suc, ◌+◌, ◌-◌, ◌≤◌, Bool, true, false, List, [], ◌∷◌, ◌++◌, length, take, drop, slice_index, Option, Result, Ok, Err, refl, sym, ap, ◌∙◌, arith, subst, encode_utf8_all}
-use Rattle.saphyr_scalar.proofs.Common.{if◌then◌else◌, is_blank_or_break, Marker, Refusal, Cursor, ◌>>=◌, refuse, along}
+use Rattle.saphyr_scalar.proofs.Common.{if◌then◌else◌, is_blank_or_break, Marker, Refusal, Cursor, ◌>>=◌, refuse_open, along}
 use Rattle.std.proofs.lemmas.List.{length-drop}
+use Rattle.saphyr_scalar.specs.Known.{may_be_open}
 use Rattle.saphyr_scalar.specs.declared.scalar.fault.FaultText.TheVariants as fault
 use Rattle.saphyr_scalar.specs.Steps.Quoted.{mid_line}
 use Rattle.saphyr_scalar.specs.Steps.Plain.{is_in_word, word_starts, next_word_starts, PlainGap, gap, PlainScalarRead, with_text, scalar_end, word, plain}
@@ -102,7 +103,8 @@ unfolding plain
 plain_begins f i s x is = by (word_starts f s) refl is
   where
     by : (r : Result (Bool × Cursor) Refusal) → word_starts f s ≡ r
-        → (r >>= λ b. if b.0 then word f i s.mark b.1.mark b.1.rest else refuse fault.PlainEnd s.mark) ≡ Ok x
+        → (r >>= λ b. if b.0 then word f i s.mark b.1.mark b.1.rest else
+        refuse_open (may_be_open b.1.rest) fault.PlainEnd s.mark) ≡ Ok x
         → (u : Cursor) × (word_starts f s ≡ Ok (true, u)) × (word f i s.mark u.mark u.rest ≡ Ok x)
     by (Ok (true, u)) q e = (u, q, e)
     by (Ok (false, u)) q e = absurd (no_reading _ x e)

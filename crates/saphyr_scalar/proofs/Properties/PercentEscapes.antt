@@ -51,7 +51,7 @@ then_further m xs a b n r e h x is = h x is ∙ places_added m xs a b n e
 byte_place : (start m : Marker) (xs : List ℕ) → EscapeEnds m xs 3 (escaped_byte start (mid_line m xs))
 unfolding escaped_byte
 byte_place start m xs = by_test (shows_byte xs) _ _ (EscapeEnds m xs 3) (λ _. read m xs 3 (byte_value xs))
-    (λ _. refused_ends m xs 3 (record { text = fault.TagEscape; mark = start }))
+    (λ _. refused_ends m xs 3 _)
 
 trailing_place : (start m : Marker) (v : ℕ) (xs : List ℕ) → EscapeEnds m xs 3 (trailing_byte start v (mid_line m xs))
 unfolding trailing_byte
@@ -69,7 +69,7 @@ encoded_place : (start m : Marker) (width v n : ℕ) (xs : List ℕ)
     → EscapeEnds m xs n (encoded_character start width v (mid_line (along m n) (drop n xs)))
 unfolding encoded_character
 encoded_place start m width v n xs = by_test (is_encoded width v) _ _ (EscapeEnds m xs n) (λ _. read m xs n v)
-    (λ _. refused_ends m xs n (record { text = fault.TagEscapeCodePoint; mark = start }))
+    (λ _. refused_ends m xs n _)
 
 leading_place : (start m : Marker) (b : ℕ) (xs : List ℕ)
     → EscapeEnds m xs (3 * utf8_width b) (behind_leading_byte start b (mid_line (along m 3) (drop 3 xs)))
@@ -77,7 +77,7 @@ unfolding behind_leading_byte
 leading_place start m b xs =
     let w = utf8_width b in
     by_test (nat_eq w 0) _ _ (EscapeEnds m xs (3 * w))
-    (λ _. refused_ends m xs (3 * w) (record { text = fault.TagEscapeLeadingByte; mark = start }))
+    (λ _. refused_ends m xs (3 * w) _)
     (λ some. then_ends m xs (3 * w) (trailing_bytes start (w - 1) (leading_bits b) (mid_line (along m 3) (drop 3 xs))) _
     (λ x is.
     let n : 3 * w ≡ 3 + 3 * (w - 1) = grind (arith, nat_tests) in
@@ -92,7 +92,7 @@ escape_place start m xs = by_test (shows_byte xs) _ _
     (λ (r : Result (ℕ × Cursor) Refusal). EscapeEnds m xs (3 * utf8_width (byte_value xs))
     (r >>= λ (b : ℕ × Cursor). behind_leading_byte start b.0 b.1))
     (λ _. leading_place start m (byte_value xs) xs)
-    (λ _. refused_ends m xs (3 * utf8_width (byte_value xs)) (record { text = fault.TagEscape; mark = start }))
+    (λ _. refused_ends m xs (3 * utf8_width (byte_value xs)) _)
 
 -- Characters of a set, read one at a time.
 

@@ -48,7 +48,15 @@ pub decoded_refused : (set : UriSet) (start : Marker) (k : ℕ) (m : Marker) (t 
 unfolding decoded_characters
 decoded_refused set start k m [] = tt
 decoded_refused set start zero m (c ∷ cs) =
-    grind (arith, refused_bind, character_refused, front_refused, by_test, decoded_refused set start (uri_tail (c ∷ cs)) (along m 1) cs)
+    grind (
+      arith,
+      refused_bind,
+      character_refused,
+      front_refused,
+      by_test,
+      decoded_refused set start
+          (uri_tail (c ∷ cs)) (along m 1) cs,
+    )
 decoded_refused set start (suc k) m (c ∷ cs) = decoded_refused set start k (along m 1) cs
 
 verbatim_refused : (s : Cursor) → RefusedAt s.mark (verbatim_tag s)

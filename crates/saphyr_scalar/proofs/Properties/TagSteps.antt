@@ -1,7 +1,7 @@
 -- The steps of a tag whose handle and suffix are put behind a text, where each place is told again.
 use Rattle.std.proofs.Common.{◌≡◌, append-nil, append_assoc, Bool, ℕ, ◌+◌, ◌<◌, true, false, List, [], ◌∷◌, ◌++◌, drop, length, slice_index, take, Result, Ok, Err, refl, sym, ap, ◌∙◌, arith}
 use Rattle.std.specs.Prelude.{◌==◌, codes, encode_utf8, encode_utf8_all}
-use Rattle.saphyr_scalar.proofs.Common.{drop-append_seam, nat_tests, encode_ascii, is_alpha, is_tag_char, exclamation_mark, greater_than, Refusal, Suffix, Marker, Cursor, ◌>>=◌, along, pass, refuse}
+use Rattle.saphyr_scalar.proofs.Common.{drop-append_seam, nat_tests, encode_ascii, is_alpha, is_tag_char, exclamation_mark, greater_than, Refusal, Suffix, Marker, Cursor, ◌>>=◌, along, pass, is_missing, refuse, refuse_open}
 use Rattle.std.proofs.lemmas.List.{get_or-drop, length-append, nil_from_length}
 use Rattle.saphyr_scalar.specs.declared.scalar.fault.FaultText.TheVariants as fault
 use Rattle.saphyr_scalar.specs.Steps.Quoted.{TextRead, mid_line, with_front, with_run}
@@ -37,7 +37,7 @@ verbatim_ended start before grown read t u h ends past = grind (arith, front_beh
 
 pub verbatim_open : (start : Marker) (before grown : List ℕ) (read : TextRead) (t : Cursor)
     → with_front before read ≡ Ok (grown, t) → (slice_index t.rest 0 ≡ greater_than → ⊥)
-    → with_tag before (read >>= verbatim_end start) ≡ refuse fault.VerbatimTagEndExpected start
+    → with_tag before (read >>= verbatim_end start) ≡ refuse_open (is_missing 0 t.rest) fault.VerbatimTagEndExpected start
 unfolding verbatim_end
 verbatim_open start before grown read t h more = grind (arith, front_behind, nat_tests)
 
@@ -50,7 +50,7 @@ named_ended start before word here grown read t is h some = grind (arith, front_
 
 pub named_alone : (start : Marker) (before word here grown : List ℕ) (read : TextRead) (t : Cursor)
     → with_front here read ≡ Ok (grown, t) → length grown ≡ length here
-    → with_tag before (read >>= named_tag start word) ≡ refuse fault.TagSuffixExpected start
+    → with_tag before (read >>= named_tag start word) ≡ refuse_open (is_missing 0 t.rest) fault.TagSuffixExpected start
 unfolding named_tag
 named_alone start before word here grown read t h none = grind (arith, front_behind, length-append, nat_tests)
 

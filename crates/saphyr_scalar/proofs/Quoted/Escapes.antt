@@ -1,5 +1,5 @@
 -- Escapes of double quoted scalars, a step at a time.
-use Rattle.saphyr_scalar.proofs.Common.{◌≡◌, ℕ, zero, suc, ◌+◌, ◌-◌, ◌*◌, ◌^◌, ◌<◌, ◌≤◌, Bool, true, false, List, [], ◌∷◌, length, length-drop, drop, slice_index, Ok, refl, sym, ap, ◌∙◌, arith, subst, none-some, false≢true, nat_tests, Option, Some, None, unwrap_or, pow-le-pow_right, pow_more, backslash, is_hex, hex_value, Marker, Cursor, refuse, along, pass, by_test, shows_character}
+use Rattle.saphyr_scalar.proofs.Common.{◌≡◌, ℕ, zero, suc, ◌+◌, ◌-◌, ◌*◌, ◌^◌, ◌<◌, ◌≤◌, Bool, true, false, List, [], ◌∷◌, length, length-drop, drop, slice_index, Ok, refl, sym, ap, ◌∙◌, arith, subst, none-some, false≢true, nat_tests, Option, Some, None, unwrap_or, pow-le-pow_right, pow_more, backslash, is_hex, hex_value, is_z, Marker, Cursor, refuse_open, along, pass, by_test, shows_character}
 use Rattle.saphyr_scalar.specs.Values.Escapes.{digit_count, is_scalar_value, short_escape}
 use Rattle.saphyr_scalar.specs.declared.scalar.fault.FaultText.TheVariants as fault
 use Rattle.saphyr_scalar.proofs.Moving.{along_none, along_more, drop_more}
@@ -12,10 +12,12 @@ unfolding digits
 digits_none start n i v s le = let e : n - i ≡ zero = omega arith in rw e refl
 
 -- a place that is no digit
-pub digits_stop : (start : Marker) (n i v : ℕ) (s : Cursor) → is_hex (slice_index s.rest 0) ≡ false → i < n
-    → digits start (n - i) v s ≡ refuse fault.HexadecimalDigitExpected start
+pub digits_stop : (start : Marker) (n i v c : ℕ) (s : Cursor) → c ≡ slice_index s.rest 0
+    → is_hex (slice_index s.rest 0) ≡ false → i < n
+    → digits start (n - i) v s ≡ refuse_open (is_z c) fault.HexadecimalDigitExpected start
 unfolding digits
-digits_stop start n i v s h lt = let e : n - i ≡ suc (n - (i + 1)) = omega arith in rw (e, h) refl
+digits_stop start n i v c s read h lt = let e : n - i ≡ suc (n - (i + 1)) = omega arith in
+    rw (e, h) (λ j. refuse_open (is_z (sym read j)) fault.HexadecimalDigitExpected start)
 
 -- a place that is a digit
 pub digits_more : (start : Marker) (n i v : ℕ) (s : Cursor) → is_hex (slice_index s.rest 0) ≡ true → i < n

@@ -1,5 +1,5 @@
 -- What is between the words of a quoted scalar, and its closing quote.
-use Rattle.saphyr_scalar.proofs.Common.{◌≡◌, ℕ, ◌<◌, ◌≤◌, Bool, true, false, List, [], ◌∷◌, ◌++◌, length, length-drop, drop, slice_index, Result, Ok, refl, sym, ap, ◌∙◌, arith, IsTrue, ◌==◌, OnOk, nat_tests, append-nil, is_z, is_blank, is_break, Marker, Refusal, Stop, Quote, Double, ReadsOn, Cursor, refuse, along, pass, pass_break, pass_line, next_line, backslash}
+use Rattle.saphyr_scalar.proofs.Common.{◌≡◌, ℕ, ◌<◌, ◌≤◌, Bool, true, false, List, [], ◌∷◌, ◌++◌, length, length-drop, drop, slice_index, Result, Ok, refl, sym, ap, ◌∙◌, arith, IsTrue, ◌==◌, OnOk, nat_tests, append-nil, is_z, is_blank, is_break, Marker, Refusal, Stop, Quote, Double, ReadsOn, Cursor, refuse_open, along, pass, pass_break, pass_line, next_line, backslash}
 use Rattle.saphyr_scalar.specs.declared.scalar.fault.FaultText.TheVariants as fault
 use Rattle.saphyr_scalar.specs.Values.Flow as flow
 use Rattle.saphyr_scalar.proofs.NoBreaks.{mark_no_nul}
@@ -88,7 +88,7 @@ blanks_to_break q indent start text grown s t u v m same h on = cc
 
 pub blanks_to_end : (q : Quote) (indent : ℕ) (start : Marker) (text grown : List ℕ) (s t : Cursor)
     → Moved is_blank [] grown s t → slice_index t.rest 0 ≡ 0
-    → with_front text (inner_text_at q indent start no_gap s) ≡ refuse fault.EndInsideQuotes start
+    → with_front text (inner_text_at q indent start no_gap s) ≡ refuse_open true fault.EndInsideQuotes start
 blanks_to_end q indent start text grown s t m h = ap (with_front text) (sym (blanks_moved q indent start [] grown s t m)
     ∙ at_end q indent start grown t.mark t.rest h)
 

@@ -1,5 +1,5 @@
 -- The inside of a quoted scalar, read a piece at a time.
-use Rattle.saphyr_scalar.proofs.Common.{◌≡◌, ℕ, zero, suc, ◌+◌, ◌<◌, Bool, true, false, List, [], ◌∷◌, ◌++◌, length, take, drop, slice_index, Result, Ok, Err, refl, sym, ap, ◌∙◌, arith, subst, encode_utf8_all, append_assoc, nat_eq, cond, ◌==◌, encode_utf8, prefix_len, nat_tests, append-nil, is_z, is_blank, is_break, is_blank_or_breakz, Marker, Refusal, IsErrAnd, Stop, Quote, ReadsOn, Cursor, ◌>>=◌, refuse, along, pass, pass_break, next_line, run_ends, neither_parts, by_test, either, backslash}
+use Rattle.saphyr_scalar.proofs.Common.{◌≡◌, ℕ, zero, suc, ◌+◌, ◌<◌, Bool, true, false, List, [], ◌∷◌, ◌++◌, length, take, drop, slice_index, Result, Ok, Err, refl, sym, ap, ◌∙◌, arith, subst, encode_utf8_all, append_assoc, nat_eq, cond, ◌==◌, encode_utf8, prefix_len, nat_tests, append-nil, is_z, is_blank, is_break, is_blank_or_breakz, Marker, Refusal, IsErrAnd, Stop, Quote, ReadsOn, Cursor, ◌>>=◌, refuse_open, along, pass, pass_break, next_line, run_ends, neither_parts, by_test, either, backslash}
 use Rattle.saphyr_scalar.specs.declared.scalar.fault.FaultText.TheVariants as fault
 use Rattle.saphyr_scalar.specs.declared.scalar.fault.Stop.TheVariants as stop
 use Rattle.saphyr_scalar.specs.Values.Flow as flow
@@ -102,7 +102,7 @@ run_blanks q indent start bytes m (c ∷ cs) =
 
 -- NUL, or the end
 pub at_end : (q : Quote) (indent : ℕ) (start : Marker) (bytes : List ℕ) (m : Marker) (xs : List ℕ)
-    → slice_index xs 0 ≡ 0 → inner_text q indent start (on_line bytes) 0 m xs ≡ refuse fault.EndInsideQuotes start
+    → slice_index xs 0 ≡ 0 → inner_text q indent start (on_line bytes) 0 m xs ≡ refuse_open true fault.EndInsideQuotes start
 unfolding inner_text end_gap
 at_end q indent start bytes m [] h = refl
 at_end q indent start bytes m (c ∷ cs) h = rw h refl

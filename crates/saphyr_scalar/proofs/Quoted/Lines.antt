@@ -1,6 +1,7 @@
 -- The breaks inside a quoted scalar, and the lines after them.
 use Rattle.std.proofs.Common.{◌≡◌, ℕ, ◌+◌, ◌<◌, ◌≤◌, Bool, true, false, List, [], ◌∷◌, ◌++◌, length, slice_index, Result, Ok, Err, refl, sym, ap, ◌∙◌, arith, encode_utf8_all, nat_lt, cond, add-one}
-use Rattle.saphyr_scalar.proofs.Common.{◌&&◌, ◌==◌, nat_tests, is_z, is_blank, is_break, is_document_indicator, Marker, Refusal, Quote, Cursor, ◌>>=◌, refuse, pass_blanks, pass_break, and_false, lt-ltb}
+use Rattle.saphyr_scalar.proofs.Common.{◌&&◌, ◌==◌, nat_tests, is_z, is_blank, is_break, is_document_indicator, Marker, Refusal, Quote, Cursor, ◌>>=◌, refuse, refuse_open, pass_blanks, pass_break, and_false, lt-ltb}
+use Rattle.saphyr_scalar.specs.Known.{may_be_open}
 use Rattle.saphyr_scalar.specs.declared.scalar.fault.FaultText.TheVariants as fault
 use Rattle.saphyr_scalar.proofs.Quoted.Inside.{front_twice, quoted_behind_gap, behind_no_gap, word_from, at_break}
 use Rattle.saphyr_scalar.specs.Steps.Quoted.{TextRead, with_front, mid_line, over_lines, no_gap, is_left, blank_in, folded_break, quoted_line, end_gap, inner_text, inner_text_at}
@@ -73,22 +74,23 @@ Begins q indent start escaped n s (Ok t) =
 Begins q indent start escaped n s (Err r) = inner_text_at q indent start (over_lines escaped n) s ≡ Err r
 
 -- the tests of `quoted_line`, in their order
-abbrev tests : Marker → Bool → Bool → Bool → Cursor → Result Cursor Refusal
-tests start marker nul left s = cond marker (refuse fault.DocumentIndicatorInsideQuotes start)
-    (cond nul (refuse fault.EndInsideQuotes start) (cond left (refuse fault.QuotedIndentation start) (Ok s)))
+abbrev tests : Marker → Bool → Bool → Bool → Bool → Cursor → Result Cursor Refusal
+tests start b marker nul left s = cond marker (refuse_open b fault.DocumentIndicatorInsideQuotes start)
+    (cond nul (refuse_open b fault.EndInsideQuotes start)
+    (cond left (refuse_open b fault.QuotedIndentation start) (Ok s)))
 
 begins_by : (q : Quote) (indent : ℕ) (start : Marker) (escaped : Bool) (n : ℕ) (s t : Cursor) (word : TextRead)
-    (marker nul left : Bool)
+    (b marker nul left : Bool)
     → inner_text_at q indent start (over_lines escaped n) s
-    ≡ ((tests start marker nul left t >>= λ u. Ok (encode_utf8_all (folded_break escaped n))) >>= λ text. with_front
+    ≡ ((tests start b marker nul left t >>= λ u. Ok (encode_utf8_all (folded_break escaped n))) >>= λ text. with_front
     text word)
     → (nul ≡ false → inner_text_at q indent start no_gap s ≡ word)
-    → Begins q indent start escaped n s (tests start marker nul left s)
-begins_by q indent start escaped n s t word u0 nul left h w = grind arith
+    → Begins q indent start escaped n s (tests start b marker nul left s)
+begins_by q indent start escaped n s t word b u0 nul left h w = grind arith
 
 begins_end : (q : Quote) (indent : ℕ) (start m : Marker) (escaped : Bool) (n : ℕ) (b first left : Bool)
     → Begins q indent start escaped n (record { rest = []; mark = m; blank_so_far = b })
-    (tests start (first && false) true left (record { rest = []; mark = m; blank_so_far = b }))
+    (tests start true (first && false) true left (record { rest = []; mark = m; blank_so_far = b }))
 unfolding inner_text
 begins_end q indent start m escaped n b true left = refl
 begins_end q indent start m escaped n b false left = refl
@@ -96,7 +98,7 @@ begins_end q indent start m escaped n b false left = refl
 behind_lines : (q : Quote) (indent : ℕ) (start m : Marker) (escaped : Bool) (n c : ℕ) (cs : List ℕ) → is_blank c ≡ false
     → is_break c ≡ false
     → inner_text q indent start (over_lines escaped n) 0 m (c ∷ cs)
-    ≡ ((tests start ((m.col == 0) && is_document_indicator (c ∷ cs)) (is_z c) (is_left indent m) (mid_line m (c ∷ cs))
+    ≡ ((tests start (may_be_open (c ∷ cs)) ((m.col == 0) && is_document_indicator (c ∷ cs)) (is_z c) (is_left indent m) (mid_line m (c ∷ cs))
     >>= λ u. Ok (encode_utf8_all (folded_break escaped n))) >>= λ text. with_front text
     (word_from q indent start m c cs))
 unfolding end_gap quoted_line
@@ -112,7 +114,7 @@ begins_at q indent start m escaped n b [] blank break =
     begins_end q indent start m escaped n b (m.col == 0) (is_left indent m)
 begins_at q indent start m escaped n b (c ∷ cs) blank break =
     begins_by q indent start escaped n (record { rest = c ∷ cs; mark = m; blank_so_far = b }) (mid_line m (c ∷ cs))
-    (word_from q indent start m c cs) ((m.col == 0) && is_document_indicator (c ∷ cs)) (is_z c) (is_left indent m)
+    (word_from q indent start m c cs) (may_be_open (c ∷ cs)) ((m.col == 0) && is_document_indicator (c ∷ cs)) (is_z c) (is_left indent m)
     (behind_lines q indent start m escaped n c cs blank break)
     (λ nul. behind_no_gap q indent start m c cs blank break nul)
 

@@ -7,7 +7,7 @@ use Rattle.saphyr_scalar.specs.Steps.Directive.{directive_name_of, name, number_
 use Rattle.saphyr_scalar.specs.Spelling.Directive.{reserved}
 use Rattle.saphyr_scalar.specs.Known.{longer}
 use Rattle.saphyr_scalar.proofs.WhatCame.Rests.{shows}
-use Rattle.saphyr_scalar.proofs.WhatCame.Steps.{Sure, reader, beside, beside_two, refused, reports, stays, past, ended, choose, choose_first, and_then, on}
+use Rattle.saphyr_scalar.proofs.WhatCame.Steps.{Sure, reader, beside, beside_two, missing_refused, reports, stays, past, ended, choose, choose_first, and_then, on}
 use Rattle.saphyr_scalar.proofs.WhatCame.Runs.{taken, passed, run_passed, run_came, break_came, separation_came}
 use Rattle.saphyr_scalar.proofs.WhatCame.Names.{uri_came, front_came, decoded_came}
 
@@ -15,7 +15,8 @@ module _ (more : List ℕ) where
   name_came : (s : Cursor) → Sure beside more s.rest (name s) (name (longer more s))
   unfolding name directive_name_of
   name_came s = on (directive_name_of s.mark) (run_came more is_yaml_non_space [] s)
-      (choose (length (with_run is_yaml_non_space [] s).0 == 0) (λ _. refused refl)
+      (choose (length (with_run is_yaml_non_space [] s).0 == 0)
+      (λ _. missing_refused 0 (with_run is_yaml_non_space [] s).1.rest (λ left. left))
       (λ _. choose_first is_blank_or_breakz (λ _. stays)
       (λ no. reports (shows is_blank_or_breakz false (with_run is_yaml_non_space [] s).1.rest no (λ e. absurd (cc))))))
 
@@ -24,7 +25,7 @@ module _ (more : List ℕ) where
     number_end_came : (n v : ℕ) (s : Cursor)
         → Sure beside more s.rest (number_end start n v s) (number_end start n v (longer more s))
     unfolding number_end
-    number_end_came n v s = choose (n == 0) (λ _. refused refl) (λ _. stays)
+    number_end_came n v s = choose (n == 0) (λ _. missing_refused 0 s.rest (λ left. left)) (λ _. stays)
 
     number_came : (n v : ℕ) (m : Marker) (r : List ℕ)
         → Sure beside more r (number_from start n v m r) (number_from start n v m (r ++ more))
@@ -40,24 +41,25 @@ module _ (more : List ℕ) where
     version_came s = and_then _ (on (number start) (run_passed more is_blank s) (number_came 0 0 _ _))
         (λ x _. choose_first (λ c. c == 46)
         (λ _. and_then _ (on (number start) (passed more 1 x.1) (number_came 0 0 _ _)) (λ y _. stays))
-        (λ _. refused refl))
+        (λ _. missing_refused 0 x.1.rest (λ left. left)))
 
     handle_came : (s : Cursor) → Sure beside more s.rest (handle start s) (handle start (longer more s))
     unfolding handle handle_behind_word
     handle_came s = choose_first (λ c. c == 33)
         (λ _. on (λ t. handle_behind_word start (with_run is_alpha [] t)) (passed more 1 s)
         (on (handle_behind_word start) (run_came more is_alpha [] (pass 1 s)) (by (with_run is_alpha [] (pass 1 s)))))
-        (λ _. refused refl)
+        (λ _. missing_refused 0 s.rest (λ left. left))
       where
         by : (w : List ℕ × Cursor)
             → Sure beside more w.1.rest (handle_behind_word start w) (handle_behind_word start (w.0, longer more w.1))
         by w = choose_first (λ c. c == 33) (λ _. on (λ t. Ok (handle_of w.0, t)) (passed more 1 w.1) stays)
-            (λ _. choose (length w.0 == 0) (λ _. stays) (λ _. refused refl))
+            (λ _. choose (length w.0 == 0) (λ _. stays) (λ _. missing_refused 0 w.1.rest (λ left. left)))
 
     prefix_came : (s : Cursor) → Sure beside more s.rest (prefix start s) (prefix start (longer more s))
     unfolding prefix
     prefix_came s = choose_first (λ c. (c == 33) || is_tag_char c) (λ _. and_then _ (uri_came more start s)
-        (λ x _. front_came more start (encode_utf8 x.0) _ _ _ (decoded_came more start _ x.1))) (λ _. refused refl)
+        (λ x _. front_came more start (encode_utf8 x.0) _ _ _ (decoded_came more start _ x.1)))
+        (λ _. missing_refused 0 s.rest (λ left. left))
 
     tag_directive_came : (s : Cursor)
         → Sure beside more s.rest (tag_directive start s) (tag_directive start (longer more s))

@@ -9,7 +9,7 @@ use Rattle.saphyr_scalar.proofs.Properties.PercentEscapes.{decoded_one_more, cha
 use Rattle.saphyr_scalar.proofs.Lengths.{by_ends}
 use Rattle.saphyr_scalar.specs.Known.{longer}
 use Rattle.saphyr_scalar.proofs.WhatCame.Rests.{is_nothing, enough_before, shows, shows_is, later_here, later_drop, first_known, second_known, drop_known}
-use Rattle.saphyr_scalar.proofs.WhatCame.Steps.{Sure, whole, reports, beside, beside_two, refused, stays, given, leaves, same_step, choose, choose_first, choose_same, choose_given, only_if, further, and_then, on}
+use Rattle.saphyr_scalar.proofs.WhatCame.Steps.{Sure, whole, reports, beside, beside_two, refused, missing_refused, stays, given, leaves, same_step, choose, choose_first, choose_same, choose_given, only_if, further, and_then, on}
 use Rattle.saphyr_scalar.proofs.WhatCame.Runs.{taken, passed, run_came}
 
 module _ (more : List ℕ) where
@@ -17,24 +17,29 @@ module _ (more : List ℕ) where
   unfolding anchor anchor_name_of
   anchor_came s = on (λ t. anchor_name_of s.mark (with_run is_anchor_char [] t)) (taken more 1 s)
       (on (anchor_name_of s.mark) (run_came more is_anchor_char [] (pass 1 s))
-      (search (choose, refused, given, later_here)))
+      (choose (length (with_run is_anchor_char [] (pass 1 s)).0 == 0) (λ _. missing_refused 0 _ (λ left. left))
+      (λ _. stays)))
 
   -- ## Escapes
 
   -- the characters of a byte all came
-  byte_known : (r : List ℕ) → shows_byte r ≡ true → (shows_byte (r ++ more) ≡ true)
-      × (byte_value (r ++ more) ≡ byte_value r) × (drop 3 (r ++ more) ≡ drop 3 r ++ more)
-  byte_known [] is = absurd (cc)
-  byte_known (a ∷ []) is = let last : false ≡ true = and_true_right ((a == 37) && false) false is in absurd (cc)
-  byte_known (a ∷ b ∷ []) is = let last : false ≡ true = and_true_right ((a == 37) && is_hex b) false is in absurd (cc)
-  byte_known (a ∷ b ∷ c ∷ r) is = (is, refl, refl)
+  no_byte : (r : List ℕ) → slice_index r 2 ≡ 0 → shows_byte r ≡ true → ⊥
+  no_byte r none is = let last = and_true_right ((slice_index r 0 == 37) && is_hex (slice_index r 1)) _ is in
+      absurd (cc)
 
   -- so what they say is told, whatever is left
   module _ (start : Marker) (text : List ℕ) (left : is_nothing text ≡ false) where
-    byte_came : (s : Cursor) → Sure (whole text) more text (escaped_byte start s) (escaped_byte start (longer more s))
+    byte_over : (s : Cursor) (r : List ℕ) → Sure (whole text) more text (escaped_byte start (record s { rest = r }))
+        (escaped_byte start (record s { rest = r ++ more }))
     unfolding escaped_byte
-    byte_came s = only_if (shows_byte s.rest) _ refl (λ is. leaves (later_here text) (λ _.
-        let byte = byte_known s.rest is in rw (byte.0, byte.1, byte.2)))
+    byte_over s [] = refused refl
+    byte_over s (a ∷ []) = only_if (shows_byte (a ∷ [])) _ refl (λ is. absurd (no_byte (a ∷ []) refl is))
+    byte_over s (a ∷ b ∷ []) =
+        only_if (shows_byte (a ∷ b ∷ [])) _ refl (λ is. absurd (no_byte (a ∷ b ∷ []) refl is))
+    byte_over s (a ∷ b ∷ c ∷ cs) = choose (shows_byte (a ∷ b ∷ c ∷ cs)) (λ _. stays) (λ _. reports left)
+
+    byte_came : (s : Cursor) → Sure (whole text) more text (escaped_byte start s) (escaped_byte start (longer more s))
+    byte_came s = byte_over s s.rest
 
     trailing_came : (v : ℕ) (s : Cursor)
         → Sure (whole text) more text (trailing_byte start v s) (trailing_byte start v (longer more s))
@@ -105,13 +110,14 @@ module _ (more : List ℕ) where
   unfolding verbatim_tag verbatim_end
   verbatim_came s = and_then _ (on (decoded_at _ s.mark) (taken more 2 s) (decoded_came s.mark _ (pass 2 s)))
       (λ x _. choose_first (λ c. c == 62) (λ _. on (λ t. Ok ([], x.0, t)) (passed more 1 x.1) stays)
-      (λ _. refused refl))
+      (λ _. missing_refused 0 x.1.rest (λ left. left)))
 
   named_came : (start : Marker) (word : List ℕ) (s : Cursor)
       → Sure beside_two more s.rest (named_tail start word s) (named_tail start word (longer more s))
   unfolding named_tail named_tag
   named_came start word s =
-      and_then _ (decoded_came start _ s) (λ x _. search (choose, refused, given, later_here))
+      and_then _ (decoded_came start _ s)
+      (λ x _. choose (length x.0 == 0) (λ _. missing_refused 0 x.1.rest (λ left. left)) (λ _. stays))
 
   behind_word_came : (start : Marker) (w : List ℕ × Cursor)
       → Sure beside_two more w.1.rest (tag_behind_word start w) (tag_behind_word start (w.0, longer more w.1))

@@ -8,7 +8,7 @@ use Rattle.saphyr_scalar.proofs.Plain.Pieces.{goes_says, word_on, plain_behind_g
 use Rattle.saphyr_scalar.proofs.Lengths.{by_ends}
 use Rattle.saphyr_scalar.specs.Known.{is_open, longer}
 use Rattle.saphyr_scalar.proofs.WhatCame.Rests.{some, InText, later_than, known_before, dash_shown, blank_shown, later_here, later_on, first_known, indicator_known, dash_known, plain_known}
-use Rattle.saphyr_scalar.proofs.WhatCame.Steps.{Left, Came, further, reader, beside, behind, refused, reports, stays, given, same_step, ended, choose, choose_at, choose_first, and_known, on}
+use Rattle.saphyr_scalar.proofs.WhatCame.Steps.{Left, Came, further, reader, beside, behind, open_refused, reports, stays, given, same_step, ended, choose, choose_at, choose_first, and_known, on}
 use Rattle.saphyr_scalar.proofs.WhatCame.Runs.{run_came, break_came}
 
 abbrev gaps : Left PlainGap
@@ -149,4 +149,4 @@ module _ (more : List ℕ) where
   pub plain_came : (f : Bool) (i : ℕ) (s : Cursor) → Came plains more s.rest (plain f i s) (plain f i (longer more s))
   unfolding plain
   plain_came f i s = and_known _ (starts_came f s) (λ b e. choose b.0 (λ _. word_came f i s.mark b.1 b.1)
-      (λ _. refused refl))
+      (λ _. open_refused))

@@ -6,7 +6,7 @@ use Rattle.saphyr_scalar.specs.Values.Escapes.{short_escape, digit_count, is_sca
 use Rattle.saphyr_scalar.specs.Steps.Quoted.{TextRead, mid_line, with_front, is_literal, digits, character, escape_by_number, escape_of, escaped_character, special, special_len, QuotedGap, on_line, over_lines, blank_in, break_in, break_len, end_gap, quoted_line, is_left, escaped_gap, if_some, no_gap, inner_text, quoted}
 use Rattle.saphyr_scalar.specs.Known.{is_open, longer, IsRestOfText}
 use Rattle.saphyr_scalar.proofs.WhatCame.Rests.{is_nothing, some, later_than, shown, later_here, later_on, later_drop, first_known, indicator_known, drop_known, break_known}
-use Rattle.saphyr_scalar.proofs.WhatCame.Steps.{Left, Came, Sure, and_known, beside, kept, whole, behind, further, reports, refused, stays, given, past, same_step, ended, choose, choose_same, choose_at, choose_first, on}
+use Rattle.saphyr_scalar.proofs.WhatCame.Steps.{Left, Came, Sure, and_known, beside, kept, whole, behind, further, reports, refused, open_refused, stays, given, past, same_step, ended, choose, choose_same, choose_at, choose_first, on}
 use Rattle.saphyr_scalar.proofs.WhatCame.Runs.{passed}
 
 -- a character before what it ends, if something is there
@@ -35,12 +35,13 @@ module _ (more : List ℕ) where
 
   module _ (text : List ℕ) (start : Marker) where
     digits_came : (n v : ℕ) (m : Marker) (r : List ℕ)
+        → is_open text ≡ false
         → Came (whole text) more text (digits start n v (mid_line m r)) (digits start n v (mid_line m (r ++ more)))
     unfolding digits
-    digits_came zero v m r = stays
-    digits_came (suc n) v m [] = refused refl
-    digits_came (suc n) v m (c ∷ cs) =
-        choose (is_hex c) (λ _. digits_came n (v * 16 + hex_value c) (along m 1) cs) (λ _. refused refl)
+    digits_came zero v m r known = stays
+    digits_came (suc n) v m [] known = refused refl
+    digits_came (suc n) v m (c ∷ cs) known =
+        choose (is_hex c) (λ _. digits_came n (v * 16 + hex_value c) (along m 1) cs known) (λ _. reports known)
 
     escape_came : (short long : Option ℕ) (letter : ℕ) (m : Marker) (c d : ℕ) (r : List ℕ) → digit_count letter ≡ long
         → is_open text ≡ false
@@ -48,8 +49,8 @@ module _ (more : List ℕ) where
         (escape_of start short letter (mid_line m (c ∷ d ∷ (r ++ more))))
     unfolding escape_of escape_by_number character
     escape_came (Some e) long letter m c d r is known = stays
-    escape_came None None letter m c d r is known = rw is (refused refl)
-    escape_came None (Some n) letter m c d r is known = rw is (and_known _ (digits_came n 0 (along m 2) r)
+    escape_came None None letter m c d r is known = rw is (reports known)
+    escape_came None (Some n) letter m c d r is known = rw is (and_known _ (digits_came n 0 (along m 2) r known)
         (λ x _. choose (is_scalar_value x.0) (λ _. stays) (λ _. reports known)))
 
   special_came : (quote : Quote) (start m : Marker) (c : ℕ) (cs : List ℕ) → Came (whole (ends c cs)) more (ends c cs)
@@ -74,8 +75,8 @@ module _ (more : List ℕ) where
   end_came indent start m (on_line bytes) r = choose_first is_z (λ _. refused refl) (λ _. stays)
   end_came indent start m (over_lines escaped n) r = and_known {at = record { rest = λ _. r; with_more = longer }} _
       (choose_at (λ t. (m.col == 0) && is_document_indicator t) (λ known. rw (indicator_known more r known))
-      (λ _. refused refl) (λ _. choose_first is_z (λ _. refused refl) (λ _. choose (is_left indent m)
-      (λ _. refused refl)
+      (λ _. open_refused) (λ _. choose_first is_z (λ _. open_refused) (λ _. choose (is_left indent m)
+      (λ _. open_refused)
       (λ _. stays)))) (λ t _. stays)
 
   blank_came : (indent : ℕ) (gap : QuotedGap) (m : Marker) (c : ℕ) (cs : List ℕ) → is_blank c ≡ true

@@ -1,5 +1,5 @@
 -- A rest that is not open shows what it is, whatever comes behind it.
-use Rattle.saphyr_scalar.proofs.Common.{◌≡◌, ℕ, zero, suc, ◌+◌, Bool, true, false, List, [], ◌∷◌, ◌++◌, take, drop, slice_index, refl, sym, ap, ◌∙◌, subst, arith, cond, ◌&&◌, ◌==◌, prefix_len, nat_tests, is_blank_or_breakz, is_z, is_blank, is_flow, next_3_are, is_document_start, is_document_end, is_document_indicator, can_be_plain, by_test}
+use Rattle.saphyr_scalar.proofs.Common.{◌≡◌, ℕ, zero, suc, ◌+◌, Bool, true, false, List, [], ◌∷◌, ◌++◌, take, drop, slice_index, refl, sym, ap, ◌∙◌, subst, arith, cond, ◌&&◌, ◌==◌, prefix_len, nat_tests, is_blank_or_breakz, is_z, is_blank, is_flow, is_missing, next_3_are, is_document_start, is_document_end, is_document_indicator, can_be_plain, by_test}
 use Rattle.std.proofs.lemmas.List.{append_assoc, take-append-drop}
 use Rattle.saphyr_scalar.specs.Spelling.LineBreaks.{break_len}
 use Rattle.saphyr_scalar.specs.Known.{is_open, begins_marker, may_be_open, IsRestOfText}
@@ -134,6 +134,38 @@ four_shown u0 left = grind arith
 -- by its first four characters
 pub not_open : (r : List ℕ) → may_be_open r ≡ false → is_open r ≡ false
 not_open v0 known = grind (arith, nat_tests)
+
+-- and so is a longer one
+pub closed_longer : (more r : List ℕ) → may_be_open r ≡ false → may_be_open (r ++ more) ≡ false
+closed_longer more [] known = absurd (cc)
+closed_longer more (c ∷ []) known = grind (arith, nat_tests)
+closed_longer more (c ∷ d ∷ []) known = grind (arith, nat_tests)
+closed_longer more (c ∷ d ∷ e ∷ []) known = grind (arith, nat_tests)
+closed_longer more (c ∷ d ∷ e ∷ f ∷ r) known = known
+
+-- ## A character that is there
+
+pub is_there : (n : ℕ) (r : List ℕ) → is_missing n r ≡ false → is_nothing (drop n r) ≡ false
+is_there zero [] there = absurd (cc)
+is_there zero (c ∷ cs) there = refl
+is_there (suc n) [] there = absurd (cc)
+is_there (suc n) (c ∷ cs) there = is_there n cs there
+
+-- where a fourth character is
+pub some_of_four : (r : List ℕ) → is_nothing (drop 3 r) ≡ false → is_nothing r ≡ false
+some_of_four [] left = left
+some_of_four (c ∷ r) left = refl
+
+pub second_of_four : (r : List ℕ) → is_nothing (drop 3 r) ≡ false → is_nothing (drop 1 r) ≡ false
+second_of_four [] left = left
+second_of_four (c ∷ []) left = left
+second_of_four (c ∷ d ∷ r) left = refl
+
+pub there_longer : (more : List ℕ) (n : ℕ) (r : List ℕ) → is_missing n r ≡ false → is_missing n (r ++ more) ≡ false
+there_longer more zero [] there = absurd (cc)
+there_longer more zero (c ∷ cs) there = there
+there_longer more (suc n) [] there = absurd (cc)
+there_longer more (suc n) (c ∷ cs) there = there_longer more n cs there
 
 -- a later part of a text that is not open where this is true
 abbrev pub InText : List ℕ → Bool → List ℕ → Type 0

@@ -1,8 +1,9 @@
 -- Steps that give the same where more of the text comes, one after another.
-use Rattle.saphyr_scalar.proofs.Common.{◌≡◌, ℕ, Bool, true, false, List, [], ◌∷◌, ◌++◌, slice_index, Result, Ok, Err, refl, ap, ◌∙◌, arith, cond, ◌&&◌, ◌||◌, ◌==◌, nat_tests, is_break, Refusal, Cursor, ◌>>=◌}
+use Rattle.saphyr_scalar.proofs.Common.{◌≡◌, ℕ, Bool, true, false, List, [], ◌∷◌, ◌++◌, drop, slice_index, Result, Ok, Err, refl, ap, ◌∙◌, arith, cond, ◌&&◌, ◌||◌, ◌==◌, nat_tests, is_break, Marker, Refusal, Cursor, is_missing, refuse_open, ◌>>=◌}
 use Rattle.saphyr_scalar.specs.Steps.Block.{is_cr_lf}
-use Rattle.saphyr_scalar.specs.Known.{is_open, longer, is_seen, IsRestOfText}
-use Rattle.saphyr_scalar.proofs.WhatCame.Rests.{later_here, later_on, later_than, lacks, enough_of, some_of, nothing_lacks, enough_before, left_enough, right_enough, is_nothing, first_known}
+use Rattle.saphyr_scalar.specs.declared.scalar.fault.FaultText.{FaultText}
+use Rattle.saphyr_scalar.specs.Known.{is_open, may_be_open, longer, IsRestOfText}
+use Rattle.saphyr_scalar.proofs.WhatCame.Rests.{later_here, later_on, later_than, lacks, enough_of, some_of, nothing_lacks, enough_before, left_enough, right_enough, is_nothing, first_known, not_open, closed_longer, is_there, there_longer}
 
 -- what a value leaves of the text, and the value where more of the text comes
 pub record Left (X : Type 0) : Type 0 where
@@ -27,15 +28,15 @@ abbrev pub whole : {X : Type 0} → List ℕ → Left (X × Cursor)
 whole text = record { rest = λ _. text; with_more = beside.with_more }
 
 -- A step over a text leaves a later part of it. The second step is the same step where more comes: it gives the
--- same, with more behind what is left, where enough of that is there. What was seen is refused by both, and enough of
--- it is in the text. Enough is a character, or what is not open: `asks` says which is enough for what is given, and
--- `says` which is there if something is refused.
+-- same, with more behind what is left, where enough of that is there. What no character that comes may change is
+-- refused by both, and enough of it is in the text. Enough is a character, or what is not open: `asks` says which is
+-- enough for what is given, and `says` which is there if something is refused.
 pub record CameAs {X : Type 0} (asks says : Bool) (at : Left X) (more text : List ℕ) (r q : Result X Refusal)
     : Type 0 where
   pub later : (x : X) → r ≡ Ok x → IsRestOfText (at.rest x) text
   pub same : (x : X) → r ≡ Ok x → lacks asks (at.rest x) ≡ false → q ≡ Ok (at.with_more more x)
-  pub known : (e : Refusal) → r ≡ Err e → is_seen e.text ≡ true → lacks says text ≡ false
-  pub reported : (e : Refusal) → r ≡ Err e → is_seen e.text ≡ true → q ≡ Err e
+  pub known : (e : Refusal) → r ≡ Err e → e.may_change ≡ false → lacks says text ≡ false
+  pub reported : (e : Refusal) → r ≡ Err e → e.may_change ≡ false → q ≡ Err e
 
 -- where what is not open is enough
 abbrev pub Came : {X : Type 0} → Left X → List ℕ → List ℕ → Result X Refusal → Result X Refusal → Type 0
@@ -50,8 +51,8 @@ abbrev pub Mixed : {X : Type 0} → Left X → List ℕ → List ℕ → Result 
 Mixed at more text r q = CameAs true false at more text r q
 
 module _ {X : Type 0} {asks says : Bool} {at : Left X} {more : List ℕ} where
-  pub stops : {text : List ℕ} {e : Refusal} {q : Result X Refusal} → (is_seen e.text ≡ true → lacks says text ≡ false)
-      → (is_seen e.text ≡ true → q ≡ Err e) → CameAs asks says at more text (Err e) q
+  pub stops : {text : List ℕ} {e : Refusal} {q : Result X Refusal} → (e.may_change ≡ false → lacks says text ≡ false)
+      → (e.may_change ≡ false → q ≡ Err e) → CameAs asks says at more text (Err e) q
   stops u0 = grind arith
 
   -- by what was seen
@@ -59,9 +60,29 @@ module _ {X : Type 0} {asks says : Bool} {at : Left X} {more : List ℕ} where
   reports known = stops (λ _. known) (λ _. refl)
 
   -- by what may change with what comes
-  pub refused : {text : List ℕ} {e : Refusal} {q : Result X Refusal} → is_seen e.text ≡ false
+  pub refused : {text : List ℕ} {e : Refusal} {q : Result X Refusal} → e.may_change ≡ true
       → CameAs asks says at more text (Err e) q
-  refused unseen = stops (λ seen. absurd (cc)) (λ seen. absurd (cc))
+  refused waits = stops (λ seen. absurd (cc)) (λ seen. absurd (cc))
+
+  -- by what may change with what comes where a is true, which then is so of a longer text too
+  unless : {text : List ℕ} {t : FaultText} {m : Marker} (a b : Bool) → (a ≡ false → b ≡ false)
+      → (a ≡ false → lacks says text ≡ false)
+      → CameAs asks says at more text (refuse_open a t m) (refuse_open b t m)
+  unless true b seen known = refused refl
+  unless {t = t} {m = m} false b seen known = stops known (λ _. ap (λ x. refuse_open x t m) (seen refl))
+
+  -- by what may change where the text is open
+  pub open_refused : {text : List ℕ} {t : FaultText} {m : Marker}
+      → CameAs asks says at more text (refuse_open (may_be_open text) t m) (refuse_open (may_be_open (text ++ more)) t m)
+  open_refused {text} = unless (may_be_open text) (may_be_open (text ++ more)) (closed_longer more text)
+      (λ known. enough_of says text (not_open text known))
+
+  -- by what may change where the text ends before a character, which is behind enough
+  pub missing_refused : {text : List ℕ} {t : FaultText} {m : Marker} (n : ℕ) (r : List ℕ)
+      → (is_nothing (drop n r) ≡ false → lacks says text ≡ false)
+      → CameAs asks says at more text (refuse_open (is_missing n r) t m) (refuse_open (is_missing n (r ++ more)) t m)
+  missing_refused n r known = unless (is_missing n r) (is_missing n (r ++ more)) (there_longer more n r)
+      (λ there. known (is_there n r there))
 
   pub leaves : {text : List ℕ} {x : X} {q : Result X Refusal} → IsRestOfText (at.rest x) text
       → (lacks asks (at.rest x) ≡ false → q ≡ Ok (at.with_more more x)) → CameAs asks says at more text (Ok x) q
@@ -104,10 +125,10 @@ module _ {X : Type 0} {asks says : Bool} {at : Left X} {more : List ℕ} where
   past {cs = cs} c h = further (later_on c (later_here cs)) h
 
   -- what a test wants, where it is refused otherwise
-  pub only_if : {text : List ℕ} (a : Bool) {x q : Result X Refusal} (e : Refusal) → is_seen e.text ≡ false
+  pub only_if : {text : List ℕ} (a : Bool) {x q : Result X Refusal} (e : Refusal) → e.may_change ≡ true
       → (a ≡ true → CameAs asks says at more text x q) → CameAs asks says at more text (cond a x (Err e)) q
-  only_if true e unseen h = h refl
-  only_if false e unseen h = refused unseen
+  only_if true e waits h = h refl
+  only_if false e waits h = refused waits
 
   -- a choice by tests that come out alike, and what is given by what was chosen
   pub choose_of : {Y : Type 0} (k : Y → Result X Refusal) {text : List ℕ} (a b : Bool) {x y z w : Y}

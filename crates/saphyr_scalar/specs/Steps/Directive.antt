@@ -10,7 +10,7 @@ use Rattle.saphyr_scalar.specs.declared.scalar.directive.Directive as declared
 use Rattle.saphyr_scalar.specs.declared.scalar.directive.Directive.TheVariants as variant
 use Rattle.saphyr_scalar.specs.declared.scalar.directive.DirectiveLine.{DirectiveLine}
 use Rattle.saphyr_scalar.specs.declared.scalar.tag.UriSet.TheVariants.{Uri}
-use Rattle.saphyr_scalar.specs.Views.Cursor.{Cursor, ◌>>=◌, refuse, along, pass, pass_break, pass_comment, separation, pass_all_blanks}
+use Rattle.saphyr_scalar.specs.Views.Cursor.{Cursor, ◌>>=◌, refuse, refuse_open, is_missing, along, pass, pass_break, pass_comment, separation, pass_all_blanks}
 use Rattle.saphyr_scalar.specs.Steps.Quoted.{with_front, with_run, mid_line}
 use Rattle.saphyr_scalar.specs.Spelling.Directive.{ReadDirective, version, tag_prefix, reserved}
 use Rattle.saphyr_scalar.specs.Steps.Tag.{uri_character, decoded_at, handle_of}
@@ -31,7 +31,7 @@ seen_directive_line line s = (directive_of line.directive, line.end, s)
 -- a name has a character, and ends before a blank, a break, NUL or the end
 unfoldable pub directive_name_of : Marker → List ℕ × Cursor → Result (List ℕ × Cursor) Refusal
 directive_name_of start x =
-    if length x.0 == 0 then refuse fault.DirectiveNameExpected start
+    if length x.0 == 0 then refuse_open (is_missing 0 x.1.rest) fault.DirectiveNameExpected start
     else if is_blank_or_breakz (slice_index x.1.rest 0) then Ok x
     else refuse fault.DirectiveNameCharacter start
 
@@ -42,7 +42,7 @@ name s = directive_name_of s.mark (with_run is_yaml_non_space [] s)
 
 -- a number has a digit
 unfoldable pub number_end : Marker → ℕ → ℕ → Cursor → Result (ℕ × Cursor) Refusal
-number_end start n v s = if n == 0 then refuse fault.VersionNumberExpected start else Ok (v, s)
+number_end start n v s = if n == 0 then refuse_open (is_missing 0 s.rest) fault.VersionNumberExpected start else Ok (v, s)
 
 -- the number whose first n digits stand for v, and which has at most nine
 unfoldable pub number_from : Marker → ℕ → ℕ → Marker → List ℕ → Result (ℕ × Cursor) Refusal
@@ -59,7 +59,7 @@ number start s = number_from start 0 0 s.mark s.rest
 unfoldable pub behind_major : Marker → ℕ × Cursor → Result (ReadDirective × Cursor) Refusal
 behind_major start x =
     if slice_index x.1.rest 0 == full_stop then (number start (pass 1 x.1) >>= λ y. Ok (version x.0 y.0, y.1))
-    else refuse fault.VersionDigitOrDotExpected start
+    else refuse_open (is_missing 0 x.1.rest) fault.VersionDigitOrDotExpected start
 
 unfoldable pub version_directive : Marker → Cursor → Result (ReadDirective × Cursor) Refusal
 version_directive start s = number start (pass_all_blanks s) >>= λ x. behind_major start x
@@ -71,19 +71,19 @@ unfoldable pub handle_behind_word : Marker → List ℕ × Cursor → Result (Li
 handle_behind_word start w =
     if slice_index w.1.rest 0 == exclamation_mark then Ok (handle_of w.0, pass 1 w.1)
     else if length w.0 == 0 then Ok (codes "!", w.1)
-    else refuse fault.TagDirectiveHandleEndExpected start
+    else refuse_open (is_missing 0 w.1.rest) fault.TagDirectiveHandleEndExpected start
 
 unfoldable pub handle : Marker → Cursor → Result (List ℕ × Cursor) Refusal
 handle start s =
     if slice_index s.rest 0 == exclamation_mark then handle_behind_word start (with_run is_alpha [] (pass 1 s))
-    else refuse fault.TagHandleStartExpected start
+    else refuse_open (is_missing 0 s.rest) fault.TagHandleStartExpected start
 
 -- a prefix begins with `!` or a character of tags (6.8.2.2)
 unfoldable pub prefix : Marker → Cursor → Result (List ℕ × Cursor) Refusal
 prefix start s =
     if (slice_index s.rest 0 == exclamation_mark) || is_tag_char (slice_index s.rest 0) then
     (uri_character start s >>= λ x. with_front (encode_utf8 x.0) (decoded_at Uri start x.1))
-    else refuse fault.TagPrefixCharacter start
+    else refuse_open (is_missing 0 s.rest) fault.TagPrefixCharacter start
 
 unfoldable pub behind_prefix : Marker → List ℕ → List ℕ × Cursor → Result (ReadDirective × Cursor) Refusal
 behind_prefix start h x =

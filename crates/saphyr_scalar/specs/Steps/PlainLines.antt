@@ -12,8 +12,8 @@ scalar_behind_line in_flow indent start end s =
     next_lines indent start s >>= λ g. next_word_starts in_flow indent g.behind >>= λ b.
     if b.0 then with_text g.text (word in_flow indent start b.1.mark b.1.rest) else scalar_end in_flow end g
 
--- What is read behind a word that ended at `end`: behind a break and the spaces after it, which were taken off, or right
--- where the word ended.
+-- What is read behind a word that ended at `end`: behind a break and the spaces after it, which were taken off, or
+-- right where the word ended.
 abbrev pub scalar_behind_word : Bool → Bool → ℕ → Marker → Marker → Cursor → PlainScalarRead
 scalar_behind_word breaks in_flow indent start end s =
     if breaks then scalar_behind_line in_flow indent start end s else word in_flow indent start s.mark s.rest

@@ -9,7 +9,8 @@ use Rattle.saphyr_scalar.specs.declared.scalar.fault.Refusal.{Refusal}
 use Rattle.saphyr_scalar.specs.declared.scalar.fault.FaultText.TheVariants as fault
 use Rattle.saphyr_scalar.specs.declared.values.Quote.{Quote}
 use Rattle.saphyr_scalar.specs.declared.values.Quote.TheVariants.{Single, Double}
-use Rattle.saphyr_scalar.specs.Views.Cursor.{Cursor, ◌>>=◌, refuse, along, next_line, pass, pass_blanks}
+use Rattle.saphyr_scalar.specs.Views.Cursor.{Cursor, ◌>>=◌, refuse, refuse_open, is_missing, along, next_line, pass, pass_blanks}
+use Rattle.saphyr_scalar.specs.Known.{may_be_open}
 use Rattle.saphyr_scalar.specs.Values.Flow as flow
 pub use Rattle.saphyr_scalar.specs.Spelling.LineBreaks.{break_len}
 pub use Rattle.saphyr_scalar.specs.Spelling.ClosingQuote.{is_closing}
@@ -25,7 +26,7 @@ unfoldable pub digits : Marker → ℕ → ℕ → Cursor → Result (ℕ × Cur
 digits start zero v s = Ok (v, s)
 digits start (suc n) v s =
     if is_hex (slice_index s.rest 0) then digits start n (v * 16 + hex_value (slice_index s.rest 0)) (pass 1 s)
-    else refuse fault.HexadecimalDigitExpected start
+    else refuse_open (is_missing 0 s.rest) fault.HexadecimalDigitExpected start
 
 -- the character of a number
 unfoldable pub character : Marker → ℕ → Cursor → Result (ℕ × Cursor) Refusal
@@ -33,7 +34,7 @@ character start v s = if is_scalar_value v then Ok (v, s) else refuse fault.Esca
 
 -- the character of the digits after an escape's letter, which asks for so many
 unfoldable pub escape_by_number : Marker → Option ℕ → Cursor → Result (ℕ × Cursor) Refusal
-escape_by_number start None s = refuse fault.UnknownEscape start
+escape_by_number start None s = refuse_open (is_missing 1 s.rest) fault.UnknownEscape start
 escape_by_number start (Some n) s = digits start n 0 (pass 2 s) >>= λ x. character start x.0 x.1
 
 unfoldable pub escape_of : Marker → Option ℕ → ℕ → Cursor → Result (ℕ × Cursor) Refusal
@@ -111,15 +112,16 @@ folded_break escaped n = if escaped then line_feeds n else raw_break n
 -- a word or the closing quote on a later line: no document marker is there, and nothing left of the indentation
 unfoldable pub quoted_line : ℕ → Marker → Cursor → Result Cursor Refusal
 quoted_line indent start s =
-    if (s.mark.col == 0) && is_document_indicator s.rest then refuse fault.DocumentIndicatorInsideQuotes start
-    else if is_z (slice_index s.rest 0) then refuse fault.EndInsideQuotes start
-    else if is_left indent s.mark then refuse fault.QuotedIndentation start
+    if (s.mark.col == 0) && is_document_indicator s.rest then
+    refuse_open (may_be_open s.rest) fault.DocumentIndicatorInsideQuotes start
+    else if is_z (slice_index s.rest 0) then refuse_open (may_be_open s.rest) fault.EndInsideQuotes start
+    else if is_left indent s.mark then refuse_open (may_be_open s.rest) fault.QuotedIndentation start
     else Ok s
 
 -- the bytes of a gap before a word or the closing quote
 unfoldable pub end_gap : ℕ → Marker → QuotedGap → Cursor → Result (List ℕ) Refusal
 end_gap indent start (on_line bytes) s =
-    if is_z (slice_index s.rest 0) then refuse fault.EndInsideQuotes start else Ok bytes
+    if is_z (slice_index s.rest 0) then refuse_open true fault.EndInsideQuotes start else Ok bytes
 end_gap indent start (over_lines escaped n) s =
     quoted_line indent start s >>= λ t. Ok (encode_utf8_all (folded_break escaped n))
 
@@ -134,7 +136,7 @@ if_some None f x = x
 -- The text after the quote at `start`: its bytes, and what comes after the closing quote. `gap` comes before it.
 -- The next k characters are taken off already, and m is the place after them.
 unfoldable pub inner_text : Quote → ℕ → Marker → QuotedGap → ℕ → Marker → List ℕ → TextRead
-inner_text quote indent start gap k m [] = refuse fault.EndInsideQuotes start
+inner_text quote indent start gap k m [] = refuse_open true fault.EndInsideQuotes start
 inner_text quote indent start gap zero m (c ∷ cs) =
     if is_blank c then (blank_in indent gap m c >>= λ g. inner_text quote indent start g zero (along m 1) cs)
     else if is_break c then inner_text quote indent start (break_in gap) (pred (break_len (c ∷ cs)))

@@ -8,7 +8,7 @@ use Rattle.saphyr_scalar.specs.declared.scalar.fault.Refusal.{Refusal}
 use Rattle.saphyr_scalar.specs.declared.scalar.fault.FaultText.TheVariants as fault
 use Rattle.saphyr_scalar.specs.declared.scalar.tag.UriSet.{UriSet}
 use Rattle.saphyr_scalar.specs.declared.scalar.tag.UriSet.TheVariants.{Uri, Suffix}
-use Rattle.saphyr_scalar.specs.Views.Cursor.{Cursor, ◌>>=◌, refuse, along, pass}
+use Rattle.saphyr_scalar.specs.Views.Cursor.{Cursor, ◌>>=◌, refuse, refuse_open, is_missing, along, pass}
 use Rattle.saphyr_scalar.specs.Values.Escapes.{is_scalar_value}
 use Rattle.saphyr_scalar.specs.Steps.Quoted.{with_front, with_run, mid_line}
 
@@ -30,7 +30,7 @@ abbrev pub shows_byte : List ℕ → Bool
 shows_byte xs = (slice_index xs 0 == percent_sign) && is_hex (slice_index xs 1) && is_hex (slice_index xs 2)
 
 unfoldable pub escaped_byte : Marker → Cursor → Result (ℕ × Cursor) Refusal
-escaped_byte start s = if shows_byte s.rest then Ok (byte_value s.rest, pass 3 s) else refuse fault.TagEscape start
+escaped_byte start s = if shows_byte s.rest then Ok (byte_value s.rest, pass 3 s) else refuse_open (is_missing 2 s.rest) fault.TagEscape start
 
 -- how many bytes a character has in UTF-8 whose first byte is b, 0 where none has
 unfoldable pub utf8_width : ℕ → ℕ
@@ -122,8 +122,8 @@ with_tag text read = read >>= λ x. Ok (length x.0, (text ++ x.0) ++ x.1, x.2)
 
 -- `!<uri>`: the uri is the suffix
 unfoldable pub verbatim_end : Marker → List ℕ × Cursor → Result TagRead Refusal
-verbatim_end start x = if slice_index x.1.rest 0 == greater_than then Ok ([], x.0, pass 1 x.1) else refuse
-    fault.VerbatimTagEndExpected start
+verbatim_end start x = if slice_index x.1.rest 0 == greater_than then Ok ([], x.0, pass 1 x.1) else
+    refuse_open (is_missing 0 x.1.rest) fault.VerbatimTagEndExpected start
 
 unfoldable pub verbatim_tag : Cursor → Result TagRead Refusal
 verbatim_tag s = decoded_at Uri s.mark (pass 2 s) >>= λ x. verbatim_end s.mark x
@@ -134,7 +134,9 @@ handle_of word = codes "!" ++ word ++ codes "!"
 
 -- a suffix after `!!` or `!word!`, which has a character
 unfoldable pub named_tag : Marker → List ℕ → List ℕ × Cursor → Result TagRead Refusal
-named_tag start word x = if length x.0 == 0 then refuse fault.TagSuffixExpected start else Ok (handle_of word, x.0, x.1)
+named_tag start word x =
+    if length x.0 == 0 then refuse_open (is_missing 0 x.1.rest) fault.TagSuffixExpected start
+    else Ok (handle_of word, x.0, x.1)
 
 unfoldable pub named_tail : Marker → List ℕ → Cursor → Result TagRead Refusal
 named_tail start word s = decoded_at Suffix start s >>= λ x. named_tag start word x

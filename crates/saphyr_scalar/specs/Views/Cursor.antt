@@ -1,7 +1,7 @@
 -- What a reader of characters takes off a text, as functions on the text that remains and the place in it.
 use Rattle.std.specs.Prelude.{ℕ, ◌+◌, ◌-◌, ◌^◌, min, Bool, true, false, ◌&&◌, nat_lt, List, drop, slice_index, Result, Ok, Err, if◌then◌else◌}
 use Rattle.std.specs.List.{prefix_len}
-use Rattle.saphyr_input.specs.Classes.{is_blank, is_break, is_bom, is_yaml_non_break, carriage_return, line_feed}
+use Rattle.saphyr_input.specs.Classes.{is_z, is_blank, is_break, is_bom, is_yaml_non_break, carriage_return, line_feed}
 use Rattle.saphyr_input.specs.Places.{next_2_are, spaces_within}
 use Rattle.saphyr_input.specs.Separation.{separation_len, is_bare_comment, found_blanks}
 use Rattle.saphyr_input.specs.declared.input.SkipTabs.{SkipTabs}
@@ -26,8 +26,17 @@ pub record Cursor : Type 0 where
 abbrev pub start_cursor : List ℕ → Cursor
 start_cursor text = record { rest = text; mark = record { index = 0; line = 1; col = 0 }; blank_so_far = true }
 
+-- The text is refused at a place. Where it is open, what comes behind what came may change that.
+abbrev pub refuse_open : {X : Type 0} → Bool → FaultText → Marker → Result X Refusal
+refuse_open may_change text mark = Err (record { text = text; mark = mark; may_change = may_change })
+
+-- it is refused whatever comes
 abbrev pub refuse : {X : Type 0} → FaultText → Marker → Result X Refusal
-refuse text mark = Err (record { text = text; mark = mark })
+refuse text mark = refuse_open false text mark
+
+-- the text ends before its character n, or has a NUL there
+abbrev pub is_missing : ℕ → List ℕ → Bool
+is_missing n rest = is_z (slice_index rest n)
 
 -- n characters further on the line
 abbrev pub along : Marker → ℕ → Marker

@@ -49,6 +49,7 @@ impl<T: Input> Reader<T> {
             return Err(Stop::Refused(Refusal {
                 text: FaultText::AnchorNameExpected,
                 mark: start,
+                may_change: self.is_missing(0),
             }));
         }
         Ok(())

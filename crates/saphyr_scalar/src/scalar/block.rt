@@ -83,6 +83,7 @@ impl<T: Input> Reader<T> {
             return Err(Stop::Refused(Refusal {
                 text: FaultText::BlockScalarLineIndentation,
                 mark: self.mark,
+                may_change: false,
             }));
         }
         let start = self.mark;

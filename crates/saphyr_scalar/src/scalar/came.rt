@@ -1,7 +1,7 @@
 //! A text of which more comes: whether its end is open, and laws of its readers. What a reader gives is the same
 //! whatever comes, unless it leaves a rest that is open.
 
-ghost use Rattle.std.specs.Prelude.{◌≡◌, ◌≤◌, ℕ, Bool, false, List, Ok, Option};
+ghost use Rattle.std.specs.Prelude.{◌≡◌, ◌<◌, ◌≤◌, ℕ, Bool, false, List, Ok, Option};
 ghost use Rattle.saphyr_scalar.specs.declared.scalar.position.Marker.{Marker};
 ghost use Rattle.saphyr_scalar.specs.Views.Cursor.{Cursor, separation};
 ghost use Rattle.saphyr_scalar.specs.Steps.Anchor.{anchor};
@@ -47,6 +47,7 @@ pub fn reads_what_came()
 
 impl<T: Input> Reader<T> {
     ghost use Rattle.saphyr_scalar.specs.Known.{ends_in_run, may_be_open};
+    ghost use Rattle.saphyr_scalar.specs.Views.Cursor.{is_missing};
     ghost use Rattle.saphyr_scalar.specs.Views.Reader.{cursor_of, loaded};
 
     /// Whether nothing is left, or a beginning of a document marker, or a colon alone. What these are is told by what
@@ -63,6 +64,16 @@ impl<T: Input> Reader<T> {
             '.' => self.ends_in_run('.'),
             _ => false,
         }
+    }
+
+    /// Whether the text ends before its character `n`, or has a NUL there.
+    pub fn is_missing(&mut self, n: usize) -> bool
+        requires { n < 8 }
+        ensures value { result ≡ is_missing n (cursor_of self.old).rest }
+        ensures same { cursor_of self.new ≡ cursor_of self.old }
+    {
+        self.input.lookahead(n + 1);
+        self.input.nth_char_is(n, '\0')
     }
 
     // Whether one to three characters `c` are left, and nothing else.

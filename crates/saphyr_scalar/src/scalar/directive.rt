@@ -55,12 +55,14 @@ impl<T: Input> Reader<T> {
             return Err(Stop::Refused(Refusal {
                 text: FaultText::DirectiveNameExpected,
                 mark: start,
+                may_change: self.is_missing(0),
             }));
         }
         if !is_blank_or_breakz(self.look()) {
             return Err(Stop::Refused(Refusal {
                 text: FaultText::DirectiveNameCharacter,
                 mark: start,
+                may_change: false,
             }));
         }
         Ok(name)
@@ -79,6 +81,7 @@ impl<T: Input> Reader<T> {
                 return Err(Refusal {
                     text: FaultText::VersionNumberTooLong,
                     mark: start,
+                    may_change: false,
                 });
             }
             count += 1;
@@ -90,6 +93,7 @@ impl<T: Input> Reader<T> {
             return Err(Refusal {
                 text: FaultText::VersionNumberExpected,
                 mark: start,
+                may_change: c == '\0',
             });
         }
         self.blank_so_far = false;
@@ -108,6 +112,7 @@ impl<T: Input> Reader<T> {
             return Err(Refusal {
                 text: FaultText::VersionDigitOrDotExpected,
                 mark: start,
+                may_change: self.is_missing(0),
             });
         }
         self.skip_non_blank();
@@ -124,6 +129,7 @@ impl<T: Input> Reader<T> {
             return Err(Stop::Refused(Refusal {
                 text: FaultText::TagHandleStartExpected,
                 mark: start,
+                may_change: self.is_missing(0),
             }));
         }
         let mut handle = self.spare.begin(alloc)?;
@@ -137,6 +143,7 @@ impl<T: Input> Reader<T> {
             return Err(Stop::Refused(Refusal {
                 text: FaultText::TagDirectiveHandleEndExpected,
                 mark: start,
+                may_change: c == '\0',
             }));
         }
         Ok(handle)
@@ -151,6 +158,7 @@ impl<T: Input> Reader<T> {
             return Err(Stop::Refused(Refusal {
                 text: FaultText::TagPrefixCharacter,
                 mark: start,
+                may_change: self.is_missing(0),
             }));
         }
         let c = self.read_uri_character(start)?;
@@ -173,6 +181,7 @@ impl<T: Input> Reader<T> {
             return Err(Stop::Refused(Refusal {
                 text: FaultText::TagDirectiveEndExpected,
                 mark: start,
+                may_change: false,
             }));
         }
         Ok(Directive::TagPrefix(handle, prefix))
@@ -211,6 +220,7 @@ impl<T: Input> Reader<T> {
             return Err(Refusal {
                 text: FaultText::DirectiveEndExpected,
                 mark: start,
+                may_change: false,
             });
         }
         self.skip_line_break();

@@ -28,6 +28,7 @@ impl<T: Input> Reader<T> {
                 return Err(Refusal {
                     text: FaultText::HexadecimalDigitExpected,
                     mark: start,
+                    may_change: c == '\0',
                 });
             }
             self.input.skip();
@@ -54,6 +55,7 @@ impl<T: Input> Reader<T> {
             return Err(Refusal {
                 text: FaultText::UnknownEscape,
                 mark: start,
+                may_change: letter == '\0',
             });
         };
         self.skip_n_non_blank(2);
@@ -63,6 +65,7 @@ impl<T: Input> Reader<T> {
             None => Err(Refusal {
                 text: FaultText::EscapedCodePoint,
                 mark: start,
+                may_change: false,
             }),
         }
     }

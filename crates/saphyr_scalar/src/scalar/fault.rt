@@ -83,7 +83,6 @@ pub enum FaultText {
 }
 
 impl FaultText {
-    ghost use Rattle.saphyr_scalar.specs.Known.{is_seen};
     ghost use Rattle.saphyr_scalar.specs.Texts as spec;
 
     /// The text without the character that some texts show after it.
@@ -195,45 +194,6 @@ impl FaultText {
             FaultText::TextTooLong => "text longer than 4294967295 characters",
         }
     }
-
-    /// Whether characters that were seen tell it, whatever comes behind them.
-    pub fn is_seen(self) -> bool
-        ensures { result ≡ is_seen self }
-    {
-        // In groups, since the proof can't go through all at once: texts and lines, directives and tags, scalars, and
-        // indicators.
-        match self {
-            FaultText::UnprintableCharacter
-            | FaultText::MisplacedByteOrderMark
-            | FaultText::ContentAfterDocumentEnd
-            | FaultText::UnexpectedCharacter(_)
-            | FaultText::TabInBlockIndentation
-            | FaultText::TabAsIndentation
-            | FaultText::CommentWithoutWhitespace => true,
-            FaultText::DirectiveEndExpected
-            | FaultText::DirectiveNameCharacter
-            | FaultText::VersionNumberTooLong
-            | FaultText::TagDirectiveEndExpected
-            | FaultText::TagEndExpected
-            | FaultText::TagEscapeLeadingByte
-            | FaultText::TagEscapeTrailingByte
-            | FaultText::TagEscapeCodePoint => true,
-            FaultText::BlockScalarIndicatorZero
-            | FaultText::BlockScalarHeaderEndExpected
-            | FaultText::BlockScalarTabFirst
-            | FaultText::BlockScalarLineIndentation
-            | FaultText::ContentAfterQuotes
-            | FaultText::EscapedCodePoint
-            | FaultText::PlainDashBeforeFlow
-            | FaultText::TabInsidePlain => true,
-            FaultText::MisplacedBracket
-            | FaultText::RecursionLimit
-            | FaultText::TabNotAllowed
-            | FaultText::ColonBeforeFlow
-            | FaultText::ColonWithoutWhitespace => true,
-            _ => false,
-        }
-    }
 }
 
 impl fmt::Display for FaultText {
@@ -255,6 +215,8 @@ impl fmt::Display for FaultText {
 pub struct Refusal {
     pub text: FaultText,
     pub mark: Marker,
+    /// Whether characters that did not come may change it.
+    pub may_change: bool,
 }
 
 /// Why a text is refused, and where.

@@ -45,6 +45,7 @@ impl<T: Input> Reader<T> {
             return Err(Refusal {
                 text: FaultText::TagEscape,
                 mark: start,
+                may_change: low == '\0',
             });
         }
         self.skip_n_non_blank(3);
@@ -65,6 +66,7 @@ impl<T: Input> Reader<T> {
             _ => Err(Refusal {
                 text: FaultText::TagEscapeTrailingByte,
                 mark: start,
+                may_change: false,
             }),
         }
     }
@@ -99,6 +101,7 @@ impl<T: Input> Reader<T> {
             return Err(Refusal {
                 text: FaultText::TagEscapeLeadingByte,
                 mark: start,
+                may_change: false,
             });
         }
         let value = self.read_trailing_bytes(width - 1, bits, start)?;
@@ -107,6 +110,7 @@ impl<T: Input> Reader<T> {
             _ => Err(Refusal {
                 text: FaultText::TagEscapeCodePoint,
                 mark: start,
+                may_change: false,
             }),
         }
     }

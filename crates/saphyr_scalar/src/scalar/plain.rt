@@ -225,6 +225,7 @@ impl<T: Input> Reader<T> {
             return Err(Stop::Refused(Refusal {
                 text: FaultText::PlainEnd,
                 mark: start,
+                may_change: self.is_at_open_end(),
             }));
         }
         let c = self.read_plain_words(in_flow, text)?;

@@ -307,15 +307,17 @@ impl<T: Input> Reader<T> {
         }
     }
 
-    // A refusal at the place that is reached.
+    // A refusal at the place that is reached, whatever comes.
     #[inline]
     fn refusal(&self, text: FaultText) -> Refusal
         ensures text { result.text ≡ text }
         ensures mark { result.mark ≡ (cursor_of self.now).mark }
+        ensures seen { result.may_change ≡ false }
     {
         Refusal {
             text,
             mark: self.mark,
+            may_change: false,
         }
     }
 }

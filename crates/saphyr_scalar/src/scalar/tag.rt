@@ -143,6 +143,7 @@ impl<T: Input> Reader<T> {
             return Err(Stop::Refused(Refusal {
                 text: FaultText::VerbatimTagEndExpected,
                 mark: start,
+                may_change: self.is_missing(0),
             }));
         }
         self.skip_non_blank();
@@ -162,6 +163,7 @@ impl<T: Input> Reader<T> {
             return Err(Stop::Refused(Refusal {
                 text: FaultText::TagSuffixExpected,
                 mark: start,
+                may_change: self.is_missing(0),
             }));
         }
         Ok(())
@@ -266,6 +268,7 @@ impl<T: Input> Reader<T> {
             return Err(Stop::Refused(Refusal {
                 text: FaultText::TagEndExpected,
                 mark: start,
+                may_change: false,
             }));
         }
         Ok(handle)

@@ -183,7 +183,8 @@ arrival_goes c = given_bind (Goes 0 c.cursor c) (pass_gap c) drop_far_key
 
 pub arrive_advances : (s : State) → Given (FetchesTokens 0 s) (arrive s)
 unfolding arrive
-arrive_advances s = grind (arith, given_bind, advances_advances, given_of, on_core_fetches, arrival_goes, unroll_advances)
+arrive_advances s = grind
+    (arith, given_bind, advances_advances, given_of, on_core_fetches, arrival_goes, unroll_advances)
 
 begin_fetched : (s : State) → s.core.started ≡ false → s.core.ended ≡ false → Given (Fetched s) (Ok (begin s))
 begin_fetched s first going = record {

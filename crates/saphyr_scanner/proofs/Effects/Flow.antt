@@ -301,7 +301,8 @@ bracket_walked x kind bracket c d ends first free there silent may f alike put =
     (λ b2. EndsPair b2 c.level.context → DoesWithin (IsArrival c) (ended b2 (enclosures_of c)) (enclosures_of (f e.1))
     None 1 1 b (f e.1) (up_to_here c.cursor.mark kind e.1 ∷ []) → Does (IsArrival c) None 1 5 c (f e.1)
     (flow.behind_pair b2 c.cursor.mark (up_to_here c.cursor.mark kind e.1)))
-    (λ _ pair last. at_most (omega arith) (and_then (λ n. n) forgets (and_then (λ n. n) (pair_end c (pair refl) other) last)))
+    (λ _ pair last. at_most (omega arith)
+    (and_then (λ n. n) forgets (and_then (λ n. n) (pair_end c (pair refl) other) last)))
     (λ _ _ last. at_most (omega arith) (and_then (λ n. n) forgets last)) may token)
   where
     pair_flows : (x : Context) → IsTrue (may_end_pair (enclosure_of x)) → is_block x ≡ false
@@ -352,7 +353,8 @@ end_does i kind b counts leaves ends c may close first =
     encloses (m.encloses (outside_of c).columns ∙ sym (left_ended ends (enclosures_of c)) ∙ sym (out.encloses within))
     (left within (with_key None c) l ls t u n j
     (record { above = m.above; keys = m.keys; root = m.root; fewer = m.fewer; encloses = m.encloses }) b.quiet
-    (counts span some) out.depth (close span some (outside_of c) inside) b.no_end b.other_kind out.plain out.no_node inside
+    (counts span some) out.depth (close span some (outside_of c) inside) b.no_end b.other_kind out.plain
+    out.no_node inside
     (λ a. let i = least_reached c.deeper c.indent c.cursor.mark.col a.3 in omega (arith, i, right)) r) in
     by_test (is_block l.context) _ _ Closes (λ _. closes c.adjacent (inl refl))
     (λ _. closes u.mark.index (inr (refl, out.ends_json))))))
@@ -398,7 +400,8 @@ entry_does c first =
     (and_then (λ n. n) (quiet_within within 1 b (bracket_piece tokens.FlowEntry c u) u
     (record { context = behind_entry x; key = None }) true (entry_block x) refl refl (λ y. refl) (λ e. refl) refl
     refl (λ _. entry_fits x (outside_of c) (bracket_piece tokens.FlowEntry c u).span) (λ i. absurd (cc)) refl
-    (entry_fronts tokens.FlowEntry (bracket_piece tokens.FlowEntry c u).span b (turned u) refl refl) (λ _ _ f. absurd (cc)) r)
+    (entry_fronts tokens.FlowEntry (bracket_piece tokens.FlowEntry c u).span b (turned u) refl refl)
+    (λ _ _ f. absurd (cc)) r)
     (lesser (enclosures_behind tokens.FlowEntry (bracket_piece tokens.FlowEntry c u).span within)
     (turned u) (with_cursor u d) (record { block = refl; key = inr refl }) refl
     (λ n. n) (taken.nothing u.mark u.rest) (λ _. (

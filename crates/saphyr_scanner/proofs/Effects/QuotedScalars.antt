@@ -93,7 +93,8 @@ goes_on_outside start c b h = grind arith
 break_passed : (m : Marker) (t : List ℕ) (n : Marker) (u : List ℕ) → IsPassedOver m t n u
     → is_break (slice_index t 0) ≡ true → IsTrue (begins_text (slice_index u 0)) → m.line ≤ top → n.line < top
     → m.line < n.line
-break_passed u0 u1 u2 u3 u4 e b low small = grind (arith, break_begins_no_text, clash, blank_no_break, apart_later, drop)
+break_passed u0 u1 u2 u3 u4 e b low small = grind
+    (arith, break_begins_no_text, clash, blank_no_break, apart_later, drop)
 
 -- from a character on the text goes on right of it, on its line
 character_right : (c : ℕ) (m : Marker) (t : List ℕ) (n : Marker) (u : List ℕ) → IsPassed m t n u
@@ -108,7 +109,8 @@ quotes_end : (i : ℕ) (s x u v : Cursor) (j : ℕ) (quote : Quote) → slice_in
     → s.mark.line < top → v.mark.line < top → v.mark.line ≡ u.mark.line
     → IsTrue (is_breakz (slice_index u.rest 0)) ⊎ (s.mark.line ≡ u.mark.line)
     → (j ≤ v.mark.col) ⊎ BeginsNoNode v.rest
-quotes_end i s x u v j quote first unbroken passed less o apart begins same deep low small line u0 = grind (arith, apart_later, on_line_same, character_right, or_cases, break_passed, end_stays)
+quotes_end i s x u v j quote first unbroken passed less o apart begins same deep low small line u0 = grind
+    (arith, apart_later, on_line_same, character_right, or_cases, break_passed, end_stays)
 
 -- A quoted scalar puts its token behind three readings: of the scalar, of what separates it on its line from what
 -- comes next (`separate`), and of the gap behind that. Each begins at a place that the one before reached (`there`,
@@ -151,8 +153,10 @@ quotes_do quote n c first l r s =
     let p = passed_later here.mark here.rest x.1.mark x.1.rest (laws.quotes quote low here x.1 x.0 first e).3 in
     let z = p.lines (let small = arrival.2 in omega (arith, small)) in (z.1, z.0) in
     saved n c (scalar.adjacent_here f) t (rw (same, k.0.3 ∙ g.0.3) s)
-    (ap (λ (a : Around). record a { adjacent = c.adjacent }) (k.0.1 ∙ g.0.1)) (inr (refl, (quoting quote).ends_json x.0 t.span))
-    (λ m. inl (k.0.2 (g.0.2 m))) ((quoting quote).quiet x.0) (neutral _ t.span refl) (quoting quote).flow (λ i. absurd (cc))
+    (ap (λ (a : Around). record a { adjacent = c.adjacent }) (k.0.1 ∙ g.0.1))
+    (inr (refl, (quoting quote).ends_json x.0 t.span))
+    (λ m. inl (k.0.2 (g.0.2 m))) ((quoting quote).quiet x.0) (neutral _ t.span refl) (quoting quote).flow
+    (λ i. absurd (cc))
     (λ arrival laws allowed small.
     let p = past arrival laws in
     let line = on_line_same x.1 u g.1 in

@@ -60,7 +60,8 @@ no_literal b x y e f g = grind arith
 -- where no indicator is a plain scalar may begin
 pub plain_start : (first second : ℕ) (c : Core) → slice_index c.cursor.rest 0 ≡ first
     → slice_index c.cursor.rest 1 ≡ second → NoIndicator first second c → PlainStart (not (in_block c)) c.cursor
-plain_start first second c f g n = grind (arith, or_parts, no_sign, no_indicator_begins_plain, ne_eqb, no_second, no_literal)
+plain_start first second c f g n = grind
+    (arith, or_parts, no_sign, no_indicator_begins_plain, ne_eqb, no_second, no_literal)
 
 -- A plain scalar puts its token, which may begin a key (`saved`). Where it ends and whether a key may follow comes
 -- from `plain_ends`, and that no indicator begins it from the choice of this step (`starts`). The rest comes from the

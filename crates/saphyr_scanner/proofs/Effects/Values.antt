@@ -308,7 +308,8 @@ alone_does b c d x t none =
     ((if f then at_mark s.mark tokens.FlowMappingStart ∷ [] else []) ++ Starts further))
     (λ e. and_then (λ n. n)
     (pair_begins own outside c free_key (ap (λ (l : Level). is_block l.context) (sym g.0.0) ∙ t.flows e)
-    (pair_may_begin x e) (ap begins_pair t.context ∙ colon_pair x ∙ e) t.first) (value w place.PairKey (behind_pair x e) (λ _. refl)))
+    (pair_may_begin x e) (ap begins_pair t.context ∙ colon_pair x ∙ e) t.first)
+    (value w place.PairKey (behind_pair x e) (λ _. refl)))
     (λ e. at_most (omega arith) (value w own (behind_alone x e) (flow_brackets x))))
   where
     pair_begins : (e : Enclosure) (outside : Outside) (c : Core) → c.level.key ≡ None → in_block c ≡ false
@@ -318,11 +319,13 @@ alone_does b c d x t none =
     pair_begins e outside c none flows may pair first =
         let t = empty_piece c.cursor.mark tokens.FlowMappingStart in
         let no = no_text c.cursor.mark.index in
-        and_then (λ n. n) (encloses (rw no refl) (quiet_within (free e outside) 0 c t c.cursor c.level c.key_allowed refl
+        and_then (λ n. n) (encloses (rw no refl)
+        (quiet_within (free e outside) 0 c t c.cursor c.level c.key_allowed refl
         none refl
         (λ x. ap (λ (y : Collections). y.brackets) (pair_starts c.cursor.mark x)) (λ x. rw no refl) no none
         (λ _. rw no may) (λ i. absurd (cc)) refl (pair_fronts t.span c c (pair, none) first)
-        (λ _ b. absurd (let no = flows in cc)) (empty_reading c tokens.FlowMappingStart (λ _. inr (refl, inl refl, refl)))))
+        (λ _ b. absurd (let no = flows in cc))
+        (empty_reading c tokens.FlowMappingStart (λ _. inr (refl, inl refl, refl)))))
         (still_within (free place.PairKey outside) c c (same c) refl (λ _. ((λ a. inl a), (λ h. h), λ front h. h)))
 
 either_does : (b c d : Core) (x : Context) (o : Option Candidate) → d.level.key ≡ o → Turned b x c d

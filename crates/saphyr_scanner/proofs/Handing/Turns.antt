@@ -1,10 +1,10 @@
 -- A token is handed out, and what remains.
 use Rattle.std.proofs.Common.{◌≡◌, ℕ, suc, ◌+◌, ◌<◌, ◌^◌, Bool, true, false, List, [], ◌∷◌, Result, Ok, Err, refl, sym, ap, subst, ◌∙◌, arith}
-use Rattle.std.specs.Prelude.{◌&&◌, not, Option, Some, None}
+use Rattle.std.specs.Prelude.{◌&&◌, not, Option, Some, None, OnErr}
 use Rattle.saphyr_scalar.specs.declared.scalar.fault.Refusal.{Refusal}
 use Rattle.saphyr_scalar.specs.declared.scalar.fault.Stop.{Stop}
 use Rattle.saphyr_scalar.specs.declared.scalar.fault.Stop.TheVariants as stops
-use Rattle.saphyr_scalar.specs.Views.Reader.{Fails}
+use Rattle.saphyr_scalar.specs.Views.Reader.{Fails, Moves}
 use Rattle.saphyr_scanner.specs.declared.stopped.Stopped.{Stopped}
 use Rattle.saphyr_scanner.specs.declared.token.TokenKind.{TokenKind}
 use Rattle.saphyr_scanner.specs.declared.queue.Opening.{Opening}
@@ -12,7 +12,9 @@ use Rattle.saphyr_scanner.specs.declared.queue.Opening.TheVariants as opening
 use Rattle.saphyr_scanner.specs.Grammar.Tokens as tokens
 use Rattle.saphyr_scanner.specs.Grammar.Tokens.{Kind}
 use Rattle.saphyr_scanner.specs.Views.Queue.{first_of, kind_shown}
-use Rattle.saphyr_scanner.specs.Views.Scanning.{EndsTokens, IsReady, PeeksToken, Readies, Scanning, text_in, tokens_in, tokens_over}
+use Rattle.saphyr_scanner.specs.Views.Scanning.{Drops, EndsTokens, IsReady, PeeksToken, Readies, Scanning, is_decided, is_growing, text_in, tokens_in, tokens_over}
+use Rattle.saphyr_scanner.specs.Views.Engine.{stopped_by}
+use Rattle.std.proofs.Math.Bool.{not-not}
 use Rattle.saphyr_scanner.specs.Views.Tokens.{BeginsWith, Parts, Piece, Remaining, none, before, refusal_alone, kind_with, no_parts, piece_with, text_parts, token_kind}
 use Rattle.saphyr_scanner.specs.Steps.Queue.{Place}
 use Rattle.saphyr_scanner.specs.Steps.Core.{Core, drop_far_key}
@@ -227,23 +229,30 @@ tokens_stay old t e more =
     ∙ remaining_of old.limit (with_rest x t) (settled_once (with_rest x old.state) (with_rest x t) gone)
     ∙ sym (remaining_is old.limit (with_rest x old.state) (with_rest x t) gone)
 
--- That which must be a key has no colon, whatever comes.
-pub tokens_end : (old : Scanning) (e : Refusal) → without_far_key old.state ≡ Err e → (more : List ℕ)
-    → tokens_in more old ≡ refusal_alone e
-unfolding remaining tokens_over tokens_in
-tokens_end old e h more =
-    rw (far_refused (text_in old.growth more old.state.core.cursor.rest) old.state e h) refl
+pub stays_so : (old new : Scanning) → Drops old new → (more : List ℕ) → tokens_in more new ≡ tokens_in more old
+unfolding tokens_over tokens_in
+stays_so old new drops more = cc (tokens_stay old new.state drops.0 more, drops.1, drops.2)
 
--- What ends the tokens where a candidate is too far ends them, whatever comes.
-pub refuses_far : (old seen new : Scanning) → old ≡ seen → Fails new.stop (without_far_key old.state)
-    → (more : List ℕ) → EndsTokens new.stop (tokens_in more seen)
-refuses_far old seen new same fails =
-    λ more. subst (λ s. EndsTokens new.stop (tokens_in more s)) same (by new.stop fails
-    more)
+-- That which must be a key has no colon, whatever comes.
+pub tokens_end : (old : Scanning) (e : Refusal) → (is_growing old.growth ≡ true → e.may_change ≡ false)
+    → without_far_key old.state ≡ Err e → (more : List ℕ) → tokens_in more old ≡ refusal_alone e
+unfolding remaining tokens_over tokens_in
+tokens_end old e seen h more = rw (far_refused old.growth more old.state e seen h) refl
+
+-- What ends the tokens where a candidate is too far ends them so, whatever comes, unless more comes and it is undecided.
+pub refuses_far : (old seen new : Scanning) (r : Result Unit Stopped) (rest : List ℕ) → old ≡ seen
+    → (is_growing old.growth ≡ true → is_decided r rest new.stop ≡ true)
+    → Moves (λ _. new.state) (stopped_by r new.stop) (without_far_key old.state)
+    → OnErr r ((more : List ℕ) → EndsTokens new.stop (tokens_in more seen))
+refuses_far old seen new (Ok u) rest same decided drops = tt
+refuses_far old seen new (Err u) rest same decided fails =
+    λ more. subst (λ s. EndsTokens new.stop (tokens_in more s)) same (by new.stop decided fails more)
   where
-    by : (end : Stop) → Fails end (without_far_key old.state) → (more : List ℕ) → EndsTokens end (tokens_in more old)
-    by stops.OutOfMemory f more = tt
-    by (stops.Refused d) f more = tokens_end old d f more
+    by : (end : Stop) → (is_growing old.growth ≡ true → is_decided (Err u) rest end ≡ true)
+        → Fails end (without_far_key old.state) → (more : List ℕ) → EndsTokens end (tokens_in more old)
+    by stops.OutOfMemory decided f more = tt
+    by (stops.Refused d) decided f more =
+        tokens_end old d (λ grows. sym (not-not d.may_change) ∙ ap not (decided grows)) f more
 
 -- Where the tokens are the same, what is read on is so from before.
 pub readies_from : (r : Result Unit Stopped) (old seen new : Scanning)

@@ -57,7 +57,8 @@ pub settled_is : (s : State) → IsSettled s → without_far_key s ≡ Ok s
 settled_is s e = rw e refl
 
 -- what is read first changes nothing
-pub hand_nothing : (s : State) (ps : List Place) (go : State → Remaining) → needs_token s ≡ true → hand_out ps go s ≡ go s
+pub hand_nothing : (s : State) (ps : List Place) (go : State → Remaining) → needs_token s ≡ true
+    → hand_out ps go s ≡ go s
 hand_nothing s [] go needs = refl
 hand_nothing s (p ∷ ps) go needs = rw needs refl
 

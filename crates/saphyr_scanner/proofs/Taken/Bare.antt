@@ -1,5 +1,5 @@
--- No single pair has properties: inside `[` a key may begin with an entry, and where properties begin the entry they are
--- the key's, or what comes is no colon.
+-- No single pair has properties: inside `[` a key may begin with an entry, and where properties begin the entry they
+-- are the key's, or what comes is no colon.
 use Rattle.saphyr_scanner.proofs.Common.{◌≡◌, ℕ, zero, suc, ◌<◌, ◌⊎◌, Bool, true, false, List, [], ◌∷◌, ◌++◌, None, refl, sym, ap, ◌∙◌, arith, subst, inl, inr, IsTrue, IsFalse, slice_index, codes, Span, Cursor, Context, Opening, Piece}
 use Rattle.saphyr_input.specs.Classes.{is_one_of}
 use Rattle.saphyr_scanner.specs.declared.queue.Opening.TheVariants as opening

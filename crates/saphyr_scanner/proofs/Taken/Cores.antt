@@ -201,7 +201,8 @@ quiet_put within opened from c d q t here behind e f depth other none fit parted
       let all = opened.enclosures in
       keys_of all (next (with_piece t q)) (with_piece t q) c.indent d.indent d.level d.level c.outer d.outer l.indent
       refl l.outer (keys_lesser all (next (with_piece t q)) (with_piece t q) c.indent c.level d.level c.outer
-      (record { block = l.block; key = inl l.key }) (keys_weaken all 0 (next q) (next (with_piece t q)) (with_piece t q) c.indent (c.level ∷ c.outer)
+      (record { block = l.block; key = inl l.key })
+      (keys_weaken all 0 (next q) (next (with_piece t q)) (with_piece t q) c.indent (c.level ∷ c.outer)
       (omega (arith, next_put t q)) (keys_put all 0 0 (next q) q c.indent (c.level ∷ c.outer) t e
       (keeps_depth t c.level c.outer (inl none) depth) h.keys)));
 }

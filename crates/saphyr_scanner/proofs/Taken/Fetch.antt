@@ -152,7 +152,8 @@ begin_read opened from s going none at h l = record {
         (empty_piece s.core.cursor.mark tokens.StreamStart) s.core.cursor s.core.cursor (taken.nothing _ _)
         (λ _ _. (at, (refl, inl refl, refl))) (taken.nothing _ _) (λ cs k. (k.0, k.1)) (inl refl) refl
         (unbound_parted (empty_piece s.core.cursor.mark tokens.StreamStart) s.core (record s.core { started = true })
-        refl (plain_fronts _ s.core (record s.core { started = true }) refl)) h.right (indented_put opened.enclosures s.core (record s.core { started = true }) s.queue
+        refl (plain_fronts _ s.core (record s.core { started = true }) refl)) h.right
+        (indented_put opened.enclosures s.core (record s.core { started = true }) s.queue
         (empty_piece s.core.cursor.mark tokens.StreamStart)
         (no_node_fits opened.enclosures s.queue (empty_piece s.core.cursor.mark tokens.StreamStart) refl)
         (record { required = refl; root = λ _. refl; block = refl }) (λ w. w.past)) h;

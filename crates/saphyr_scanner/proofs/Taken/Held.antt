@@ -103,7 +103,8 @@ keeps_put : (i : Surroundings) (c d : Core) (t : Piece) (here behind : Cursor) (
     → i.in_flow ≡ nat_lt 0 (length c.outer) → opened.brackets ≡ length c.outer
     → (open_behind t.kind t.span opened).brackets ≡ length d.outer → Adjoins t c d → KeepsPlace opened.ends_json c
     → KeepsPlace (open_behind t.kind t.span opened).ends_json d
-keeps_put i c d t here behind opened a is b flows before after adjoins k = grind (arith, apart_later, token_later, ltb-false, token_goes_on)
+keeps_put i c d t here behind opened a is b flows before after adjoins k = grind
+    (arith, apart_later, token_later, ltb-false, token_goes_on)
 
 -- ## The tokens
 
@@ -374,5 +375,6 @@ taken_put within opened from c d q t here behind a known b o adjoins f parted ri
     put_fits within now t c d e f parted past =
         let P : Enclosures → Type 0 = λ x. FitsWithin x t in
         let Q : ℕ → Type 0 = λ m. IsPast now.begun (in_block c) m in
-        calmed_fits now.begun (in_block c) t.kind t.span (fits_at now.inner.enclosure now.inner.key now.columns t.kind t.span)
+        calmed_fits now.begun (in_block c) t.kind t.span
+        (fits_at now.inner.enclosure now.inner.key now.columns t.kind t.span)
         (subst P (sym e) f) (λ b. let w = parted.0 b in subst Q (sym w.1) (past w.0 w.2))

@@ -185,7 +185,8 @@ pub taken_open : (e : Enclosure) (outside : Outside) (opened : Setting) (from : 
     → ((open_now : Collections) → Stands open_now c → Stands (column_of o k.mark.col open_now) d)
     → (IsRight c → IsRight d) → OpensKey c d k → TakenWithin (free e outside) opened from c q
     → TakenWithin (awaited o k.mark (free e outside)) opened from d (with_opening k.place o q)
-taken_open e outside opened from c d q b block k o x f flow before behind near right left outer m there allowed levels stays s on opens h =
+taken_open e outside opened from c d q b block k o x f flow before behind near right left outer m there allowed levels
+    stays s on opens h =
     let n : k.place - q.handed ≡ length x.front = omega (arith, x.at) in
     let now : (with_opening k.place o q).places ≡ x.front ++ place_with_front o x.token ∷ x.back =
     cc (with_opening_there o x.front (bare_place x.token) x.back) in

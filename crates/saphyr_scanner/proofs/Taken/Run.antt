@@ -189,8 +189,15 @@ delivers_taken : (text : List ℕ) (opened : Setting) (from : Cursor) (r : Resul
     (go : State → Remaining) → ((t : State) → r ≡ Ok t → FollowsTaken text opened from (go t))
     → ((e : Refusal) → r ≡ Err e → IsPlaceOf text e.mark) → FollowsTaken text opened from (remaining_after r go)
 delivers_taken text opened from (Ok t) go h k = h t refl
-delivers_taken text opened from (Err e) go h k =
-    (from, refl, tt, tt, tt, (λ i. absurd (cc)), (λ f i. k f (let same : e ≡ f = cc in ap (λ (x : Refusal). Err x) same)))
+delivers_taken text opened from (Err e) go h k = (
+  from,
+  refl,
+  tt,
+  tt,
+  tt,
+  (λ i. absurd (cc)),
+  (λ f i. k f (let same : e ≡ f = cc in ap (λ (x : Refusal). Err x) same)),
+)
 
 -- the laws of the readers
 pub record AllLaws : Type 0 where

@@ -183,7 +183,8 @@ block_fetched laws text small opened from q style c d l s stays allowed arrival 
           (taken_put (enclosures_of c) opened from c e2 q piece c.cursor x.2 (taken.nothing _ _)
           (λ i _. rw none (block_token style c.indent i x.0 x.1 c.cursor x.2 is)) (taken.nothing _ _)
           (λ cs k. stands_same cs c e2 s.indent s.outer_indents (ap length s.outer) k) (inl stays) refl
-          (unbound_parted piece c e2 (rw (no_flow_style style) refl) (plain_fronts piece c e2 refl)) (λ _ f. absurd (cc))
+          (unbound_parted piece c e2 (rw (no_flow_style style) refl) (plain_fronts piece c e2 refl))
+          (λ _ f. absurd (cc))
           (saved_indented opened from c d e2 q piece s refl refl arrival
           (λ n. absurd (let f = no_flow_style style in cc)) (λ _ _ _. p.line arrival.2) h) h.taken);
       live = λ _. elim (p.line arrival.2) [ inl less ↦ by d.level.key refl less | inr z ↦ inl (λ nz. absurd (cc)) ];

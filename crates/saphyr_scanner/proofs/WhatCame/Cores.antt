@@ -8,7 +8,8 @@ use Rattle.saphyr_scanner.specs.Steps.Queue.{Queue}
 use Rattle.saphyr_scanner.specs.Steps.Passing.{with_cursor, pass_on, separate}
 use Rattle.saphyr_scanner.specs.Steps.State.{State, on_core, on_core_with, after_step}
 use Rattle.saphyr_scalar.specs.Known.{is_open, longer}
-use Rattle.saphyr_scalar.proofs.WhatCame.Steps.{Left, CameAs, Sure, refused, stays, choose, choose_given, and_then, on, mapped}
+use Rattle.saphyr_scalar.proofs.WhatCame.Steps.{Left, CameAs, Came, Sure, open_refused, missing_refused, stays, choose, choose_given, and_then, on, mapped}
+use Rattle.saphyr_scalar.proofs.WhatCame.Rests.{is_nothing, lacks}
 use Rattle.saphyr_scalar.proofs.WhatCame.Runs.{taken, separation_came}
 use Rattle.saphyr_scanner.specs.Longer.{extended_by}
 
@@ -49,16 +50,18 @@ module _ (more : List ℕ) where
         (Ok (roll column c)) (Ok (roll column (longer_core more c)))
     roll_came column = choose_given (is_further column c) (λ _. stays) (λ _. stays)
 
-    pub remove_came : CameAs asks says (cores_at n) more (drop n c.cursor.rest)
+    pub remove_came : (is_nothing (drop 3 c.cursor.rest) ≡ false → lacks says (drop n c.cursor.rest) ≡ false)
+        → CameAs asks says (cores_at n) more (drop n c.cursor.rest)
         (remove_key c) (remove_key (longer_core more c))
     unfolding remove_key
-    remove_came = choose (in_block c && c.required) (λ _. refused refl) (λ _. stays)
+    remove_came known =
+        choose (in_block c && c.required) (λ _. missing_refused 3 c.cursor.rest known) (λ _. stays)
 
-    pub far_came : CameAs asks says (cores_at n) more (drop n c.cursor.rest)
-        (drop_far_key c) (drop_far_key (longer_core more c))
-    unfolding drop_far_key
-    far_came = choose (not (in_block c && is_too_far c.level.key c.cursor.mark)) (λ _. stays)
-        (λ _. choose c.required (λ _. refused refl) (λ _. stays))
+  pub far_came : (c : Core)
+      → Came cores more c.cursor.rest (drop_far_key c) (drop_far_key (longer_core more c))
+  unfolding drop_far_key
+  far_came c = choose (not (in_block c && is_too_far c.level.key c.cursor.mark)) (λ _. stays)
+      (λ _. choose c.required (λ _. open_refused) (λ _. stays))
 
   -- ## Characters that are passed
 

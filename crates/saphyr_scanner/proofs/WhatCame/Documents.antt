@@ -10,7 +10,7 @@ use Rattle.saphyr_scanner.specs.Steps.Core.{Core, in_block}
 use Rattle.saphyr_scanner.specs.Steps.State.{State}
 use Rattle.saphyr_scanner.specs.Steps.Unrolling.{is_right_of, with_outer_indent, end_block, end_blocks, unroll}
 use Rattle.saphyr_scanner.specs.Steps.Document.{end_content, end_mark, end_at, state_behind_end, put_passed, state_behind_marker, end_line, state_behind_document_end, pass_mark, state_behind_byte_order_mark, read_directive, state_behind_directive, finish, remove_key_of}
-use Rattle.saphyr_scalar.proofs.WhatCame.Rests.{is_nothing, shows, later_drop, drop_known}
+use Rattle.saphyr_scalar.proofs.WhatCame.Rests.{is_nothing, shows, some_of_four, later_drop, drop_known}
 use Rattle.saphyr_scalar.proofs.WhatCame.Steps.{CameAs, Sure, further, reports, refused, stays, leaves, choose, choose_first, choose_at, choose_given, and_then, on}
 use Rattle.saphyr_scalar.proofs.WhatCame.Directives.{directive_came}
 use Rattle.saphyr_scanner.specs.Longer.{extended_by}
@@ -50,11 +50,11 @@ module _ (more : List ℕ) where
     unroll_came (Some column) m s = choose_given (in_block s.core)
         (λ _. ends_came (Some column) m s.core.outer_indents _) (λ _. stays)
 
-  content_came : (n : ℕ) (s : State) → Sure (states_at n) more (drop n s.core.cursor.rest)
-      (end_content s) (end_content (extended_by more s))
+  content_came : (n : ℕ) (s : State) → ((r : List ℕ) → is_nothing (drop 3 r) ≡ false → is_nothing (drop n r) ≡ false)
+      → Sure (states_at n) more (drop n s.core.cursor.rest) (end_content s) (end_content (extended_by more s))
   unfolding end_content
-  content_came n s = on remove_key_of (unroll_came n None s.core.cursor.mark s)
-      (core_came more n _ _ _ (remove_came more n _))
+  content_came n s few = on remove_key_of (unroll_came n None s.core.cursor.mark s)
+      (core_came more n _ _ _ (remove_came more n _ (few _)))
 
   -- ## The end of the stream
 
@@ -83,7 +83,7 @@ module _ (more : List ℕ) where
   pub marker_came : (kind : Kind) (s : State) → Sure states more (drop 3 s.core.cursor.rest)
       (state_behind_marker kind s) (state_behind_marker kind (extended_by more s))
   unfolding state_behind_marker
-  marker_came kind s = and_then _ (content_came 3 s)
+  marker_came kind s = and_then _ (content_came 3 s (λ _ left. left))
       (λ t _. on (λ c. Ok (put_passed t.core.cursor.mark kind (record c { key_allowed = false }) t))
       (pass_came more 3 t.core) stays)
 
@@ -103,7 +103,7 @@ module _ (more : List ℕ) where
   unfolding state_behind_byte_order_mark
   byte_order_came s mark = choose (nat_lt 0 s.core.cursor.mark.col || not (in_block s.core))
       (λ _. reports (shows is_bom true s.core.cursor.rest mark (λ e. absurd (cc))))
-      (λ _. and_then _ (content_came 0 s) (λ t _. on (λ c. Ok (put_passed s.core.cursor.mark tokens.ByteOrderMark c t))
+      (λ _. and_then _ (content_came 0 s some_of_four) (λ t _. on (λ c. Ok (put_passed s.core.cursor.mark tokens.ByteOrderMark c t))
       (mark_came t.core) stays))
 
   -- ## Directives
@@ -116,5 +116,5 @@ module _ (more : List ℕ) where
   pub directive_state_came : (s : State)
       → Sure states more s.core.cursor.rest (state_behind_directive s) (state_behind_directive (extended_by more s))
   unfolding state_behind_directive
-  directive_state_came s = and_then _ (content_came 0 s) (λ t _. further (later_drop 1 _)
+  directive_state_came s = and_then _ (content_came 0 s some_of_four) (λ t _. further (later_drop 1 _)
       (after_came more _ _ t.queue (read_came t.core)))

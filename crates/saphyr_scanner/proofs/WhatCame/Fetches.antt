@@ -12,7 +12,7 @@ use Rattle.saphyr_scanner.specs.Steps.State.{State}
 use Rattle.saphyr_scanner.specs.Steps.Fetch.{is_value_adjacent, flow_value_steps, step, state_behind_content, fetch_here, arrive, fetch, fetch_within, state_behind_token}
 use Rattle.saphyr_scalar.specs.Known.{is_open}
 use Rattle.saphyr_scalar.proofs.WhatCame.Rests.{is_nothing, some, shown, shows_second, nul_shown, colon_shown, entry_shown, four_shown, known_longer, later_here, later_drop, first_known, second_known, start_known, end_known}
-use Rattle.saphyr_scalar.proofs.WhatCame.Steps.{Came, CameAs, Sure, known_by, reports, refused, stays, same_step, choose, choose_first, choose_at, choose_same, and_known}
+use Rattle.saphyr_scalar.proofs.WhatCame.Steps.{Came, CameAs, Sure, known_by, reports, open_refused, stays, same_step, choose, choose_first, choose_at, choose_same, and_known}
 use Rattle.saphyr_scanner.specs.Longer.{extended_by}
 use Rattle.saphyr_scanner.proofs.WhatCame.Cores.{longer_core, steps, states, far_came, core_came, after_came, seen_behind}
 use Rattle.saphyr_scanner.proofs.WhatCame.Gaps.{pass_gap_came}
@@ -126,12 +126,12 @@ module _ (more : List ℕ) where
       (λ _. known_by (later_drop 3 r) (four_shown r) (marker_came more tokens.DocumentStart s))
       (λ _. choose_at (λ t. at_start && is_document_end t) (λ known. ap (λ b. at_start && b) (end_known more r known))
       (λ _. known_by (later_drop 3 r) (four_shown r) (document_end_came more s))
-      (λ _. choose (nat_lt s.core.cursor.mark.col (least_column s.core)) (λ _. refused refl) (λ _. content_came s))))))
+      (λ _. choose (nat_lt s.core.cursor.mark.col (least_column s.core)) (λ _. open_refused) (λ _. content_came s))))))
 
   arrive_came : (s : State) → Came states more s.core.cursor.rest (arrive s) (arrive (extended_by more s))
   unfolding arrive
   arrive_came s = and_known _ (core_came more 0 _ _ s.queue (and_known _ (pass_gap_came more s.core)
-      (λ c _. far_came more 0 c))) (λ t _. unroll_came more 0 (Some t.core.cursor.mark.col) t.core.cursor.mark t)
+      (λ c _. far_came more c))) (λ t _. unroll_came more 0 (Some t.core.cursor.mark.col) t.core.cursor.mark t)
 
   pub fetch_came : (s : State) → Came states more s.core.cursor.rest (fetch s) (fetch (extended_by more s))
   unfolding fetch
@@ -142,8 +142,8 @@ module _ (more : List ℕ) where
       → Came states more s.core.cursor.rest (fetch_within limit s) (fetch_within limit (extended_by more s))
   unfolding fetch_within
   within_came limit s = and_known _ (fetch_came s)
-      (λ t _. choose (nat_le t.core.cursor.mark.index limit) (λ _. stays) (λ _. refused refl))
+      (λ t _. choose (nat_le t.core.cursor.mark.index limit) (λ _. stays) (λ _. open_refused))
 
   pub token_came : (limit : ℕ) (s : State)
       → Came states more s.core.cursor.rest (state_behind_token limit s) (state_behind_token limit (extended_by more s))
-  token_came limit s = and_known _ (within_came limit s) (λ t _. core_came more 0 _ _ t.queue (far_came more 0 t.core))
+  token_came limit s = and_known _ (within_came limit s) (λ t _. core_came more 0 _ _ t.queue (far_came more t.core))

@@ -1,5 +1,5 @@
 -- What is between two tokens.
-use Rattle.std.proofs.Common.{◌≡◌, ℕ, Bool, true, false, List, [], ◌∷◌, ◌++◌, Option, Result, Ok, refl, arith}
+use Rattle.std.proofs.Common.{◌≡◌, ℕ, Bool, true, false, List, [], ◌∷◌, ◌++◌, Option, Some, None, Result, Ok, refl, arith}
 use Rattle.std.specs.Prelude.{◌&&◌, ◌||◌, ◌==◌, not}
 use Rattle.saphyr_input.specs.Classes.{is_bom, is_z, is_yaml_non_break}
 use Rattle.saphyr_input.proofs.Basics.Booleans.{and_true_left, either}
@@ -11,7 +11,7 @@ use Rattle.saphyr_scanner.specs.Steps.Gap.{Gap, GapEnd, SpacesEnd, stop, gap_her
 use Rattle.saphyr_scanner.specs.Steps.Passing.{goes_on_behind, check_comment_of, check_comment, behind_gap, pass_gap}
 use Rattle.saphyr_scalar.specs.Known.{is_open, longer}
 use Rattle.saphyr_scalar.proofs.WhatCame.Rests.{some, InText, later_than, known_before, shown, later_here, later_on, first_known, indicator_known, plain_known}
-use Rattle.saphyr_scalar.proofs.WhatCame.Steps.{Left, CameAs, Came, Sure, further, refused, stays, given, ended, choose, choose_of, choose_same, at_break_in, reports, and_known}
+use Rattle.saphyr_scalar.proofs.WhatCame.Steps.{Left, CameAs, Came, Sure, further, open_refused, stays, given, ended, choose, choose_of, choose_same, at_break_in, reports, and_known}
 use Rattle.saphyr_scanner.proofs.WhatCame.Cores.{longer_core, cores}
 
 abbrev gap_ends : Left GapEnd
@@ -100,7 +100,10 @@ module _ (more : List ℕ) where
 
   check_came : (o : Option Marker) (c : Core)
       → Came cores more c.cursor.rest (check_comment_of o c) (check_comment_of o (longer_core more c))
-  check_came u0 c = grind (arith, stays, choose_same, goes_known, refused)
+  check_came None c = stays
+  check_came (Some m) c = let d = record c { comment = None } in
+      choose_same (goes_on_behind m d) (goes_on_behind m (longer_core more d)) (goes_known m d)
+      (λ _. open_refused) (λ _. stays)
 
   pub pass_gap_came : (c : Core) → Came cores more c.cursor.rest (pass_gap c) (pass_gap (longer_core more c))
   unfolding pass_gap check_comment

@@ -4,7 +4,7 @@ use Rattle.std.specs.Prelude.{◌&&◌, ◌||◌, ◌==◌, not, nat_lt, nat_le}
 use Rattle.saphyr_input.proofs.Basics.Booleans.{by_test, and_true_right}
 use Rattle.saphyr_input.specs.Classes.{is_break, is_flow, is_alpha, is_blank_or_breakz}
 use Rattle.saphyr_input.specs.declared.input.SkipTabs.{SkipTabs}
-use Rattle.saphyr_input.specs.Separation.{has_valid_yaml_ws}
+use Rattle.saphyr_input.specs.Separation.{found_tabs, has_valid_yaml_ws}
 use Rattle.saphyr_scalar.specs.declared.scalar.position.Marker.{Marker}
 use Rattle.saphyr_scanner.specs.Limits.{most_open}
 use Rattle.saphyr_scanner.specs.Grammar.Tokens as tokens
@@ -14,12 +14,12 @@ use Rattle.saphyr_scanner.specs.Steps.Core.{Core, StepResult, completed_step, at
 use Rattle.saphyr_scanner.specs.Steps.Core as core
 use Rattle.saphyr_scanner.specs.Steps.Gap.{spaces_at}
 use Rattle.saphyr_scanner.specs.Steps.Passing.{pass_on, with_cursor, separate}
-use Rattle.saphyr_scanner.specs.Steps.Block.{refuse_tab, deepen, pass_dash, next_entry, block_entry_steps, behind_mark, pass_question, begin_key, key_steps}
+use Rattle.saphyr_scanner.specs.Steps.Block.{is_dash_next, refuse_tab, deepen, pass_dash, next_entry, block_entry_steps, behind_mark, pass_question, begin_key, key_steps}
 use Rattle.saphyr_scanner.specs.Steps.Flow.{enter, leave_to, leave, open_collection, opening_steps, allow_adjacent, behind_pair, close_collection, closing_steps, next_flow_entry, flow_entry_steps}
 use Rattle.saphyr_scanner.specs.Steps.Value.{check_tab, opening_of, value_of_key, opening_actions, value_alone, behind_key, value_steps}
 use Rattle.saphyr_scalar.specs.Known.{is_open}
-use Rattle.saphyr_scalar.proofs.WhatCame.Rests.{is_nothing, some, shows, shows_is, later_drop, first_known}
-use Rattle.saphyr_scalar.proofs.WhatCame.Steps.{Came, Sure, Mixed, further, reports, refused, stays, loosely, choose, choose_first, choose_same, choose_given, choose_of, and_then, and_mixed, on}
+use Rattle.saphyr_scalar.proofs.WhatCame.Rests.{is_nothing, some, some_of_four, second_of_four, four_shown, shows, shows_is, later_drop, first_known}
+use Rattle.saphyr_scalar.proofs.WhatCame.Steps.{Came, Sure, Mixed, further, reports, open_refused, missing_refused, stays, loosely, choose, choose_first, choose_same, choose_given, choose_of, and_then, and_mixed, on}
 use Rattle.saphyr_scanner.proofs.WhatCame.Cores.{longer_core, cores, steps, save_came, roll_came, remove_came, pass_came, separate_came}
 use Rattle.saphyr_scanner.proofs.WhatCame.Gaps.{spaces_came}
 
@@ -42,7 +42,10 @@ module _ (more : List ℕ) where
 
   refuse_came : (x : SkipTabs × Core)
       → Came cores more x.1.cursor.rest (refuse_tab x) (refuse_tab (x.0, longer_core more x.1))
-  refuse_came x = grind (arith, choose_same, first_seen, refused, deepen_came)
+  refuse_came x = let d = x.1 in
+      choose_same (found_tabs x.0 && is_dash_next d) (found_tabs x.0 && is_dash_next (longer_core more d))
+      (λ known. ap (λ b. found_tabs x.0 && b) (first_seen d.cursor.rest known)) (λ _. open_refused)
+      (λ _. deepen_came d)
 
   dash_came : (c : Core) → Mixed cores more c.cursor.rest (pass_dash c) (pass_dash (longer_core more c))
   unfolding pass_dash
@@ -51,15 +54,17 @@ module _ (more : List ℕ) where
   pub entry_came : (c : Core)
       → Mixed steps more (drop 1 c.cursor.rest) (block_entry_steps c) (block_entry_steps (longer_core more c))
   unfolding block_entry_steps next_entry
-  entry_came c = choose (not (in_block c)) (λ _. refused refl) (λ _. choose (not c.key_allowed) (λ _. refused refl)
+  entry_came c = choose (not (in_block c)) (λ _. missing_refused 1 c.cursor.rest (λ left. left))
+      (λ _. choose (not c.key_allowed) (λ _. missing_refused 1 c.cursor.rest (λ left. left))
       (λ _. and_mixed _ (and_mixed _ (on pass_dash (on (λ d. Ok (roll c.cursor.mark.col d)) (pass_came more 1 c)
-      (roll_came more 0 (pass_on 1 c) c.cursor.mark.col)) (dash_came _)) (λ d _. remove_came more 0 d))
+      (roll_came more 0 (pass_on 1 c) c.cursor.mark.col)) (dash_came _))
+      (λ d _. remove_came more 0 d (four_shown d.cursor.rest)))
       (λ d _. stays)))
 
   mark_came : (space : Bool) (c : Core)
       → Sure cores more c.cursor.rest (behind_mark space c) (behind_mark space (longer_core more c))
   unfolding behind_mark
-  mark_came space c = choose (not space) (λ _. refused refl) (λ _. choose_first (λ x. x == 9)
+  mark_came space c = choose (not space) (λ _. missing_refused 0 c.cursor.rest (λ left. left)) (λ _. choose_first (λ x. x == 9)
       (λ is. reports (shows_is 9 c.cursor.rest refl is)) (λ _. stays))
 
   question_came : (c : Core)
@@ -71,9 +76,11 @@ module _ (more : List ℕ) where
 
   pub key_came : (c : Core) → Sure steps more (drop 1 c.cursor.rest) (key_steps c) (key_steps (longer_core more c))
   unfolding key_steps begin_key
-  key_came c = choose (in_block c && not c.key_allowed) (λ _. refused refl) (λ _. and_then _ (and_then _
+  key_came c = choose (in_block c && not c.key_allowed) (λ _. missing_refused 1 c.cursor.rest (λ left. left))
+      (λ _. and_then _ (and_then _
       (on (λ d. remove_key (with_context (behind_question c.level.context) d)) (roll_came more 1 c c.cursor.mark.col)
-      (remove_came more 1 _)) (λ d _. question_came (record d { key_allowed = in_block d })))
+      (remove_came more 1 (with_context (behind_question c.level.context) (roll c.cursor.mark.col c))
+      (second_of_four (roll c.cursor.mark.col c).cursor.rest))) (λ d _. question_came (record d { key_allowed = in_block d })))
       (λ d _. stays))
 
   -- ## Flow collections
@@ -114,7 +121,7 @@ module _ (more : List ℕ) where
 
   pub flow_entry_came : (c : Core) → Stepped c (flow_entry_steps c) (flow_entry_steps (longer_core more c))
   unfolding flow_entry_steps next_flow_entry
-  flow_entry_came c = and_then _ (remove_came more 0 c) (λ d _. further (later_drop 1 _) (and_then _
+  flow_entry_came c = and_then _ (remove_came more 0 c (some_of_four c.cursor.rest)) (λ d _. further (later_drop 1 _) (and_then _
       (on separate (pass_came more 1 (with_context (behind_entry d.level.context) (record d { key_allowed = true })))
       (separate_came more _)) (λ e _. stays)))
 
@@ -131,11 +138,13 @@ module _ (more : List ℕ) where
   behind_key_came : (k : Option Candidate) (begins : Bool) (start : Marker) (c : Core)
       → Stepped c (behind_key k begins start c) (behind_key k begins start (longer_core more c))
   unfolding behind_key value_of_key value_alone opening_actions
-  behind_key_came (Some k) begins start c = choose (begins && nat_lt k.mark.line start.line) (λ _. refused refl)
+  behind_key_came (Some k) begins start c = choose (begins && nat_lt k.mark.line start.line)
+      (λ _. missing_refused 0 c.cursor.rest (λ left. left))
       (λ _. on (λ d. completed_step
       (core.Open k.place (opening_of begins k.mark.col c) ∷ at_mark start tokens.Value ∷ [])
       (record (forget_key (go_deeper d)) { key_allowed = false })) (roll_came more 0 c k.mark.col) stays)
-  behind_key_came None begins start c = choose (in_block c && not c.key_allowed) (λ _. refused refl)
+  behind_key_came None begins start c = choose (in_block c && not c.key_allowed)
+      (λ _. missing_refused 0 c.cursor.rest (λ left. left))
       (λ _. on (λ d. completed_step (opening_actions begins start c)
       (record (go_deeper d) { key_allowed = in_block c }))
       (roll_came more 0 c start.col) stays)

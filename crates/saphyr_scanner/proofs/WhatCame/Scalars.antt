@@ -11,7 +11,7 @@ use Rattle.saphyr_scanner.specs.Steps.Passing.{with_cursor}
 use Rattle.saphyr_scanner.specs.Steps.Property.{read_name, name_steps, read_tag, tag_steps}
 use Rattle.saphyr_scanner.specs.Steps.Scalar.{disallow_key, goes_on_behind_quotes, behind_quotes, read_quoted, quoted_steps, read_plain, plain_steps, read_block, block_scalar_steps}
 use Rattle.saphyr_scalar.proofs.WhatCame.Rests.{is_nothing, later_drop, first_known}
-use Rattle.saphyr_scalar.proofs.WhatCame.Steps.{Came, Mixed, further, reports, refused, stays, loosely, choose, choose_same, and_then, and_known, and_mixed, on}
+use Rattle.saphyr_scalar.proofs.WhatCame.Steps.{Came, Mixed, further, reports, open_refused, stays, loosely, choose, choose_same, and_then, and_known, and_mixed, on}
 use Rattle.saphyr_scalar.proofs.WhatCame.Names.{anchor_came, tag_came}
 use Rattle.saphyr_scalar.proofs.WhatCame.Plain.{plain_came}
 use Rattle.saphyr_scalar.proofs.WhatCame.Quoted.{quoted_came}
@@ -79,7 +79,7 @@ module _ (more : List ℕ) where
 
   read_plain_came : (c : Core) → Came steps more c.cursor.rest (read_plain c) (read_plain (longer_core more c))
   unfolding read_plain
-  read_plain_came c = choose (not (in_block c) && nat_lt c.cursor.mark.col c.indent) (λ _. refused refl)
+  read_plain_came c = choose (not (in_block c) && nat_lt c.cursor.mark.col c.indent) (λ _. open_refused)
       (λ _. and_known _ (plain_came more (not (in_block c)) c.indent c.cursor) (λ x _. stays))
 
   pub plain_steps_came : (n : ℕ) (c : Core)

@@ -7,7 +7,8 @@ use Rattle.saphyr_input.specs.Indicators.{hyphen}
 use Rattle.saphyr_scalar.specs.declared.scalar.position.Marker.{Marker}
 use Rattle.saphyr_scalar.specs.declared.scalar.fault.Refusal.{Refusal}
 use Rattle.saphyr_scalar.specs.declared.scalar.fault.FaultText.TheVariants as fault
-use Rattle.saphyr_scalar.specs.Views.Cursor.{◌>>=◌, refuse}
+use Rattle.saphyr_scalar.specs.Known.{may_be_open}
+use Rattle.saphyr_scalar.specs.Views.Cursor.{◌>>=◌, refuse, refuse_open, is_missing}
 use Rattle.saphyr_scanner.specs.Steps.Gap.{spaces_at}
 use Rattle.saphyr_scanner.specs.Grammar.Tokens as tokens
 use Rattle.saphyr_scanner.specs.Grammar.Tokens.{Kind}
@@ -25,8 +26,9 @@ deepen c = if is_break (slice_index c.cursor.rest 0) || is_flow (slice_index c.c
 
 -- a compact sequence has its `-` after spaces alone
 abbrev pub refuse_tab : SkipTabs × Core → Result Core Refusal
-refuse_tab x = if found_tabs x.0 && is_dash_next x.1 then refuse fault.DashWithoutWhitespace x.1.cursor.mark else Ok
-    (deepen x.1)
+refuse_tab x = if found_tabs x.0 && is_dash_next x.1 then
+    refuse_open (may_be_open x.1.cursor.rest) fault.DashWithoutWhitespace x.1.cursor.mark
+    else Ok (deepen x.1)
 
 -- what comes after `-` on its line
 unfoldable pub pass_dash : Core → Result Core Refusal
@@ -46,14 +48,15 @@ next_entry c =
 -- `-`
 unfoldable pub block_entry_steps : Core → StepResult
 block_entry_steps c =
-    if not (in_block c) then refuse fault.DashInsideFlow c.cursor.mark
-    else if not c.key_allowed then refuse fault.SequenceEntryNotAllowed c.cursor.mark
+    if not (in_block c) then refuse_open (is_missing 1 c.cursor.rest) fault.DashInsideFlow c.cursor.mark
+    else if not c.key_allowed then
+    refuse_open (is_missing 1 c.cursor.rest) fault.SequenceEntryNotAllowed c.cursor.mark
     else next_entry c
 
 -- Something has to come after `?`, and no tab before its content.
 unfoldable pub behind_mark : Bool → Core → Result Core Refusal
 behind_mark space c =
-    if not space then refuse fault.WhitespaceExpected c.cursor.mark
+    if not space then refuse_open (is_missing 0 c.cursor.rest) fault.WhitespaceExpected c.cursor.mark
     else if slice_index c.cursor.rest 0 == tab then refuse fault.TabNotAllowed c.cursor.mark
     else Ok c
 
@@ -68,7 +71,8 @@ begin_key c =
 -- `?`
 unfoldable pub key_steps : Core → StepResult
 key_steps c =
-    if in_block c && not c.key_allowed then refuse fault.KeyNotAllowed c.cursor.mark
+    if in_block c && not c.key_allowed then
+    refuse_open (is_missing 1 c.cursor.rest) fault.KeyNotAllowed c.cursor.mark
     else (begin_key c >>= λ d. completed_step
     (behind_start (is_further c.cursor.mark.col c) c.cursor.mark tokens.BlockMappingStart
     (up_to_here c.cursor.mark tokens.Key d)) d)

@@ -3,7 +3,8 @@ use Rattle.std.specs.Prelude.{ℕ, ◌+◌, ◌-◌, Bool, true, false, ◌&&◌
 use Rattle.saphyr_scalar.specs.declared.scalar.position.Marker.{Marker}
 use Rattle.saphyr_scalar.specs.declared.scalar.fault.Refusal.{Refusal}
 use Rattle.saphyr_scalar.specs.declared.scalar.fault.FaultText.TheVariants as fault
-use Rattle.saphyr_scalar.specs.Views.Cursor.{Cursor, start_cursor, refuse}
+use Rattle.saphyr_scalar.specs.Known.{may_be_open}
+use Rattle.saphyr_scalar.specs.Views.Cursor.{Cursor, start_cursor, refuse_open, is_missing}
 use Rattle.saphyr_scanner.specs.declared.engine.level.Context.{Context}
 use Rattle.saphyr_scanner.specs.declared.queue.Opening.{Opening}
 use Rattle.saphyr_scanner.specs.Grammar.Tokens.{Kind}
@@ -109,7 +110,9 @@ forget_key c = record (with_key None c) { required = not (in_block c) && c.requi
 
 -- a key that has to be one is refused where it can't be one any more
 unfoldable pub remove_key : Core → Result Core Refusal
-remove_key c = if in_block c && c.required then refuse fault.KeyExpected c.cursor.mark else Ok (forget_key c)
+remove_key c =
+    if in_block c && c.required then refuse_open (is_missing 3 c.cursor.rest) fault.KeyExpected c.cursor.mark
+    else Ok (forget_key c)
 
 -- A key outside flow is followed by its colon on its line, within 1,024 characters.
 abbrev pub is_too_far : Option Candidate → Marker → Bool
@@ -119,7 +122,7 @@ is_too_far (Some k) m = if nat_lt k.mark.line m.line then true else nat_lt 1024 
 unfoldable pub drop_far_key : Core → Result Core Refusal
 drop_far_key c =
     if not (in_block c && is_too_far c.level.key c.cursor.mark) then Ok c
-    else if c.required then refuse fault.KeyWithoutColon c.cursor.mark
+    else if c.required then refuse_open (may_be_open c.cursor.rest) fault.KeyWithoutColon c.cursor.mark
     else Ok (forget_key c)
 
 -- ## Indentation (6.1)

@@ -5,7 +5,7 @@ use Rattle.saphyr_input.specs.declared.input.SkipTabs.{SkipTabs}
 use Rattle.saphyr_scalar.specs.declared.scalar.position.Marker.{Marker}
 use Rattle.saphyr_scalar.specs.declared.scalar.fault.Refusal.{Refusal}
 use Rattle.saphyr_scalar.specs.declared.scalar.fault.FaultText.TheVariants as fault
-use Rattle.saphyr_scalar.specs.Views.Cursor.{◌>>=◌, refuse, next_line, pass_byte_order_mark}
+use Rattle.saphyr_scalar.specs.Views.Cursor.{◌>>=◌, refuse, refuse_open, next_line, pass_byte_order_mark}
 use Rattle.saphyr_scalar.specs.Steps.Directive as directives
 use Rattle.saphyr_scalar.specs.Spelling.Directive.{ReadDirective, version, tag_prefix, reserved}
 use Rattle.saphyr_scanner.specs.Grammar.Tokens as tokens
@@ -33,7 +33,7 @@ abbrev pub finish : Marker → State → State
 finish m s = with_action (at_mark m tokens.StreamEnd) (with_core (core_at_end s.core) s)
 
 unfoldable pub end_at : Marker → State → Result State Refusal
-end_at m s = if s.core.required then refuse fault.KeyExpected m else Ok (finish m (unroll None m s))
+end_at m s = if s.core.required then refuse_open true fault.KeyExpected m else Ok (finish m (unroll None m s))
 
 -- NUL, or the end of the text
 unfoldable pub state_behind_end : State → Result State Refusal

@@ -5,7 +5,8 @@ use Rattle.saphyr_input.specs.Places.{is_document_start, is_document_end}
 use Rattle.saphyr_input.specs.Indicators.{ampersand, apostrophe, asterisk, at_sign, colon, comma, exclamation_mark, grave_accent, greater_than, hyphen, left_brace, left_bracket, percent_sign, question_mark, quotation_mark, right_brace, right_bracket, vertical_bar}
 use Rattle.saphyr_scalar.specs.declared.scalar.fault.Refusal.{Refusal}
 use Rattle.saphyr_scalar.specs.declared.scalar.fault.FaultText.TheVariants as fault
-use Rattle.saphyr_scalar.specs.Views.Cursor.{◌>>=◌, refuse}
+use Rattle.saphyr_scalar.specs.Known.{may_be_open}
+use Rattle.saphyr_scalar.specs.Views.Cursor.{◌>>=◌, refuse, refuse_open}
 use Rattle.saphyr_scanner.specs.declared.engine.level.Context.TheVariants as context
 use Rattle.saphyr_scanner.specs.Grammar.Tokens as tokens
 use Rattle.saphyr_scanner.specs.Views.Tokens.{Piece}
@@ -73,7 +74,8 @@ fetch_here s =
     else if at_start && (slice_index t 0 == percent_sign) then document.state_behind_directive s
     else if at_start && is_document_start t then document.state_behind_marker tokens.DocumentStart s
     else if at_start && is_document_end t then document.state_behind_document_end s
-    else if nat_lt c.cursor.mark.col (least_column c) then refuse fault.InvalidIndentation c.cursor.mark
+    else if nat_lt c.cursor.mark.col (least_column c) then
+    refuse_open (may_be_open t) fault.InvalidIndentation c.cursor.mark
     else state_behind_content (slice_index t 0) (slice_index t 1) s
 
 -- to where the next token begins
@@ -91,7 +93,7 @@ fetch s = if s.core.started then (arrive s >>= fetch_here) else Ok (begin s)
 -- a text that is longer than the limit is refused once a token has passed it
 abbrev pub check_limit : ℕ → State → Result State Refusal
 check_limit limit s = if nat_le s.core.cursor.mark.index limit then Ok s else
-    refuse fault.TextTooLong s.core.cursor.mark
+    refuse_open (may_be_open s.core.cursor.rest) fault.TextTooLong s.core.cursor.mark
 
 unfoldable pub fetch_within : ℕ → State → Result State Refusal
 fetch_within limit s = fetch s >>= check_limit limit
@@ -114,9 +116,9 @@ has_key (Some k) = true
 abbrev pub has_no_candidate : Core → Bool
 has_no_candidate c = not (has_key c.level.key) && (length c.outer == 0)
 
--- the stream's start comes next, and no token that may be a key is there
+-- the stream's start comes next, at the start of the text, and no token that may be a key is there
 abbrev pub is_at_start : Core → Bool
-is_at_start c = not c.started && has_no_candidate c
+is_at_start c = not c.started && has_no_candidate c && (c.cursor.mark.index == 0)
 
 -- the next token has to be read
 abbrev pub needs_token : State → Bool

@@ -7,7 +7,8 @@ use Rattle.saphyr_input.specs.declared.input.SkipTabs.TheVariants as tabs
 use Rattle.saphyr_scalar.specs.declared.scalar.position.Marker.{Marker}
 use Rattle.saphyr_scalar.specs.declared.scalar.fault.Refusal.{Refusal}
 use Rattle.saphyr_scalar.specs.declared.scalar.fault.FaultText.TheVariants as fault
-use Rattle.saphyr_scalar.specs.Views.Cursor.{Cursor, ◌>>=◌, refuse, separation, pass}
+use Rattle.saphyr_scalar.specs.Known.{may_be_open}
+use Rattle.saphyr_scalar.specs.Views.Cursor.{Cursor, ◌>>=◌, refuse_open, separation, pass}
 use Rattle.saphyr_scanner.specs.Steps.Gap as gap
 use Rattle.saphyr_scanner.specs.Steps.Gap.{GapEnd}
 use Rattle.saphyr_scanner.specs.Steps.Core.{Core, in_block, least_column}
@@ -34,7 +35,8 @@ goes_on_behind comment c =
 abbrev pub check_comment_of : Option Marker → Core → Result Core Refusal
 check_comment_of None c = Ok c
 check_comment_of (Some m) c = let d =
-    record c { comment = None } in if goes_on_behind m d then refuse fault.CommentInsideText m else Ok d
+    record c { comment = None } in if goes_on_behind m d then
+    refuse_open (may_be_open d.cursor.rest) fault.CommentInsideText m else Ok d
 
 unfoldable pub check_comment : Core → Result Core Refusal
 check_comment c = check_comment_of c.comment c

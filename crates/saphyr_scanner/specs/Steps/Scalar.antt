@@ -6,7 +6,8 @@ use Rattle.saphyr_scalar.specs.declared.scalar.position.Marker.{Marker}
 use Rattle.saphyr_scalar.specs.declared.scalar.fault.FaultText.TheVariants as fault
 use Rattle.saphyr_scalar.specs.declared.scalar.style.ScalarStyle.{ScalarStyle}
 use Rattle.saphyr_scalar.specs.declared.scalar.style.ScalarStyle.TheVariants.{Plain, SingleQuoted, DoubleQuoted, Literal, Folded}
-use Rattle.saphyr_scalar.specs.Views.Cursor.{Cursor, ◌>>=◌, refuse}
+use Rattle.saphyr_scalar.specs.Known.{may_be_open}
+use Rattle.saphyr_scalar.specs.Views.Cursor.{Cursor, ◌>>=◌, refuse, refuse_open}
 use Rattle.saphyr_scalar.specs.Steps.Quoted as quoted
 use Rattle.saphyr_scalar.specs.Steps.Plain as words
 use Rattle.saphyr_scalar.specs.Steps.Block as blocks
@@ -63,7 +64,8 @@ behind_plain comment s c = record c { cursor = s; key_allowed = s.blank_so_far; 
 
 unfoldable pub read_plain : Core → StepResult
 read_plain c =
-    if not (in_block c) && nat_lt c.cursor.mark.col c.indent then refuse fault.FlowIndentation c.cursor.mark
+    if not (in_block c) && nat_lt c.cursor.mark.col c.indent then
+    refuse_open (may_be_open c.cursor.rest) fault.FlowIndentation c.cursor.mark
     else (words.plain (not (in_block c)) c.indent c.cursor >>= λ x. completed_step
     (from_to c.cursor.mark x.1 (tokens.Scalar Plain x.0) ∷ []) (behind_plain x.2 x.3 c))
 

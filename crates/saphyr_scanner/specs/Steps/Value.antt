@@ -7,7 +7,7 @@ use Rattle.saphyr_input.specs.Indicators.{hyphen}
 use Rattle.saphyr_scalar.specs.declared.scalar.position.Marker.{Marker}
 use Rattle.saphyr_scalar.specs.declared.scalar.fault.Refusal.{Refusal}
 use Rattle.saphyr_scalar.specs.declared.scalar.fault.FaultText.TheVariants as fault
-use Rattle.saphyr_scalar.specs.Views.Cursor.{◌>>=◌, refuse}
+use Rattle.saphyr_scalar.specs.Views.Cursor.{◌>>=◌, refuse, refuse_open, is_missing}
 use Rattle.saphyr_scanner.specs.declared.queue.Opening.{Opening}
 use Rattle.saphyr_scanner.specs.declared.queue.Opening.TheVariants as opening
 use Rattle.saphyr_scanner.specs.Grammar.Tokens as tokens
@@ -36,7 +36,8 @@ opening_of begins column c =
 -- the value of a key that comes before the colon
 unfoldable pub value_of_key : Candidate → Bool → Marker → Core → StepResult
 value_of_key k begins start c =
-    if begins && nat_lt k.mark.line start.line then refuse fault.MisplacedColon start
+    if begins && nat_lt k.mark.line start.line then
+    refuse_open (is_missing 0 c.cursor.rest) fault.MisplacedColon start
     else completed_step (Open k.place (opening_of begins k.mark.col c) ∷ at_mark start tokens.Value ∷ [])
     (record (forget_key (go_deeper (roll k.mark.col c))) { key_allowed = false })
 
@@ -50,7 +51,8 @@ opening_actions begins start c =
 -- the value of a key that is left out, or that `?` began
 unfoldable pub value_alone : Bool → Marker → Core → StepResult
 value_alone begins start c =
-    if in_block c && not c.key_allowed then refuse fault.ValueNotAllowed start
+    if in_block c && not c.key_allowed then
+    refuse_open (is_missing 0 c.cursor.rest) fault.ValueNotAllowed start
     else completed_step (opening_actions begins start c)
     (record (go_deeper (roll start.col c)) { key_allowed = in_block c })
 

@@ -1,6 +1,6 @@
 -- What contracts see of a scanner.
 use Rattle.std.specs.Prelude.{◌≡◌, ◌<◌, ◌+◌, ◌++◌, ◌^◌, Bool, true, false, not, ℕ, List, Option, Result, Ok, Err}
-use Rattle.saphyr_scalar.specs.Known.{is_seen, may_be_open}
+use Rattle.saphyr_scalar.specs.Known.{may_be_open}
 use Rattle.saphyr_scalar.specs.declared.scalar.fault.Refusal.{Refusal}
 use Rattle.saphyr_scalar.specs.declared.scalar.fault.Stop.{Stop}
 use Rattle.saphyr_scalar.specs.declared.scalar.fault.Stop.TheVariants as stop
@@ -8,7 +8,7 @@ use Rattle.saphyr_scanner.specs.declared.growth.Growth.{Growth}
 use Rattle.saphyr_scanner.specs.declared.growth.Growth.TheVariants as growth
 use Rattle.saphyr_scanner.specs.declared.stopped.Stopped.{Stopped}
 use Rattle.saphyr_scanner.specs.declared.token.TokenKind.{TokenKind}
-use Rattle.saphyr_scanner.specs.Steps.Fetch.{is_ready}
+use Rattle.saphyr_scanner.specs.Steps.Fetch.{is_ready, without_far_key}
 use Rattle.saphyr_scanner.specs.Steps.Remaining.{remaining}
 use Rattle.saphyr_scanner.specs.Steps.State.{State, with_rest}
 use Rattle.saphyr_scanner.specs.Views.Tokens.{BeginsWith, Remaining, refusal_alone}
@@ -54,12 +54,17 @@ EndsTokens (stop.Refused e) r = r ≡ refusal_alone e
 abbrev pub is_decided : Result Unit Stopped → List ℕ → Stop → Bool
 is_decided (Ok u) rest end = not (may_be_open rest)
 is_decided (Err e) rest stop.OutOfMemory = true
-is_decided (Err e) rest (stop.Refused d) = is_seen d.text
+is_decided (Err e) rest (stop.Refused d) = not d.may_change
 
--- Reading on, over what came, comes to a rest that may be open, or is refused by what was not seen.
+-- Reading on, over what came, comes to a rest that may be open, or is refused where what comes may change that.
 abbrev pub IsUndecided : Result State Refusal → Type 0
 IsUndecided (Ok s) = may_be_open s.core.cursor.rest ≡ true
-IsUndecided (Err e) = is_seen e.text ≡ false
+IsUndecided (Err e) = e.may_change ≡ true
+
+-- A candidate that is too far was dropped, and nothing else was changed.
+abbrev pub Drops : Scanning → Scanning → Type 0
+Drops old new =
+    (without_far_key old.state ≡ Ok new.state) × (new.limit ≡ old.limit) × (new.growth ≡ old.growth)
 
 -- The first token can be handed out, or there is none. The tokens are the same, whatever comes behind what came.
 abbrev pub Readies : Result Unit Stopped → Scanning → Scanning → Type 0

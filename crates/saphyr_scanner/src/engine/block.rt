@@ -48,7 +48,7 @@ impl<T: Input> Engine<T> {
     {
         let found = self.separate()?;
         if found.found_tabs() && self.is_dash_next() {
-            return Err(self.refuse_here(FaultText::DashWithoutWhitespace));
+            return Err(self.refuse_open_here(FaultText::DashWithoutWhitespace));
         }
         self.deepen();
         Ok(())
@@ -120,13 +120,13 @@ impl<T: Input> Engine<T> {
         requires second { next ≡ slice_index (state self.old).core.cursor.rest 1 }
         ensures { ActsBy block.block_entry_steps self.old result self.new }
     {
+        let start = self.reader.mark();
         if !self.in_block() {
-            return Err(self.refuse_here(FaultText::DashInsideFlow));
+            return Err(self.refuse_behind(1, FaultText::DashInsideFlow, start));
         }
         if !self.key_allowed {
-            return Err(self.refuse_here(FaultText::SequenceEntryNotAllowed));
+            return Err(self.refuse_behind(1, FaultText::SequenceEntryNotAllowed, start));
         }
-        let start = self.reader.mark();
         if self.is_further(start.col) {
             self.put(start, start, TokenKind::BlockSequenceStart)?;
         }
@@ -143,10 +143,10 @@ impl<T: Input> Engine<T> {
         requires { 0 < length (state self.old).core.cursor.rest }
         ensures { ActsBy block.key_steps self.old result self.new }
     {
-        if self.in_block() && !self.key_allowed {
-            return Err(self.refuse_here(FaultText::KeyNotAllowed));
-        }
         let start = self.reader.mark();
+        if self.in_block() && !self.key_allowed {
+            return Err(self.refuse_behind(1, FaultText::KeyNotAllowed, start));
+        }
         if self.is_further(start.col) {
             self.put(start, start, TokenKind::BlockMappingStart)?;
         }
@@ -156,7 +156,8 @@ impl<T: Input> Engine<T> {
         self.key_allowed = self.in_block();
         self.reader.skip_non_blank();
         if !skip_spaces(&mut self.reader) {
-            return Err(self.refuse_here(FaultText::WhitespaceExpected));
+            let mark = self.reader.mark();
+            return Err(self.refuse_behind(0, FaultText::WhitespaceExpected, mark));
         }
         if self.reader.look() == '\t' {
             return Err(self.refuse_here(FaultText::TabNotAllowed));

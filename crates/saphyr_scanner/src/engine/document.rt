@@ -41,7 +41,7 @@ impl<T: Input> Engine<T> {
         }
         let mark = end_mark(self.reader.mark());
         if self.required {
-            return Err(self.refuse(FaultText::KeyExpected, mark));
+            return Err(self.refuse(FaultText::KeyExpected, mark, true));
         }
         self.unroll(None, mark)?;
         self.key_allowed = false;

@@ -78,7 +78,7 @@ impl<T: Input> Engine<T> {
         } else if column == 0 && self.reader.input().next_is_document_end() {
             self.fetch_document_end()?;
         } else if column < self.least_column() {
-            return Err(self.refuse_here(FaultText::InvalidIndentation));
+            return Err(self.refuse_open_here(FaultText::InvalidIndentation));
         } else {
             return Ok(true);
         }

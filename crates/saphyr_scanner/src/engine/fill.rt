@@ -5,16 +5,15 @@ ghost use Rattle.saphyr_scanner.specs.Steps.Fetch as fetch;
 
 use crate::engine::Engine;
 use crate::law::takes_characters_off;
-use crate::stopped::Halt;
+use crate::stopped::Stopped;
 use saphyr_input::input::Input;
-use saphyr_scalar::{FaultText, Refusal, Stop};
+use saphyr_scalar::{FaultText, Stop};
 
 impl<T: Input> Engine<T> {
     ghost use Rattle.saphyr_scalar.specs.Views.Reader.{loaded};
     ghost use Rattle.saphyr_scanner.specs.Views.Engine.{state, MovesBy};
     ghost use Rattle.saphyr_scanner.specs.Views.Lines.{PassesOn, behind_line_text, is_whole_break, placed};
     ghost use Rattle.saphyr_scanner.specs.Views.Scanning.{is_decided};
-    ghost use Rattle.saphyr_scanner.specs.Views.TooLong.{as_read, within, TurnsTooLong};
 
     // Whether the token at a place may still become a key in what is open around the level.
     #[inline(always)]
@@ -52,17 +51,12 @@ impl<T: Input> Engine<T> {
     // Puts the next token into the queue. If the text is too long with it, it is refused.
     #[inline(always)]
     #[tactic(auto, unfolding(crate::specs::Steps::Fetch::fetch_within))]
-    fn fetch_within(&mut self, limit: usize) -> Result<(), Halt>
-        ensures moves { MovesBy (fetch.fetch_within limit) self.old (within result) self.new }
-        ensures long { TurnsTooLong (fetch.fetch_within limit) (state self.old) result
-            (state self.new) self.new.stop }
+    fn fetch_within(&mut self, limit: usize) -> Result<(), Stopped>
+        ensures { MovesBy (fetch.fetch_within limit) self.old result self.new }
     {
         self.fetch()?;
-        let mark = self.reader.mark();
-        if mark.index > limit {
-            let text = FaultText::TextTooLong;
-            self.stop = Stop::Refused(Refusal { text, mark });
-            return Err(Halt::Limit);
+        if self.reader.mark().index > limit {
+            return Err(self.refuse_open_here(FaultText::TextTooLong));
         }
         Ok(())
     }
@@ -83,7 +77,7 @@ impl<T: Input> Engine<T> {
     pub(crate) fn is_at_start(&self) -> bool
         ensures { result ≡ fetch.is_at_start (state self.now).core }
     {
-        !self.started && self.has_no_candidate()
+        !self.started && self.has_no_candidate() && self.reader.mark().index == 0
     }
 
     /// Whether no token is there, and the text has more.
@@ -99,12 +93,10 @@ impl<T: Input> Engine<T> {
     /// Reads tokens until the head of the queue can be handed out, unless all were. To be called where the next token
     /// must be read.
     #[inline(never)]
-    pub(crate) fn read_tokens(&mut self, limit: usize) -> Result<(), Halt>
+    pub(crate) fn read_tokens(&mut self, limit: usize) -> Result<(), Stopped>
         requires needed { fetch.needs_token (state self.old) ≡ true }
         requires settled { fetch.without_far_key (state self.old) ≡ Ok (state self.old) }
-        ensures moves { MovesBy (fetch.fill limit) self.old (within result) self.new }
-        ensures long { TurnsTooLong (fetch.fill limit) (state self.old) result
-            (state self.new) self.new.stop }
+        ensures { MovesBy (fetch.fill limit) self.old result self.new }
     {
         // A law. It does nothing when it runs.
         takes_characters_off();
@@ -192,16 +184,16 @@ impl<T: Input> Engine<T> {
     }
 
     /// Whether what was read is so whatever comes behind what came of the text.
-    pub(crate) fn is_decided(&mut self, read: Result<(), Halt>) -> bool
+    pub(crate) fn is_decided(&mut self, read: Result<(), Stopped>) -> bool
         ensures decided { result
-            ≡ is_decided (as_read read) (state self.old).core.cursor.rest self.old.stop }
+            ≡ is_decided read (state self.old).core.cursor.rest self.old.stop }
         ensures same { state self.new ≡ state self.old }
         ensures stop { self.new.stop ≡ self.old.stop }
     {
         match read {
-            Ok(()) | Err(Halt::Limit) => !self.reader.is_at_open_end(),
-            Err(Halt::Step) => match self.stop {
-                Stop::Refused(refusal) => refusal.text.is_seen(),
+            Ok(()) => !self.reader.is_at_open_end(),
+            Err(_) => match self.stop {
+                Stop::Refused(refusal) => !refusal.may_change,
                 Stop::OutOfMemory => true,
             },
         }

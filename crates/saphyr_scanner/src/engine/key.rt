@@ -55,7 +55,8 @@ impl<T: Input> Engine<T> {
         ensures { CarriesBy spec.remove_key self.old result self.new }
     {
         if self.required && self.in_block() {
-            return Err(self.refuse_here(FaultText::KeyExpected));
+            let mark = self.reader.mark();
+            return Err(self.refuse_behind(3, FaultText::KeyExpected, mark));
         }
         // Outside flow no key is required here, and inside flow what is stays so.
         self.level.has_key = false;
@@ -86,7 +87,7 @@ impl<T: Input> Engine<T> {
             return Ok(());
         }
         if self.required {
-            return Err(self.refuse_here(FaultText::KeyWithoutColon));
+            return Err(self.refuse_open_here(FaultText::KeyWithoutColon));
         }
         self.forget_key();
         Ok(())

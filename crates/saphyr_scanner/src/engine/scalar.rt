@@ -76,7 +76,7 @@ impl<T: Input> Engine<T> {
         let start = self.reader.mark();
         let in_flow = !self.in_block();
         if in_flow && start.col < self.indent {
-            return Err(self.refuse_here(FaultText::FlowIndentation));
+            return Err(self.refuse_open_here(FaultText::FlowIndentation));
         }
         let reader = &mut self.reader;
         let comment = self.queue.put_plain(reader, in_flow, self.indent);

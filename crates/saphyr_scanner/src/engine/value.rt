@@ -15,8 +15,8 @@ use saphyr_scalar::{FaultText, Marker};
 impl<T: Input> Engine<T> {
     ghost use Rattle.saphyr_scanner.specs.Views.Engine.{state, candidate, ActsBy, CarriesBy};
 
-    // Passes what follows a colon, if that begins with a tab. Outside flow there must be a space between the colon and a
-    // word, not a tab alone.
+    // Passes what follows a colon, if that begins with a tab. Outside flow there must be a space between the colon and
+    // a word, not a tab alone.
     #[inline(always)]
     #[tactic(auto, unfolding(crate::specs::Steps::Value::check_tab))]
     fn check_tab(&mut self) -> Result<(), Stopped>
@@ -68,7 +68,7 @@ impl<T: Input> Engine<T> {
             self.old result self.new }
     {
         if begins_pair && key.mark.line < start.line {
-            return Err(self.refuse(FaultText::MisplacedColon, start));
+            return Err(self.refuse_behind(0, FaultText::MisplacedColon, start));
         }
         let opening = if begins_pair {
             Opening::FlowMappingAndKey
@@ -95,7 +95,7 @@ impl<T: Input> Engine<T> {
             self.put(start, start, TokenKind::FlowMappingStart)?;
         }
         if self.in_block() && !self.key_allowed {
-            return Err(self.refuse(FaultText::ValueNotAllowed, start));
+            return Err(self.refuse_behind(0, FaultText::ValueNotAllowed, start));
         }
         if self.is_further(start.col) {
             self.put(start, start, TokenKind::BlockMappingStart)?;

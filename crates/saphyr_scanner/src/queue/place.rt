@@ -298,7 +298,7 @@ impl Place {
 
     /// Takes the text of the token off, which has no other parts. It goes into an empty text.
     #[inline(always)]
-    pub(super) fn take_text_into(
+    pub(super) fn take_texts_into(
         self,
         texts: &mut Texts,
         into: &mut String,
@@ -317,7 +317,7 @@ impl Place {
         if handle > 0 {
             return texts.take_behind_into(handle, count - handle, into);
         }
-        texts.take_text_into(0, count, into)
+        texts.take_second_into(0, count, into)
     }
 
     /// Takes all parts of the token off.

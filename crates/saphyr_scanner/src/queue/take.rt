@@ -87,8 +87,8 @@ impl Queue {
         }
     }
 
-    // Takes off the token that is handed out next. It is separate for speed: what has a text or parts has mostly nothing
-    // in front of it.
+    // Takes off the token that is handed out next. It is separate for speed: what has a text or parts has mostly
+    // nothing in front of it.
     #[inline(never)]
     fn skip_opening(&mut self)
         ensures { queue self.new ≡ behind_first (queue self.old) }
@@ -117,7 +117,7 @@ impl Queue {
             self.skip_opening();
             return Ok(());
         }
-        place.take_text_into(&mut self.texts, into)?;
+        place.take_texts_into(&mut self.texts, into)?;
         self.spent += 1;
         Ok(())
     }

@@ -161,7 +161,7 @@ impl Texts {
 
     /// Takes the first two texts off, which have so many bytes. The second goes into an empty text.
     #[inline(always)]
-    pub(super) fn take_text_into(
+    pub(super) fn take_second_into(
         &mut self,
         handle: usize,
         count: usize,
@@ -204,7 +204,7 @@ impl Texts {
             (self.new ≡ spec.behind_text count (spec.behind_text handle self.old)) }
         ensures failed { OnErr result (self.new ≡ self.old) }
     {
-        self.take_text_into(handle, count, into)
+        self.take_second_into(handle, count, into)
     }
 
     /// The first of the extents, or one at the start of a text if there is none.

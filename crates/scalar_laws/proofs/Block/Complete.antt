@@ -237,13 +237,6 @@ header_then : (st : BlockStyle) (indent : ℕ) (s : Cursor) (x : BlockHeaderRead
 unfolding block_scalar
 header_then st indent s x y e f = cc
 
-behind_as : (st : BlockStyle) (indent : ℕ) (start : Marker) (h : BlockHeaderRead) (u : Cursor)
-    → behind_header st indent start (h, u)
-    ≡ behind_leading_lines st indent start h.chomping (given_indentation indent h.indicator)
-    (pass_empty_lines_at (given_indentation indent h.indicator) no_lines u)
-unfolding behind_header
-behind_as st indent start h u = refl
-
 some_behind : (j c : ℕ) (cs : List ℕ) → spaces j ++ (c ∷ cs) ≢ []
 some_behind zero c cs e = cc
 some_behind (suc j) c cs e = cc
@@ -314,6 +307,7 @@ lines_read st c indent i n d is_given _ start b m x _ others ind h (inr (spaces_
 
 pub each_read : (st : BlockStyle) (c : Chomping) (indent i n : ℕ) (ls : List Line) (s : Cursor) (body others : List ℕ)
     → IsBlockScalar indent i n c ls s.rest body others → IsTaken st indent i n c ls s body others
+unfolding behind_header
 each_read st c indent i n ls s body others is =
     let h = header_read is.digit c body s.rest s refl is.header is.no_tab in
     let mark : BlockHeaderRead = record { chomping = c; indicator = is.digit } in
@@ -326,7 +320,7 @@ each_read st c indent i n ls s body others is =
     subst P (sym h.left) (lines_read st c indent i n is.digit is.is_given ls s.mark u.blank_so_far u.mark is.behind body
     others is.indentation is.ends is.lines h.place) in
     let read : block_scalar st indent s ≡ Ok (w.text, w.span, w.left) = header_then st indent s (mark, u)
-    (w.text, w.span, w.left) h.known (behind_as st indent s.mark mark u ∙ w.read) in
+    (w.text, w.span, w.left) h.known (refl ∙ w.read) in
     let sound = values_of_lines st indent s w.left w.text w.span read in
     let same : ◌≡◌ {A = BlockHeaderRead × Cursor} (sound.header, sound.behind) (mark, u) =
     same_gift (sound.header, sound.behind) (mark, u) (sym sound.first ∙ h.known) in

@@ -40,10 +40,6 @@ pub spaces_passed : (i : ℕ) (given : Bool) (limit : Option ℕ) (before : Empt
 spaces_passed i given limit before b k m l col within =
     cc (append-nil (spaces k), stopped i k given limit [] before b m l (omega arith) (λ e. cc) refl)
 
-one_more : (i n : ℕ) (others : List ℕ) (before : EmptyLinesRead) (w : ℕ) (ls : List Line) (r : EmptyLinesRead × Cursor)
-    → Passed i n others (with_empty_line before w) ls r → Passed i n others before (Empty ∷ ls) r
-one_more i n others before w ls r p = grind arith
-
 pub empty_passed : (i n : ℕ) (given : Bool) (limit : Option ℕ) (x others : List ℕ) (before : EmptyLinesRead) (b : Bool)
     (m : Marker) (ls : List Line) (t : List ℕ) → IsLimit i given limit → m.col ≡ 0 → before.widest ≤ i
     → IsBehind i n x others → AreEmptyLines i x ls t → Passed i n others before ls (pass_empty_lines limit before b m t)
@@ -52,9 +48,12 @@ empty_passed i n given limit x others before b m _ _ l col wide h no_empty_lines
 empty_passed i n given limit x others before b m _ _ l col wide h (empty_line j ls t within more) =
     let same = e_spaces i given limit before b j m (10 ∷ t) l (omega arith) ∙ e_feed limit before b (along m j) t in
     let wider : max before.widest (m.col + j) ≤ i = omega arith in
-    subst (Passed i n others before (Empty ∷ ls)) (sym same) (one_more i n others before (m.col + j) ls _
-    (empty_passed i n given limit x others (with_empty_line before (m.col + j)) true (next_line (along m j) 1) ls t l
-    refl wider h more))
+    subst (Passed i n others before (Empty ∷ ls)) (sym same) (grind (
+      arith,
+      (empty_passed i n given limit x others
+          (with_empty_line before (m.col + j)) true (next_line (along m j) 1) ls t l
+          refl wider h more),
+    ))
 empty_passed i n given limit x others before b m _ _ l col wide h (empty_line_and_spaces j k within further none_left) =
     let same = e_spaces i given limit before b j m (10 ∷ spaces k) l (omega arith)
     ∙ e_feed limit before b (along m j) (spaces k)

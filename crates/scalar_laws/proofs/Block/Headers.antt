@@ -179,20 +179,15 @@ pub record HeaderRead (n : ℕ) (c : Chomping) (x : List ℕ) (s : Cursor) : Typ
   pub left : behind.rest ≡ x
   pub place : IsBehindLine behind x
 
-header_on : (s : Cursor) (first : Option Chomping × Cursor) (k : ℕ × Cursor) (l : Chomping × Cursor) (u : Cursor)
-    → chomping (pass 1 s) ≡ first → indicator s.mark first.1 ≡ Ok k → last_chomping first.0 k.1 ≡ l
-    → header_end s.mark l.1 ≡ Ok u → header s ≡ Ok (record { chomping = l.0; indicator = k.0 }, u)
-unfolding header header_behind
-header_on s first k l u e1 e2 e3 e4 = rw (e1, e2, e3, e4) refl
-
 header_of : (n : ℕ) (c : Chomping) (d x : List ℕ) (s : Cursor) (first : Option Chomping × Cursor) (t v : Cursor)
     → chomping (pass 1 s) ≡ first → indicator s.mark first.1 ≡ Ok (n, t) → last_chomping first.0 t ≡ (c, v) → v.rest ≡ d
     → IsHeaderEnd d x → slice_index x 0 ≢ 9 → v.blank_so_far ≡ false → HeaderRead n c x s
+unfolding header header_behind
 header_of n c d x s first t v e1 e2 e3 rest l tab dark =
     let e = end_read s.mark v d x rest l tab dark in
     record {
       behind = e.end;
-      known = header_on s first (n, t) (c, v) e.end e1 e2 e3 e.read;
+      known = (rw (e1, e2, e3, e.read) refl);
       left = e.rest;
       place = e.place;
     }

@@ -37,10 +37,6 @@ pub e_feed : (limit : Option ℕ) (lines : EmptyLinesRead) (b : Bool) (m : Marke
 unfolding pass_empty_lines
 e_feed limit lines b m t = grind arith
 
-limit_stops : (i : ℕ) (given : Bool) (limit : Option ℕ) (col c : ℕ) → IsLimit i given limit
-    → (given ≡ false → c ≢ space) → col ≡ i → is_indentation limit col c ≡ false
-limit_stops i given limit col c l h e = grind arith
-
 -- the first content line, with what comes after it
 abbrev pub FirstValue : BlockStyle → Chomping → List ℕ → List Line → List ℕ
 FirstValue st c text ls = text ++ (contents_behind st text 0 ls ++ reading.chomped c true (empty_at_end 0 ls))
@@ -68,7 +64,7 @@ led_at : (st : BlockStyle) (c : Chomping) (i n : ℕ) (given : Bool) (limit : Op
     → Led st c i n others before (Content (x ∷ cs) ∷ ls) (pass_empty_lines limit before b m (x ∷ t))
 led_at st c i n given limit before b m x cs t others ls l h col wide solid left value =
     let stop : pass_empty_lines limit before b m (x ∷ t) ≡ (with_column before m.col, line_cursor b m (x ∷ t)) =
-    stops limit before (line_cursor b m (x ∷ t)) (limit_stops i given limit m.col x l h col)
+    stops limit before (line_cursor b m (x ∷ t)) (grind arith)
     (non_break_no_break x solid) in
     subst (Led st c i n others before (Content (x ∷ cs) ∷ ls)) (sym stop)
     (record {

@@ -47,11 +47,6 @@ pub line_end_on : (st : BlockStyle) (i : ℕ) (more b : Bool) (m : Marker)
 unfolding line
 line_end_on st i more b m = refl
 
-starts_here : (i col c : ℕ) (cs : List ℕ) → col ≡ i → is_yaml_non_break c ≡ true
-    → (i ≡ 0 → is_document_indicator (c ∷ cs) ≡ false) → line_starts i col (c ∷ cs) ≡ true
-unfolding line_starts
-starts_here i col c cs e h k = grind arith
-
 -- what is left after the lines: the place after n spaces, or the text's end
 abbrev pub Left : ℕ → List ℕ → LinesRead → Type 0
 Left n others r = (r.2.rest ≡ others) × ((r.2.mark.col ≡ n) ⊎ (others ≡ []))
@@ -86,9 +81,10 @@ pub begun_on : (st : BlockStyle) (i : ℕ) (ab : Option Bool) (k : ℕ) (b : Boo
     → m.col ≡ i → IsContent i c cs t → between st i ab k b m (c ∷ (cs ++ t))
     ≡ lines_behind_text (break_before st ab k (is_blank c))
     (lines_behind_text (c ∷ cs) (line st i (is_blank c) b (along m (length (c ∷ cs))) t))
+unfolding line_starts
 begun_on st i ab k b m c cs t col h =
     cc (
-      line_begins st i ab k b m (c ∷ (cs ++ t)) (starts_here i m.col c (cs ++ t) col h.all.0 h.no_marker),
+      line_begins st i ab k b m (c ∷ (cs ++ t)) (grind (arith, h.all.0, h.no_marker)),
       content_on st i (is_blank c) b m (c ∷ cs) t h.all,
     )
 
@@ -152,11 +148,6 @@ full_spaces : (st : BlockStyle) (c : Chomping) (i : ℕ) (more : Bool) (k : ℕ)
 unfolding is_unfinished
 full_spaces st c i more k b m col some = grind (arith, spaces_end)
 
-few_spaces : (st : BlockStyle) (c : Chomping) (i : ℕ) (more : Bool) (k : ℕ) (b : Bool) (j : ℕ) (m : Marker)
-    → m.col ≡ 0 → j < i → Value c i (between st i (Some more) k b m (spaces j)) ≡ reading.chomped c true k
-unfolding is_unfinished
-few_spaces st c i more k b j m col less = grind (arith, spaces_end)
-
 behind_value : (st : BlockStyle) (c : Chomping) (i : ℕ) (more : Bool) (k : ℕ) (b : Bool) (m : Marker) (n : ℕ)
     (x others : List ℕ) → m.col ≡ 0 → IsBehind i n x others
     → Value c i (between st i (Some more) k b m x) ≡ reading.chomped c true k
@@ -185,6 +176,7 @@ pub lines_value_left : (st : BlockStyle) (c : Chomping) (i n : ℕ) (x others : 
     (k : ℕ) (b : Bool) (m : Marker) (ls : List Line) (t : List ℕ) → is_more_indented above ≡ more → m.col ≡ 0
     → AreLines i x ls t → IsBehind i n x others → Value c i (between st i (Some more) k b m t)
     ≡ contents_behind st above k ls ++ reading.chomped c true (empty_at_end k ls)
+unfolding is_unfinished
 lines_value_left st c i n x others above more k b m _ _ e col no_lines h =
     behind_value st c i more k b m n x others col h
 lines_value_left st c i n x others above more k b m _ _ e col (empty j ls t within l) h =
@@ -215,4 +207,4 @@ lines_value_left st c i n x others above more k b m _ _ e col (last y cs ic none
 lines_value_left st c i n x others above more k b m _ _ e col (last_empty some none) h =
     full_spaces st c i more k b m col some
 lines_value_left st c i n x others above more k b m _ _ e col (left_of j less none) h =
-    few_spaces st c i more k b j m col less
+    (grind (arith, spaces_end))

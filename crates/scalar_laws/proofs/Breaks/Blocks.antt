@@ -147,18 +147,13 @@ unfolding tail_alone
 tail_alike c k h = grind arith
 
 module _ {text : List ℕ} (style : BlockStyle) (indent : ℕ) where
-  content_alike : (c : Chomping) (i k : ℕ) (s t : Cursor) → AreAlike text s t
-      → Both (AreBlocksAlike text) (content style c indent i k s) (content style c indent i k t)
-  unfolding content chomped_lines
-  content_alike c i k s t e = grind (arith, between_alike, normal_of, unfinished_alike)
-
   pub block_alike : {s t : Cursor} → NoBreak s.rest → AreAlike text s t
       → Both (AreBlocksAlike text) (block_scalar style indent s) (block_scalar style indent t)
-  unfolding block_scalar behind_header behind_leading_lines
+  unfolding block_scalar behind_header behind_leading_lines content chomped_lines
   block_alike {s} {t} h e = and_same _ _ (header_alike s t h e) (λ header u v is.
       let limit = given_indentation indent header.indicator in
       let c = header.chomping in
       let x = empty_alike text limit no_lines no_lines u.blank_so_far v.blank_so_far u.mark v.mark refl is.blank
       (normal_of is) (places_of is) in
       choose_first is_z refl x.1 (λ _. gives (rw (x.0, tail_alike c _ x.1) refl, marks_alike e, marks_alike x.1, x.1))
-      (λ _. rw x.0 (content_alike c _ _ _ _ x.1)))
+      (λ _. rw x.0 (grind (arith, between_alike, normal_of, unfinished_alike, x.1))))

@@ -117,9 +117,6 @@ break_left (feed n) = n
 break_left (return h n) = rw h n
 break_left (pair n) = n
 
-mark_in : (quote : Quote) → (13 == flow.mark quote) ≡ (10 == flow.mark quote)
-mark_in quote = grind arith
-
 if_alike : {R : List ℕ × Cursor → List ℕ × Cursor → Type 0} (o : Option ℕ) {f g : ℕ → TextRead} {u v : TextRead}
     → ((d : ℕ) → o ≡ Some d → Both R (f d) (g d)) → Both R u v → Both R (if_some o f u) (if_some o g v)
 if_alike (Some c) some none = some c refl
@@ -151,7 +148,7 @@ module _ (text : List ℕ) (quote : Quote) (i : ℕ) (a b : Marker) where
       let k = break_len r in
       let l = break_len q in
       let same : escaped_gap quote (slice_index (drop k r) 0) ≡ escaped_gap quote (slice_index (drop l q) 0) =
-      cc (first_in (λ c. c == flow.mark quote) (mark_in quote) (break_left x)) in
+      cc (first_in (λ c. c == flow.mark quote) (grind arith) (break_left x)) in
       rw same (behind _ k l (next_line m k) (next_line n l) r q (break_left x) (moved_down k l p) others)
 
   -- a word or the closing quote

@@ -1,5 +1,5 @@
 -- Two readers that give the same, step after step.
-use Rattle.scalar_laws.proofs.Common.{◌≡◌, ℕ, Bool, true, false, List, slice_index, refl, subst, Result, Ok, Err, cond, Marker, Refusal, Cursor, ◌>>=◌, refuse, pass, both_by, AreAlike, GiveAlike, AreSame}
+use Rattle.scalar_laws.proofs.Common.{◌≡◌, ℕ, Bool, true, false, List, slice_index, refl, subst, Result, Ok, Err, cond, Marker, Refusal, Cursor, ◌>>=◌, refuse_open, pass, both_by, AreAlike, GiveAlike, AreSame}
 use Rattle.saphyr_scalar.specs.declared.scalar.fault.FaultText.{FaultText}
 pub use Rattle.saphyr_scalar.proofs.Lengths.{by_ends}
 use Rattle.scalar_laws.proofs.Breaks.Sides.{first_in, first_same, normal_of, no_break_in, one_passed}
@@ -15,7 +15,7 @@ module _ {X : Type 0} {R : X → X → Type 0} where
   pub both_of : {r q : Result X Refusal} → GiveAlike R r q → Both R r q
   both_of h = record { are = h }
 
-  pub refused : {f : FaultText} {m n : Marker} → Both R (refuse f m) (refuse f n)
+  pub refused : {f : FaultText} {m n : Marker} {a b : Bool} → Both R (refuse_open a f m) (refuse_open b f n)
   refused = record { are = refl }
 
   -- a choice by tests that come out alike

@@ -75,20 +75,14 @@ separation_part tabs {r = r} {q = q} n =
     (λ _ _. no_part n)
     (λ _ _. both_parts (blank_len tabs r) (blank_len tabs q) _ _ r q (part_of x) (comment_part x.left))
 
-found_alike : (tabs : SkipTabs) {r q : List ℕ} → Normal r q → found_blanks tabs r ≡ found_blanks tabs q
-found_alike tabs n =
-    let x = blanks_run tabs n in cc
-
-bare_alike : (tabs : SkipTabs) {r q : List ℕ} → Normal r q → is_bare_comment tabs r ≡ is_bare_comment tabs q
-bare_alike tabs n = rw ((blanks_run tabs n).len, first_in (λ c. c == 35) refl n) refl
-
 behind_alike : (tabs : SkipTabs) {text r q : List ℕ} {s t : Cursor} → Normal r q → AreAlike text s t
     → Both (AreSame text) (behind_separation tabs r s) (behind_separation tabs q t)
 unfolding behind_separation
 behind_alike tabs {r = r} {q = q} {s = s} {t = t} n e = let first = first_in is_bom refl (normal_of e) in
     choose_same (nat_lt 0 s.mark.col && is_bom (slice_index s.rest 0)) (nat_lt 0 t.mark.col && is_bom
     (slice_index t.rest 0)) (rw (e.col, first) refl) (λ _. refused) (λ _. choose_same (is_bare_comment tabs r)
-    (is_bare_comment tabs q) (bare_alike tabs n) (λ _. refused) (λ _. gives (found_alike tabs n, e)))
+    (is_bare_comment tabs q) (rw ((blanks_run tabs n).len, first_in (λ c. c == 35) refl n) refl) (λ _. refused) (λ _.
+    gives ((let x = blanks_run tabs n in cc), e)))
 
 pub separation_alike : (tabs : SkipTabs) {text : List ℕ} {s t : Cursor} → AreAlike text s t
     → Both (AreSame text) (separation tabs s) (separation tabs t)

@@ -7,11 +7,6 @@ use Rattle.saphyr_scalar.proofs.Places.{along_three}
 use Rattle.saphyr_scalar.proofs.Directives.PartEnds.{said}
 use Rattle.saphyr_scalar.proofs.Directives.LowBytes.{not_text}
 
-reserved_value : (start : Marker) (name : List ℕ) (s : Cursor) → name ≢ codes "YAML" → name ≢ codes "TAG"
-    → value start (encode_utf8_all name, s) ≡ Ok (reserved (encode_utf8_all name), pass_comment s)
-unfolding value
-reserved_value start name s no_yaml no_tag = grind (arith, not_text)
-
 more_begins : (more x : List ℕ) → (more ≡ []) ⊎ IsTrue (is_blank (slice_index more 0))
     → is_breakz (slice_index x 0) ≡ true → is_blank_or_breakz (slice_index (more ++ x) 0) ≡ true
 more_begins [] x is ends = or_right (is_blank (slice_index x 0)) (is_breakz (slice_index x 0)) ends
@@ -25,6 +20,7 @@ comment_passed k more x are ends = search (run_len, breakz_no_non_break, drop-ap
 reserved_line : (m : Marker) (name t x : List ℕ) → IsReservedDirective name t → is_breakz (slice_index x 0) ≡ true
     → directive (mid_line m (t ++ x))
     ≡ tail_given (reserved (encode_utf8_all name)) (along m (length t)) (along m (length t)) x
+unfolding value
 reserved_line m name t x (more, some, no_yaml, no_tag, are, in_line, begins, e) ends =
     let d = reserved (encode_utf8_all name) in
     let parts = more ++ x in
@@ -36,7 +32,7 @@ reserved_line m name t x (more, some, no_yaml, no_tag, are, in_line, begins, e) 
     cc (
       whole_line (mid_line m (37 ∷ (name ++ parts))) (pass_break (mid_line (along b 0) x)) d (encode_utf8_all name)
           (mid_line a parts) (mid_line b x) (name_read (along m 1) name parts some are (more_begins more x begins ends))
-          (reserved_value m name (mid_line a parts) no_yaml no_tag ∙ ap (λ s. said d s)
+          ((grind (arith, not_text)) ∙ ap (λ s. said d s)
           (comment_passed a more x in_line ends)) (line_read m b [] x no_tail ends),
       line_place d m b (length t) [] x (along_three m 1 (length name) (length more) (length t) len),
     )

@@ -35,9 +35,6 @@ starts_so : (f : Bool) (s : Cursor) → (slice_index s.rest 0 == number_sign) �
 unfolding word_starts
 starts_so f s hash marker lone goes = search
 
-no_marker_by_test : (m : Marker) (xs : List ℕ) → IsNoMarker m xs → ((m.col == 0) && is_document_indicator xs) ≡ false
-no_marker_by_test m xs h = grind arith
-
 first_in : (f : Bool) (w y : List ℕ) → IsWordBefore f w y → is_in_word f (w ++ y) ≡ true
 first_in f [] y h = absurd (h.some refl)
 first_in f (c ∷ cs) y h = safe_in_word f c cs y h.safe
@@ -52,7 +49,7 @@ word_begins f m b w y h marker =
     let s = cursor_at (w ++ y) m b in
     let other : slice_index (w ++ y) 0 ≢ 35 = λ e. h.no_comment (sym (first_is f w y h) ∙ e) in
     let hash : (slice_index (w ++ y) 0 == 35) ≡ false = differs (slice_index (w ++ y) 0) other in
-    starts_so f s hash (no_marker_by_test m (w ++ y) marker) h.no_lone_dash (first_in f w y h)
+    starts_so f s hash (grind arith) h.no_lone_dash (first_in f w y h)
   where
     differs : (c : ℕ) → (c ≢ number_sign) → (c == number_sign) ≡ false
     differs c h = grind (arith, nat_tests)
@@ -73,9 +70,6 @@ word_dark f (c ∷ cs) y z h = (non_space_of f (c ∷ cs) z h.safe).0
 
 dark_no_feed : (xs : List ℕ) → Dark xs → NoFeed xs
 dark_no_feed xs h = grind arith
-
-dark_no_blank : (xs : List ℕ) → Dark xs → is_blank (slice_index xs 0) ≡ false
-dark_no_blank xs h = grind arith
 
 past_gap : (m : Marker) (b : Bool) (v y : List ℕ) → AreIn is_blank_or_break v → Dark y
     → past_white m b (v ++ y) ≡ cursor_at y (end_of_text m v) (b || has_line_end v)
@@ -107,7 +101,7 @@ blanks_stop : (xs : List ℕ) → is_blank (slice_index xs 0) ≡ false → behi
 blanks_stop xs h = grind arith
 
 is_tabbed_more : (i : ℕ) (v y : List ℕ) → Dark y → AreIn is_blank_or_break v → is_tabbed i (v ++ y) ≡ is_tabbed i v
-is_tabbed_more i [] y dark are = cc (blanks_stop y (dark_no_blank y dark), tabbed_stop i 0 false y dark)
+is_tabbed_more i [] y dark are = cc (blanks_stop y (grind arith), tabbed_stop i 0 false y dark)
 is_tabbed_more i (c ∷ v) y dark are = test (is_blank c) refl (is_tabbed_more i v y dark are.1)
   where
     test : (b : Bool) → is_blank c ≡ b → is_tabbed i (v ++ y) ≡ is_tabbed i v

@@ -46,11 +46,6 @@ line_ends_with_non_space : (i : ℕ) (a : Marker) (t : Bool) (f : List ℕ) (m :
 unfolding lines
 line_ends_with_non_space i a t f m c cs other h = rw other (is_reached a t f (line_front m (c ∷ cs)) h)
 
-lines_at_end : (i : ℕ) (a : Marker) (t : Bool) (f : List ℕ) (m : Marker)
-    → lines i a t f m [] ≡ Ok (seen_gap t f (line_front m []))
-unfolding lines
-lines_at_end i a t f m = is_reached a t f (line_front m []) (inr refl)
-
 pub past_on : (m : Marker) (b : Bool) (c : ℕ) (cs : List ℕ) → is_blank_or_break c ≡ true
     → past_white m b (c ∷ cs) ≡ past_white (if ends_line c cs then next_line m 1 else along m 1) (b || is_break c) cs
 past_on m b c cs white = rw white refl
@@ -67,7 +62,8 @@ leaves_on r q p t s u e same place l = record { text = l.text; is = simp (e, l.i
 pub lines_past : (i : ℕ) (a : Marker) (t : Bool) (f : List ℕ) (m : Marker) (xs : List ℕ)
     → MayStand (reaches_tabbed i m.col t xs) (past_white m true xs).rest
     → LeavesGap (lines i a t f m xs) (reaches_tabbed i m.col t xs) (past_white m true xs)
-lines_past i a t f m [] h = record { text = f; is = lines_at_end i a t f m }
+unfolding lines
+lines_past i a t f m [] h = record { text = f; is = (is_reached a t f (line_front m []) (inr refl)) }
 lines_past i a t f m (c ∷ cs) h = by_case (is_blank_or_break c) refl
     (λ k. lines_past i a (flag_on i m.col t c) (if ends_line c cs then f ++ line_feed ∷ [] else f) on cs k)
   where

@@ -59,15 +59,12 @@ AreOnLine (Break ∷ items) = ⊥
 AreOnLine (EscapedBreak ∷ items) = ⊥
 AreOnLine (_ ∷ items) = AreOnLine items
 
-pub on_line_behind : (i : Item) (items : List Item) → AreOnLine (i ∷ items) → AreOnLine items
-on_line_behind i items h = grind arith
-
 -- a scalar on one line has no later line
 pub line_fits : (indent : ℕ) (q : Quote) (t : List ℕ) (items : List Item) (x : List ℕ) (r : quotes.IsText q t items x)
     → AreOnLine items → LinesFit indent q t items x r
 line_fits indent _ _ _ _ (quotes.closed q x h) on = tt
 line_fits indent _ _ _ _ (quotes.itself q c t items x h r) on =
-    line_fits indent q t items x r (on_line_behind (flow.raw_item c) items on)
+    line_fits indent q t items x r (grind arith)
 line_fits indent _ _ _ _ (quotes.broken q t items x h r) on = absurd on
 line_fits indent _ _ _ _ (quotes.two_quotes t items x r) on = line_fits indent Single t items x r on
 line_fits indent _ _ _ _ (quotes.escaped e c t items x h r) on = line_fits indent Double t items x r on

@@ -133,13 +133,6 @@ same_at_quote indent start m [] fits = refl
 same_at_quote indent start m (c ∷ cs) fits =
     grind (arith, nat_tests, at_closing, quoted_behind_gap, ends_gap, mark_content, behind_no_gap)
 
-line_blank : (q : Quote) (indent : ℕ) (start : Marker) (escaped : Bool) (k : ℕ) (m : Marker) (c : ℕ) (cs : List ℕ)
-    → is_blank c ≡ true → ((c == tab) && is_left indent m) ≡ false
-    → inner_text q indent start (over_lines escaped k) 0 m (c ∷ cs)
-    ≡ inner_text q indent start (over_lines escaped k) 0 (along m 1) cs
-unfolding inner_text blank_in
-line_blank q indent start escaped k m c cs h fits = rw (h, fits) refl
-
 -- a blank at the start of a line leaves it indented
 record BlankFits (indent : ℕ) (m : Marker) (c : ℕ) (t : List ℕ) : Type 0 where
   test : ((c == tab) && is_left indent m) ≡ false
@@ -161,6 +154,7 @@ blank_read : (q : Quote) (indent : ℕ) (start : Marker) (gap : QuotedGap) (m : 
     (items : List Item)
     (x : List ℕ) → is_blank c ≡ true → GapFits indent gap m (c ∷ t) → ReadsBehindBlank q indent start
     (along m 1) t items x → Read q indent start gap m (c ∷ t) (Blank c ∷ items) x
+unfolding inner_text blank_in
 blank_read q indent start (on_line bytes) m c t items x h fits r =
     let b = r (on_line (bytes ++ encode_utf8 c)) tt in
     record {
@@ -174,7 +168,7 @@ blank_read q indent start (over_lines escaped n) m c t items x h fits r =
     record {
       mark = b.mark;
       passed = character m c t b.mark x (blank_no_break c h) b.passed;
-      is = line_blank q indent start escaped n m c t h f.test ∙ b.is;
+      is = (rw (h, f.test) refl) ∙ b.is;
     }
 
 pub itself_read : (q : Quote) (indent : ℕ) (start : Marker) (gap : QuotedGap) (m : Marker) (c : ℕ) (t : List ℕ)
@@ -182,7 +176,8 @@ pub itself_read : (q : Quote) (indent : ℕ) (start : Marker) (gap : QuotedGap) 
     → ReadsBehindBlank q indent start (along m 1) t items x
     → Read q indent start gap m (c ∷ t) (flow.raw_item c ∷ items) x
 unfolding is_literal
-itself_read q indent start gap m c t items x h fits r = grind (arith, blank_cases, blank_read, content_item, with_gap, literal_read)
+itself_read q indent start gap m c t items x h fits r =
+    grind (arith, blank_cases, blank_read, content_item, with_gap, literal_read)
 
 pub broken_read : (q : Quote) (indent : ℕ) (start : Marker) (gap : QuotedGap) (m : Marker) (t : List ℕ)
     (items : List Item) (x : List ℕ) → is_break (slice_index t 0) ≡ true → IsLine indent (drop (break_len t) t)

@@ -34,6 +34,9 @@ module _ (text : List ℕ) (tabs : Bool) (least : ℕ) where
     inside : PassesAlike text (cursor_at t m blank) i (end_of_gap_in_comment tabs least m blank met tabbed t)
         (end_of_gap_in_comment tabs least (reindexed i m) blank met tabbed n)
 
+  -- By recursion on how the text is normalized. Of another character both readers ask the same (`choose_by`), and where
+  -- they go on, they go on alike one place further. A break is the case of interest: CR LF takes two places on one side
+  -- and one on the other, and from the next line's start on both are alike again.
   all_gaps : {t n : List ℕ} → Normal t n → (m : Marker) (i : ℕ) (blank met tabbed : Bool)
       → m.line + length t ≤ 2 ^ 63 → Stand text (cursor_at t m blank) i → Gaps t n m i blank met tabbed
   all_gaps nothing m i blank met tabbed low x = search (stand_here)

@@ -25,6 +25,9 @@ unbroken_of [] z k = absurd (cc)
 unbroken_of (c ∷ t) z k = k
 
 module _ {text : List ℕ} (laws : Laws text) where
+  -- The sum of the steps: a row for each choice of `step` cites that step's lemma (`both_cases`). Both sides choose
+  -- alike, since the first character is no break and so the same. Of the second, which may be a break, only what `step`
+  -- asks of it has to be the same.
   step_same : (first second other n : ℕ) (c : Core) (x : Indexes) → Twin text c x → Unbroken c.cursor
       → slice_index c.cursor.rest 0 ≡ first → is_blank_or_breakz other ≡ is_blank_or_breakz second
       → is_flow other ≡ is_flow second

@@ -70,10 +70,6 @@ mark_here : (m : Marker) (r : List ℕ) → m.col ≡ 0
 unfolding fetch_here state_behind_byte_order_mark end_content remove_key unroll
 mark_here m r col blank k a ad ps = grind (arith, nat_tests)
 
-mark_count : (m : Marker) (r : List ℕ) (limit : ℕ) → m.index + length (65279 ∷ r) ≤ limit
-    → m.index + 1 + length r ≤ limit
-mark_count m r limit h = omega (arith, h)
-
 pub reads_mark : {limit : ℕ} {start : State} {free opened : Bool} {ts : List Kind} (r : List ℕ)
     → StandsLined limit start free opened (65279 ∷ r) ts
     → StandsLined limit start true true r (ts ++ tokens.ByteOrderMark ∷ [])
@@ -83,7 +79,7 @@ reads_mark {limit = limit} r v =
     (piece_of v.mark (beyond_byte_order_mark v.mark) tokens.ByteOrderMark)
     (mark_here v.mark r col) (Lined true r)
     (beyond_byte_order_mark v.mark) r
-    (λ _. refl) (mark_count v.mark r limit v.count) (λ _. (inl col, λ _. inl (or-true (crosses r))))
+    (λ _. refl) (omega (arith, v.count)) (λ _. (inl col, λ _. inl (or-true (crosses r))))
     (index_behind v.mark.index 1) (along_lined v.mark 1 v.lined)
 
 -- ## `...`
@@ -106,9 +102,6 @@ pub end_count : (m n : Marker) (r o : List ℕ) (limit : ℕ)
     → n.index + length o ≡ m.index + 3 + length r → n.index + length o ≤ limit
 end_count m n r o limit h e = omega (arith, h, e)
 
-end_further : (m n : Marker) (end o : List ℕ) → n.index + length o ≡ m.index + 3 + length (end ++ o) → m.index ≤ n.index
-end_further m n end o e = let all = length-append end o in omega (arith, e, all)
-
 pub reads_end : {limit : ℕ} {start : State} {free opened : Bool} {ts : List Kind} (end o : List ℕ)
     → StandsLined limit start free opened (full_stop ∷ full_stop ∷ full_stop ∷ (end ++ o)) ts → IsEol end o
     → StandsLined limit start true true o (ts ++ tokens.DocumentEnd ∷ [])
@@ -124,7 +117,7 @@ reads_end {limit = limit} end o v h =
     (end_here v.mark n r e.more sep.0 col first sep.1 (break_ends e.more e.break)) (Lined true o) e.mark o
     (λ _. e.behind 0)
     (end_count v.mark e.mark r o limit v.count e.count) (λ _. (e.place, λ _. opens e.more o e.opens))
-    (end_further v.mark e.mark end o e.count) (e.lined (along_lined v.mark 3 v.lined))
+    (let all = length-append end o in omega (arith, e.count, all)) (e.lined (along_lined v.mark 3 v.lined))
   where
     opens : (more o : List ℕ) → (crosses more ≡ true) ⊎ (o ≡ []) → ((crosses more || false) ≡ true) ⊎ (o ≡ [])
     opens more o (inl h) = inl (or-false (crosses more) ∙ h)

@@ -30,9 +30,6 @@ none_goes_on : (comment : Marker) (c : Core) → EndsDocument c.cursor.mark c.cu
 unfolding goes_on_behind
 none_goes_on comment c h = grind (arith, none_of, document_ends_by_test)
 
-none_less : 0 ≤ 0
-none_less = omega arith
-
 -- What is between two documents is passed, up to the place m, where y is.
 record PassesNoted (co : Option Marker) (s : Cursor) (k : Option Candidate) (a : Bool) (ad : ℕ) (m : Marker)
     (y : List ℕ) : Type 0 where
@@ -52,7 +49,7 @@ passes_noted (Some comment) s k a ad m y here (inl e) = absurd (cc)
 passes_noted (Some comment) s k a ad m y here (inr h) =
     let g = gap_past 0 s.mark s.blank_so_far s.rest in
     let c : Core = record (core_at false s k a ad) { comment = Some comment } in
-    let there = g.is (past_no_blank s.mark s.rest) 0 none_less
+    let there = g.is (past_no_blank s.mark s.rest) 0 (omega arith)
     ∙ ap (λ (p : Marker × List ℕ). stop (gap_here p.0 g.still_blank (crosses s.rest) false p.1)) here in
     let b = (crosses s.rest && true) || a in
     let goes : check_comment
@@ -169,7 +166,8 @@ Fetches m y t b piece = (blank : Bool) (key : Option Candidate) (allowed : Bool)
     → fetch_here (state_at false (cursor_at y m blank) key allowed ad ps)
     ≡ Ok (state_at false (t blank) None b ad (ps ++ bare_place piece ∷ []))
 
--- a token that is right here is read
+-- A token that is right here is read: there is one step to take, from wherever the scanner stands between the last
+-- token and this one (`reads_here`). The premises tell what is after it, and that this is further on.
 pub reads_token : {limit : ℕ} {start : State} {free : Bool} {P : Marker → Bool → Type 0} {y : List ℕ} {ts : List Kind}
     (v : StandsInStream limit start free P y ts) → past 0 v.mark y ≡ (v.mark, y) → (free ≡ true) ⊎ EndsDocument v.mark y
     → (t : Bool → Cursor) (b : Bool) (piece : Piece) → Fetches v.mark y t b piece

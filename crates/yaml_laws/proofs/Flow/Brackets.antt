@@ -44,10 +44,9 @@ abbrev pub opened_collection : Marker → Known
 opened_collection m key allowed adjacent new =
     fresh_key m key allowed adjacent new × ((piece : Piece) × (new ≡ bare_place piece ∷ []))
 
-pub saved_so : (x : Context) (a b : Bool) (n : ℕ) (m : Marker) (k j : Option Candidate)
-    → (is_block x ≡ false → (j ≡ k) × (b ≡ a)) → is_block x ≡ false → saved b n m j ≡ saved a n m k
-saved_so x a b n m k j h e = let s = h e in cc
-
+-- An opening bracket is read, whatever comes before it. Told of it are the key of the level outside, the run over the
+-- bracket, where that key began, and that a key which was held still is. The step is composed of its parts in
+-- `stepped`, and what comes of any step is `step_comes`.
 pub open_passes : (around : Around) (y : Context) → is_block y ≡ false → (kind : Kind) (ch : ℕ) → IsTokenMark ch
     → ((second i : ℕ) (c : Core) → step ch second i c ≡ flow.opening_steps y kind i c)
     → (m : Marker) (o : List ℕ) (now : FlowMoment) → Fits around now.context m (ch ∷ []) o
@@ -78,7 +77,7 @@ open_passes around y in_flow kind ch mark begins m o now fits right parted low c
     stepped refl (within_index around.indent around.limit p.there (along m 1) o p.lands (omega (arith, below)))
     (kept_inside in_flow) in (
       key,
-      saved_so now.context now.allowed v.allowed (length now.places) m now.key v.key v.same,
+      (λ e. let s = v.same e in cc),
       step_passes next new (moved m (ch ∷ [])) o (kind ∷ []) (opened_collection
           (moved m (ch ∷ []))) came right (cc (mark_moved m ch mark))
           (fresh_in_flow y o true p.there in_flow) (holds_in_flow in_flow) refl (
@@ -145,6 +144,10 @@ one_behind : (indent : ℕ) (m : Marker) (c : ℕ) (o : List ℕ) (ad : ℕ) →
     → ad ≤ (past indent (moved m (c ∷ [])) o).0.index
 one_behind indent m c o ad low = grind (arith, one_on, past_low, moved)
 
+-- A closing bracket is read at level `level_of x j`, and the scanner is back in x, with the key j of that level. So
+-- what was known of the key before the collection is known again. A key that is held outside flow stays so, since
+-- blanks alone are behind the bracket on the key's line (`held_behind`). They also tell the place where a colon may
+-- come at once.
 pub close_passes : (around : Around) (y : Context) → is_block y ≡ false → (ends : Bool) (kind : Kind) (ch : ℕ)
     → IsTokenMark ch
     → ((second i : ℕ) (d : Bool) (now : FlowMoment) → step ch second i (core_at around d (moment_in y now))
@@ -218,7 +221,8 @@ removes around d now e = grind arith
 comma_is_mark : IsTokenMark 44
 comma_is_mark = search
 
--- A comma ends a pair that has no bracket of its own, and after it a key may begin.
+-- A comma ends a pair that has no bracket of its own, and after it a key may begin. The step forgets the key before it,
+-- ends the pair (`behind_pair`) and puts its token, behind which separation may come.
 pub comma_passes : (around : Around) (y : Context) → is_block y ≡ false → (m : Marker) (o : List ℕ)
     → FitsAround around m (comma ∷ []) o → IsParted around.indent o → (now : FlowMoment) → now.adjacent ≤ m.index
     → StandsBefore around now m (comma ∷ o)

@@ -174,6 +174,10 @@ all_kinds : (opens closes : Kind) (ts ends : List Kind)
     → ((opens ∷ []) ++ ts) ++ (ends ++ closes ∷ []) ≡ opens ∷ ((ts ++ ends) ++ closes ∷ [])
 all_kinds opens closes ts ends = cc (append_assoc ts ends (closes ∷ []))
 
+-- Three runs are joined: over the opening bracket with separation behind it, over what is inside (`run`), and over the
+-- closing bracket. The second begins where a key may and none is kept. The third closes a pair that what is inside left
+-- open, so its token is among those inside. The first gives the piece that a key would begin with, and the key; the
+-- third gives the place where a colon may come at once.
 pub brackets_pass : (around : Around) (Is : List Kind → Type 0) (b : Brackets) → AreBrackets b
     → (m : Marker) (w inside o : List ℕ) (now : FlowMoment) → Fits around now.context m (bracket_text b w inside) o
     → StartsContent (inside ++ (b.closing ∷ [])) → IsSeparation around.indent w

@@ -1,10 +1,10 @@
 -- The entries of braces and of brackets inside flow.
-use Rattle.yaml_laws.proofs.Common.{◌≡◌, ℕ, ◌+◌, ◌<◌, ◌≤◌, Bool, true, false, List, [], ◌∷◌, ◌++◌, length, refl, sym, ap, ◌∙◌, subst, append_assoc, append-nil, ◌⊎◌, inl, inr, arith, None, is_blank, Marker, AreIn, IsSeparation, Context, Kind, Place, Level, State, no_properties, Node, Map, NoPair, MorePairs, most_open, IsOnLine, IsBeforeSeparation, IsPairText, IsPair, IsSinglePairText, IsSinglePair, IsFlowNode}
+use Rattle.yaml_laws.proofs.Common.{◌≡◌, ℕ, Bool, true, false, List, [], ◌∷◌, ◌++◌, refl, sym, ap, ◌∙◌, subst, append_assoc, append-nil, ◌⊎◌, inl, inr, arith, None, Marker, IsSeparation, Context, Kind, Place, Level, State, no_properties, Node, Map, NoPair, MorePairs, IsBeforeSeparation, IsPairText, IsPair, IsSinglePairText, IsSinglePair, IsFlowNode}
 use Rattle.saphyr_scanner.specs.declared.engine.level.Context.TheVariants as context
 use Rattle.saphyr_scanner.specs.Grammar.Tokens as tokens
 use Rattle.saphyr_scanner.specs.Grammar.TokenGrammar as grammar
 use Rattle.yaml_laws.proofs.InFlow.States.{Around, state_at, FlowMoment, moment_in}
-use Rattle.yaml_laws.proofs.Flow.States.{FitsAround, moved, past, PassesPiece, ended, PassesNode, StandsBefore}
+use Rattle.yaml_laws.proofs.Flow.States.{moved, past, PassesPiece, ended, IsNext, next_in, PassesNode}
 use Rattle.yaml_laws.proofs.Flow.Places.{moved_append, moved_along}
 use Rattle.yaml_laws.proofs.Flow.Fillers.{separation_past}
 use Rattle.yaml_laws.proofs.Flow.Separates.{blanks_moved}
@@ -19,17 +19,15 @@ use Rattle.yaml_laws.proofs.Flow.MarkedPairs.{MarkedTokens, IsMarked, explicit_p
 -- A text of Text before what ends an entry, where a key may begin, is passed in brackets of the context inner.
 abbrev pub PassesText : Around → Context → ℕ → (List ℕ → Type 0) → (List Kind → Type 0) → Type 0
 PassesText around inner room Text Is =
-    (m : Marker) (t o : List ℕ) → FitsAround around m t o → IsBehindEntry around.indent o → Text t
-    → (now : FlowMoment) → now.key ≡ None → now.allowed ≡ true → room + length now.outer ≤ most_open
-    → now.adjacent < m.index → StandsBefore around now m (t ++ o)
+    (m : Marker) (t o : List ℕ) → IsBehindEntry around.indent o → Text t → (now : FlowMoment) → now.key ≡ None
+    → now.allowed ≡ true → IsNext around room now m t o
     → InsidePasses around (state_at around (moment_in inner now)) inner Is now.outer now.places (moved m t) o
 
 -- the same of an entry, with the separation after it
 abbrev pub PassesEntry : Around → Context → ℕ → (List ℕ → Type 0) → (List Kind → Type 0) → Type 0
 PassesEntry around inner room Text Is =
-    (m : Marker) (t : List ℕ) (c : ℕ) (cs : List ℕ) → FitsAround around m t (c ∷ cs) → EndsEntry c → Text t
-    → (now : FlowMoment) → now.key ≡ None → now.allowed ≡ true → room + length now.outer ≤ most_open
-    → now.adjacent < m.index → StandsBefore around now m (t ++ (c ∷ cs))
+    (m : Marker) (t : List ℕ) (c : ℕ) (cs : List ℕ) → EndsEntry c → Text t → (now : FlowMoment) → now.key ≡ None
+    → now.allowed ≡ true → IsNext around room now m t (c ∷ cs)
     → InsidePasses around (state_at around (moment_in inner now)) inner Is now.outer now.places (moved m t) (c ∷ cs)
 
 ended_behind : {around : Around} {start : Bool → State} {x : Context} {ls : List Level} {ps : List Place}
@@ -40,12 +38,16 @@ ended_behind {around = around} m w o parts p = grind (arith, separation_joins, s
 
 before_separation : {around : Around} {inner : Context} (room : ℕ) {Text : List ℕ → Type 0} {Is : List Kind → Type 0}
     → PassesText around inner room Text Is → PassesEntry around inner room (IsBeforeSeparation Text around.indent) Is
-before_separation {around} {inner} room {Is = Is} passes m t c cs fits ends (piece, w, h, parts, e) now no_candidate
-    fresh low before text =
-    let f = fits_front m piece w (c ∷ cs) (fits_so m t (piece ++ w) (c ∷ cs) e fits) in
+before_separation {around} {inner} room {Is = Is} passes m t c cs ends (piece, w, h, parts, e) now no_candidate fresh
+    next =
     let texts = ap (λ (x : List ℕ). x ++ (c ∷ cs)) e ∙ append_assoc piece w (c ∷ cs) in
-    let p = passes m piece (w ++ (c ∷ cs)) f (wider_entry around.indent w cs c parts ends) h now no_candidate fresh low
-    before (text ∙ ap (past around.indent m) texts) in
+    let p = passes m piece (w ++ (c ∷ cs)) (wider_entry around.indent w cs c parts ends) h now no_candidate fresh
+    (record {
+      fits = fits_front m piece w (c ∷ cs) (fits_so m t (piece ++ w) (c ∷ cs) e next.fits);
+      enough = next.enough;
+      low = next.low;
+      stands = next.stands ∙ ap (past around.indent m) texts;
+    }) in
     let start = state_at around (moment_in inner now) in
     subst (λ (k : Marker). InsidePasses around start inner Is now.outer now.places k (c ∷ cs))
     (cc (moved_append m piece w)) (record {
@@ -86,43 +88,43 @@ marked_in_braces : (key value : Node) (t : List Kind) → MarkedTokens key value
 marked_in_braces key value t (inl h) = inl h
 marked_in_braces key value t (inr h) = inr (inl h)
 
+-- By the form of the pair: a key alone, which is a node, a key and a value, a value alone, or a pair with a `?`. The
+-- tokens are those of a pair in each of the grammar's four ways.
 pair_text_passes : {around : Around} (room : ℕ) (key value : Node) → PassesNode around room key
     → PassesNode around room value → PassesText around context.FlowMapping room
     (IsPairText key value (IsFlowNode room key true around.indent) (IsFlowNode room value true around.indent)
     around.indent) (PairInBraces key value)
-pair_text_passes {around} room key value K V m t o fits ends (inl (none, h)) now no_candidate fresh low before text =
-    let n = K m t o (inl h) fits (entry_behind around.indent key o ends) (moment_in context.FlowMapping now)
-    before refl low text in
+pair_text_passes {around} room key value K V m t o ends (inl (none, h)) now no_candidate fresh next =
+    let n = K m t o (inl h) (entry_behind around.indent key o ends) (moment_in context.FlowMapping now) refl
+    (next_in context.FlowMapping next) in
     in_mapping (record {
       tokens = n.tokens;
       are = inr (inr (inr (none, n.are)));
       passes = knowing n.passes (ended around.indent (moved m t) o) n.passes.knows.low;
     })
-pair_text_passes room key value K V m t o fits ends (inr (inl h)) now no_candidate fresh low before text =
+pair_text_passes room key value K V m t o ends (inr (inl h)) now no_candidate fresh next =
     in_mapping (mapped_so (λ ts (ks, vs, are, others, is).
     inl (tokens.Key ∷ ks, tokens.Value ∷ vs, (ks, inr are, refl), (vs, others, refl), is))
-    (key_passes room key value K V context.FlowMapping refl m t o fits ends h (λ e. absurd (none e)) now
-    fresh low before text))
+    (key_passes room key value K V context.FlowMapping refl m t o ends h (λ e. absurd (none e)) now fresh next))
   where
     none : false ≡ true → ⊥
     none e = cc
-pair_text_passes room key value K V m t o fits ends (inr (inr (inl h))) now no_candidate fresh low before text =
+pair_text_passes room key value K V m t o ends (inr (inr (inl h))) now no_candidate fresh next =
     in_mapping (mapped_so (λ ts v. inr (inr (inl (h.0, v))))
-    (alone_passes room key value V context.FlowMapping refl m t o fits ends h now no_candidate low before text))
-pair_text_passes room key value K V m t o fits ends (inr (inr (inr h))) now no_candidate fresh low before text =
+    (alone_passes room key value V context.FlowMapping refl m t o ends h now no_candidate next))
+pair_text_passes room key value K V m t o ends (inr (inr (inr h))) now no_candidate fresh next =
     in_mapping (mapped_so (marked_in_braces key value)
-    (explicit_passes room key value K V context.FlowMapping context.FlowMapping in_braces m t o fits ends h now low
-    before text))
+    (explicit_passes room key value K V context.FlowMapping context.FlowMapping in_braces m t o ends h now next))
 
 -- a pair in braces, with the separation after it
 pub pair_passes : {around : Around} (room : ℕ) (key value : Node) → PassesNode around room key
     → PassesNode around room value → PassesEntry around context.FlowMapping room
     (IsPair key value (IsFlowNode room key true around.indent) (IsFlowNode room value true around.indent) around.indent)
     (PairInBraces key value)
-pair_passes room key value K V m t c cs fits ends (inl h) now no_candidate fresh low before text =
+pair_passes room key value K V m t c cs ends (inl h) now no_candidate fresh next =
     in_mapping (mapped_so (marked_in_braces key value)
-    (lone_passes key value context.FlowMapping context.FlowMapping in_braces m t c cs fits ends h now before text))
-pair_passes room key value K V m t c cs fits ends (inr h) now no_candidate fresh low before text =
+    (lone_passes room key value context.FlowMapping context.FlowMapping in_braces m t c cs ends h now next))
+pair_passes room key value K V m t c cs ends (inr h) now no_candidate fresh next =
     search (before_separation, pair_text_passes)
 
 -- ## In brackets
@@ -136,9 +138,9 @@ pub node_item_passes : {around : Around} (room : ℕ) (node : Node) → PassesNo
     → PassesEntry around context.FlowSequence room
     (IsBeforeSeparation (IsFlowNode room node true around.indent) around.indent) (IsEntry node)
 node_item_passes {around} room node N =
-    before_separation room (λ m t o fits ends h now no_candidate fresh low before text.
-    let n = N m t o (inl h) fits (entry_behind around.indent node o ends) (moment_in context.FlowSequence now) before
-    refl low text in
+    before_separation room (λ m t o ends h now no_candidate fresh next.
+    let n = N m t o (inl h) (entry_behind around.indent node o ends) (moment_in context.FlowSequence now) refl
+    (next_in context.FlowSequence next) in
     record {
       inside = context.FlowSequence;
       flows = refl;
@@ -163,35 +165,32 @@ between key value t h = inl (
   refl,
 )
 
-same_line : (m : Marker) (node blanks : List ℕ) → IsOnLine node → AreIn is_blank blanks
-    → m.line ≡ (moved (moved m node) blanks).line
-same_line m node blanks h are = cc (blanks_moved (moved m node) blanks are, moved_along m node h)
-
+-- By the form of the pair, as in braces. Without a `?` the colon begins a mapping of one pair, whose end is still to
+-- come (`context.FlowPair`). With it the mapping has no tokens of its own (`context.ExplicitFlowPair`).
 single_text_passes : {around : Around} (room : ℕ) (key value : Node) → PassesNode around room key
     → PassesNode around room value → PassesText around context.FlowSequence room
     (IsSinglePairText key value (IsFlowNode room key true around.indent) (IsFlowNode room value true around.indent)
     around.indent) (IsEntry (single key value))
-single_text_passes {around} room key value K V m t o fits ends (inl (node, blanks, colon, h, line, are, apart, c, e))
-    now no_candidate fresh low before text =
-    let p = key_passes room key value K V context.FlowSequence refl m t o fits ends
+single_text_passes room key value K V m t o ends (inl (node, blanks, colon, h, line, are, apart, c, e)) now
+    no_candidate fresh next =
+    let p = key_passes room key value K V context.FlowSequence refl m t o ends
     ((node, blanks, colon, h, ([], blanks, ([], tt, refl), are, refl), apart, c, e))
-    (λ _. same_line m node blanks line are) now fresh low before text in
+    (λ _. (cc (blanks_moved (moved m node) blanks are, moved_along m node line))) now fresh next in
     let ks = p.are.0 in
     let vs = p.are.1 in
     let known = inl (tokens.Key ∷ ks, tokens.Value ∷ vs, (ks, inr p.are.2, refl), (vs, p.are.3, refl), refl) in
     let all = subst (λ (x : List Kind). IsEntry (single key value) (x ++ tokens.FlowMappingEnd ∷ [])) (sym p.are.4)
     (between key value (tokens.Key ∷ (ks ++ tokens.Value ∷ vs)) known) in
     record { inside = context.FlowPair; flows = refl; back = refl; tokens = p.tokens; are = all; passes = p.passes }
-single_text_passes {around} room key value K V m t o fits ends (inr (inl h)) now no_candidate fresh low before text =
-    let p = alone_passes room key value V context.FlowSequence refl m t o fits ends h now no_candidate low
-    before text in
+single_text_passes room key value K V m t o ends (inr (inl h)) now no_candidate fresh next =
+    let p = alone_passes room key value V context.FlowSequence refl m t o ends h now no_candidate next in
     let vs = p.are.0 in
     let all = subst (λ (x : List Kind). IsEntry (single key value) (x ++ tokens.FlowMappingEnd ∷ [])) (sym p.are.2)
     (between key value (tokens.Value ∷ vs) (inr (inr (inl (h.0, (vs, p.are.1, refl)))))) in
     record { inside = context.FlowPair; flows = refl; back = refl; tokens = p.tokens; are = all; passes = p.passes }
-single_text_passes {around} room key value K V m t o fits ends (inr (inr h)) now no_candidate fresh low before text =
-    let p = explicit_passes room key value K V context.FlowSequence context.ExplicitFlowPair in_brackets m t o fits ends
-    h now low before text in
+single_text_passes room key value K V m t o ends (inr (inr h)) now no_candidate fresh next =
+    let p = explicit_passes room key value K V context.FlowSequence context.ExplicitFlowPair in_brackets m t o ends h
+    now next in
     record {
       inside = context.ExplicitFlowPair;
       flows = refl;
@@ -206,9 +205,9 @@ pub single_passes : {around : Around} (room : ℕ) (key value : Node) → Passes
     → PassesNode around room value → PassesEntry around context.FlowSequence room
     (IsSinglePair key value (IsFlowNode room key true around.indent) (IsFlowNode room value true around.indent)
     around.indent) (IsEntry (single key value))
-single_passes room key value K V m t c cs fits ends (inl h) now no_candidate fresh low before text =
-    let p = lone_passes key value context.FlowSequence context.ExplicitFlowPair in_brackets m t c cs fits ends h now
-    before text in
+single_passes room key value K V m t c cs ends (inl h) now no_candidate fresh next =
+    let p = lone_passes room key value context.FlowSequence context.ExplicitFlowPair in_brackets m t c cs ends h now
+    next in
     record {
       inside = context.ExplicitFlowPair;
       flows = refl;
@@ -217,5 +216,5 @@ single_passes room key value K V m t c cs fits ends (inl h) now no_candidate fre
       are = inr (refl, rw (append-nil p.tokens) p.are);
       passes = p.passes;
     }
-single_passes room key value K V m t c cs fits ends (inr h) now no_candidate fresh low before text =
+single_passes room key value K V m t c cs ends (inr h) now no_candidate fresh next =
     search (before_separation, single_text_passes)

@@ -134,7 +134,19 @@ bare_past column m (c ∷ cs) z h k = rw (none_stops column m c (cs ++ z) (blank
 
 pub filler_text_past : (column : ℕ) (m : Marker) (t more : List ℕ) → IsFillerText t → EndsLine more
     → past column m (t ++ more) ≡ past column (moved m t) more
-filler_text_past column m t more h ends = grind (arith, past, moved, append_assoc, bare_past, maybe_comment_past, moved_append, is_filler_rest, ends_rest, words_rest)
+filler_text_past column m t more h ends =
+    grind (
+      arith,
+      past,
+      moved,
+      append_assoc,
+      bare_past,
+      maybe_comment_past,
+      moved_append,
+      is_filler_rest,
+      ends_rest,
+      words_rest,
+    )
 
 -- ## Whole lines
 

@@ -28,7 +28,9 @@ PassesBehind around now m Is allows end c o =
 no_less : (m : Marker) (t : List ℕ) → m.index ≤ (moved m t).index
 no_less m t = let i = moved_index m t in omega (arith, i)
 
--- properties t and separation v were passed, and the text is
+-- Properties t and separation v were passed, and the text c is. As one text they have the first piece of the
+-- properties, and where a colon may come at once is told by c. The key is that of the properties: no key may begin
+-- behind them, so c begins none (`still`).
 front_joins : (around : Around) (start : Bool → State) (now : FlowMoment) (p : Properties) (Is : List Kind → Type 0)
     (allows : List ℕ → Bool) (m : Marker) (t v c o : List ℕ) (ts : List Kind) → grammar.YieldProperties p ts
     → (q : PassesPiece around start (behind_properties now.context (keeping now m t) now.adjacent) now.context
@@ -64,7 +66,8 @@ front_joins around start now p Is allows m t v c o ts are q r =
           (join q b (after_node around.indent now.context kept allows (moved here c) o) known);
     }
 
--- after properties t and separation v
+-- Behind properties t and separation v a text is passed: the properties are read, and the separation is joined to their
+-- run. From where that ends, `pass` tells of the text.
 behind_properties_passes : ReaderPromises → (around : Around) (p : Properties) (Is : List Kind → Type 0)
     (allows : List ℕ → Bool) (m : Marker) (t v c o : List ℕ) → IsProperties p around.indent t → v ≢ []
     → IsSeparation around.indent v → Begins c → (now : FlowMoment) → Fits around now.context m ((t ++ v) ++ c) o

@@ -1,10 +1,10 @@
 -- The entries of brackets and of braces inside flow, one after the other.
-use Rattle.yaml_laws.proofs.Common.{◌≡◌, ℕ, ◌+◌, ◌<◌, ◌≤◌, Bool, true, false, List, [], ◌∷◌, ◌++◌, length, refl, sym, ap, ◌∙◌, subst, append_assoc, append-nil, ◌⊎◌, inl, inr, arith, None, Marker, Context, Kind, Place, Level, is_block, behind_entry, ends_pair, State, Properties, Node, Alias, Scalar, Seq, Map, NoPair, MorePairs, most_open, IsBeforeSeparation, IsPairText, IsPair, IsSinglePairText, IsSinglePair, IsComma, IsLastComma, IsFlowNode, IsPairItem}
+use Rattle.yaml_laws.proofs.Common.{◌≡◌, ℕ, ◌+◌, ◌≤◌, Bool, true, false, List, [], ◌∷◌, ◌++◌, length, refl, sym, ap, ◌∙◌, subst, append_assoc, append-nil, ◌⊎◌, inl, inr, arith, None, Marker, Context, Kind, Place, Level, is_block, behind_entry, ends_pair, State, Properties, Node, Alias, Scalar, Seq, Map, NoPair, MorePairs, most_open, IsBeforeSeparation, IsPairText, IsPair, IsSinglePairText, IsSinglePair, IsComma, IsLastComma, IsFlowNode, IsPairItem}
 use Rattle.saphyr_scanner.specs.declared.engine.level.Context.TheVariants as context
 use Rattle.saphyr_scanner.specs.Grammar.Tokens as tokens
 use Rattle.saphyr_scanner.specs.Grammar.TokenGrammar as grammar
 use Rattle.yaml_laws.proofs.InFlow.States.{Around, state_at, FlowMoment, moment_in}
-use Rattle.yaml_laws.proofs.Flow.States.{FitsAround, moved, past, PassesPiece, ended, PassesNode, after, StandsBefore}
+use Rattle.yaml_laws.proofs.Flow.States.{FitsAround, moved, past, PassesPiece, ended, IsNext, PassesNode, after, StandsBefore}
 use Rattle.yaml_laws.proofs.Flow.Places.{moved_append}
 use Rattle.yaml_laws.proofs.Flow.GapSteps.{less_behind}
 use Rattle.yaml_laws.proofs.InBlock.Crossings.{fresh_in_flow, holds_in_flow}
@@ -103,17 +103,17 @@ PassesPairItem around room node =
 
 pub pair_item_passes : {around : Around} (room : ℕ) (p : Properties) (key value : Node) → PassesNode around room key
     → PassesNode around room value → PassesPairItem around room (Map p (MorePairs key value NoPair))
-pair_item_passes {around} room p key value K V m t c cs fits ends h now no_candidate fresh low before text =
+pair_item_passes {around} room p key value K V m t c cs ends h now no_candidate fresh next =
     subst (λ (q : Properties). InsidePasses around (state_at around (moment_in context.FlowSequence now))
     context.FlowSequence (IsEntry (Map q (MorePairs key value NoPair))) now.outer now.places (moved m t) (c ∷ cs))
-    (sym h.0) (single_passes room key value K V m t c cs fits ends h.1 now no_candidate fresh low before text)
+    (sym h.0) (single_passes room key value K V m t c cs ends h.1 now no_candidate fresh next)
 
 item_passes : {around : Around} (room : ℕ) (node : Node) → PassesNode around room node → PassesPairItem around room node
     → PassesEntry around context.FlowSequence room (IsItem around.indent room node) (IsEntry node)
-item_passes room node N P m t c cs fits ends (inl h) now no_candidate fresh low before text =
-    node_item_passes room node N m t c cs fits ends h now no_candidate fresh low before text
-item_passes room node N P m t c cs fits ends (inr h) now no_candidate fresh low before text =
-    P m t c cs fits ends h now no_candidate fresh low before text
+item_passes room node N P m t c cs ends (inl h) now no_candidate fresh next =
+    node_item_passes room node N m t c cs ends h now no_candidate fresh next
+item_passes room node N P m t c cs ends (inr h) now no_candidate fresh next =
+    P m t c cs ends h now no_candidate fresh next
 
 pub reads_item : {around : Around} (room : ℕ) (node : Node) → PassesNode around room node
     → PassesPairItem around room node → ReadsEntry around square room (IsItem around.indent room node) (IsEntry node)
@@ -125,11 +125,10 @@ pub reads_pair : {around : Around} (room : ℕ) (key value : Node) → PassesNod
 reads_pair {around} room key value K V = search (begins_content, pair_begins, pair_passes)
 
 entry_passes : {around : Around} {b : Brackets} {room : ℕ} {Text : List ℕ → Type 0} {Is : List Kind → Type 0}
-    → ReadsEntry around b room Text Is → (m : Marker) (t o : List ℕ) → FitsAround around m t o → BeginsEnd o → Text t
-    → (now : FlowMoment) → now.key ≡ None → now.allowed ≡ true → room + length now.outer ≤ most_open
-    → now.adjacent < m.index → StandsBefore around now m (t ++ o)
+    → ReadsEntry around b room Text Is → (m : Marker) (t o : List ℕ) → BeginsEnd o → Text t → (now : FlowMoment)
+    → now.key ≡ None → now.allowed ≡ true → IsNext around room now m t o
     → InsidePasses around (state_at around (moment_in b.context now)) b.context Is now.outer now.places (moved m t) o
-entry_passes {around} {b} {Is = Is} entry m t o fits end h now no_candidate fresh low before text = grind arith
+entry_passes {around} {b} {Is = Is} entry m t o end h now no_candidate fresh next = grind arith
 
 -- ## The others
 
@@ -160,6 +159,8 @@ pub record ReadsOthers (around : Around) (b : Brackets) (room : ℕ) (Text : Lis
   first : (p o : List ℕ) → Text p → BeginsEnd (p ++ (b.closing ∷ o))
   passes : PassesOthers around b room Text Are
 
+-- No further entry comes, but perhaps a last comma. Without it nothing is read, and a pair that is open stays so, to be
+-- ended by the bracket. With it the comma ends the pair.
 pub no_others : {around : Around} {b : Brackets} {room : ℕ} → AreBrackets b
     → ReadsOthers around b room (IsLastComma around.indent) grammar.IsListEnd
 no_others {around} {b} {room} are = record {
@@ -213,6 +214,9 @@ FurtherText indent One Rest t =
 abbrev FurtherTokens : (List Kind → Type 0) → (List Kind → Type 0) → List Kind → Type 0
 FurtherTokens Is Are t = (entry others : List Kind) × Is entry × Are others × (t ≡ tokens.FlowEntry ∷ (entry ++ others))
 
+-- A comma, an entry and the others, whose runs are joined one behind the other. The end of a pair that has no bracket
+-- of its own is put with what comes behind it. So each token list lacks an end that the next one begins with, and
+-- `entries_regrouped` moves the ends to their entries.
 pub more_others : {around : Around} {b : Brackets} {room : ℕ} {One Rest : List ℕ → Type 0} {Is Are : List Kind → Type 0}
     → ReadsEntry around b room One Is → ReadsOthers around b room Rest Are
     → ReadsOthers around b room (FurtherText around.indent One Rest) (FurtherTokens Is Are)
@@ -239,8 +243,13 @@ more_others {around} {b} {room} {One} {Rest} {Is} {Are} one rest =
         (text ∙ ap (past around.indent m) texts) in
         let here = moved m comma in
         let inner = fits_back m comma (item ++ others) behind_all q.right whole in
-        let n = entry_passes one here item (others ++ behind_all) (fits_front here item others behind_all inner)
-        (rest.first others o h) i (after q) q.knows.0 q.knows.1 low q.knows.2 q.fits in
+        let n = entry_passes one here item (others ++ behind_all) (rest.first others o h) i (after q) q.knows.0
+        q.knows.1 (record {
+          fits = fits_front here item others behind_all inner;
+          enough = low;
+          low = q.knows.2;
+          stands = q.fits;
+        }) in
         let there = moved here item in
         let both = join q n.passes (ended around.indent there (others ++ behind_all)) n.passes.knows in
         let r = rest.passes there others o h (fits_back here item others behind_all n.passes.right inner) n.inside
@@ -267,9 +276,8 @@ more_others {around} {b} {room} {One} {Rest} {Is} {Are} one rest =
 pub record ReadsEntries (around : Around) (b : Brackets) (room : ℕ) (Text : List ℕ → Type 0) (Are : List Kind → Type 0)
     : Type 0 where
   pub content : (p o : List ℕ) → Text p → StartsContent (p ++ (b.closing ∷ o))
-  pub passes : (m : Marker) (p o : List ℕ) → Text p → FitsAround around m p (b.closing ∷ o) → (now : FlowMoment)
-      → now.key ≡ None → now.allowed ≡ true → room + length now.outer ≤ most_open → now.adjacent < m.index
-      → StandsBefore around now m (p ++ (b.closing ∷ o))
+  pub passes : (m : Marker) (p o : List ℕ) → Text p → (now : FlowMoment) → now.key ≡ None → now.allowed ≡ true
+      → IsNext around room now m p (b.closing ∷ o)
       → InsidePasses around (state_at around (moment_in b.context now)) b.context Are now.outer now.places (moved m p)
       (b.closing ∷ o)
 
@@ -279,7 +287,7 @@ no_entries {around} {b} are =
     record {
       content = λ p o e. begins_with b.closing o (p ++ (b.closing ∷ o)) (ap (λ (t : List ℕ). t ++ (b.closing ∷ o)) e)
           (end_is_content b.closing are.ends);
-      passes = λ m p o e fits now no_candidate fresh low before text. let behind = b.closing ∷ o in
+      passes = λ m p o e now no_candidate fresh next. let behind = b.closing ∷ o in
           subst (λ (t : List ℕ). StandsBefore around now m (t ++ behind)
           → InsidePasses around (state_at around (moment_in b.context now)) b.context (λ t. t ≡ []) now.outer now.places
           (moved m t) behind) (sym e) (λ there. record {
@@ -288,10 +296,10 @@ no_entries {around} {b} are =
             back = are.back;
             tokens = [];
             are = ap pending are.none;
-            passes = passes_nothing around (moment_in b.context now) m behind (ended around.indent m behind) fits.right
-                there (fresh_in_flow b.context behind now.allowed now.cursor are.flows) (holds_in_flow are.flows)
-                (less_behind around.indent now.adjacent m [] behind before);
-          }) text;
+            passes = passes_nothing around (moment_in b.context now) m behind (ended around.indent m behind)
+                next.fits.right there (fresh_in_flow b.context behind now.allowed now.cursor are.flows)
+                (holds_in_flow are.flows) (less_behind around.indent now.adjacent m [] behind next.low);
+          }) next.stands;
     }
 
 first_regrouped : (i q r j o : List Kind) → q ++ r ≡ j ++ o → (i ++ q) ++ r ≡ (i ++ j) ++ o
@@ -303,23 +311,29 @@ AllText One Rest t = (item others : List ℕ) × One item × Rest others × (t �
 abbrev AllTokens : (List Kind → Type 0) → (List Kind → Type 0) → List Kind → Type 0
 AllTokens Is Are t = (entry others : List Kind) × Is entry × Are others × (t ≡ entry ++ others)
 
+-- The first entry and the others, as in `more_others`, without a comma.
 pub more_entries : {around : Around} {b : Brackets} {room : ℕ} {One Rest : List ℕ → Type 0}
     {Is Are : List Kind → Type 0} → ReadsEntry around b room One Is → ReadsOthers around b room Rest Are
     → ReadsEntries around b room (AllText One Rest) (AllTokens Is Are)
 more_entries {around} {b} {room} {One} {Rest} {Is} {Are} one rest =
     record {
       content = grind (arith, content_front);
-      passes = λ m p o (item, others, i, h, e) fits now no_candidate fresh low before text.
+      passes = λ m p o (item, others, i, h, e) now no_candidate fresh next.
           let behind_all = b.closing ∷ o in
           let start = state_at around (moment_in b.context now) in
-          let whole = fits_so m p (item ++ others) behind_all e fits in
+          let whole = fits_so m p (item ++ others) behind_all e next.fits in
           let texts = ap (λ (t : List ℕ). t ++ behind_all) e ∙ append_assoc item others behind_all in
-          let n = entry_passes one m item (others ++ behind_all) (fits_front m item others behind_all whole)
-          (rest.first others o h) i now no_candidate fresh low before (text ∙ ap (past around.indent m) texts) in
+          let n = entry_passes one m item (others ++ behind_all) (rest.first others o h) i now no_candidate fresh
+          (record {
+            fits = fits_front m item others behind_all whole;
+            enough = next.enough;
+            low = next.low;
+            stands = next.stands ∙ ap (past around.indent m) texts;
+          }) in
           let there = moved m item in
           let q = n.passes in
           let r = rest.passes there others o h (fits_back m item others behind_all n.passes.right whole) n.inside
-          n.flows n.back (after q) low q.knows q.fits in
+          n.flows n.back (after q) next.enough q.knows q.fits in
           let end = moved there others in
           subst (λ (z : Marker). InsidePasses around start b.context (AllTokens Is Are) now.outer now.places z
           behind_all) (sym (ap (moved m) e ∙ moved_append m item others))

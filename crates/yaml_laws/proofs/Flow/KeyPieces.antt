@@ -35,6 +35,8 @@ fits_reach {around} m p o begins right (fits_key block k held f) =
 
 -- ## Parts
 
+-- A part of a piece fits as the piece does. Of a key's piece it has to be told again what is behind the part and on its
+-- line: the separation w, which is blanks there, and the content of b. The lengths add up to the piece's.
 pub cut_front : {around : Around} {x : Context} (m : Marker) (a w b o : List ℕ) → StartsContent b
     → IsSeparation around.indent w
     → Fits around x m (a ++ (w ++ b)) o → Fits around x m a (w ++ (b ++ o))
@@ -63,6 +65,7 @@ cut_front {around} m a w b o begins parts (fits_key block k held f) =
       near = omega (arith, near, size_a, size_w, size_b, size);
     })
 
+-- Of a key's piece what is behind the back part stays, and the place moves along the line by the front part's length.
 pub cut_back : {around : Around} {x : Context} (m : Marker) (a b o : List ℕ) → around.indent ≤ (moved m a).col
     → Fits around x m (a ++ b) o → Fits around x (moved m a) b o
 cut_back m a b o right (fits_free h f) = fits_free h (fits_back m a b o right f)
@@ -143,9 +146,12 @@ blanks_near k m p o f there y b =
 pub blanks_lands : (indent : ℕ) (m : Marker) (o w : List ℕ) (c : ℕ) (cs : List ℕ) → o ≡ w ++ (c ∷ cs)
     → AreIn is_blank w → IsContentStart c → indent ≤ m.col → past indent m o ≡ (moved m w, c ∷ cs)
 blanks_lands indent m o w c cs is are content right =
-    ap (past indent m) is ∙ (blanks_past indent w are m right).is (c ∷ cs) ∙ past_content indent (moved m w) c cs content
+    ap (past indent m) is ∙ (blanks_past indent w are m right).is (c ∷ cs)
+    ∙ past_content indent (moved m w) c cs content
 
--- What is kept behind a piece, where the scanner is: outside flow the key, if one is held.
+-- What is kept behind a piece, where the scanner is: outside flow the key, if one is held. By how the piece fits. Only
+-- a piece of a key has something to show: the blanks behind it end at a token near the key's start, so the key is not
+-- too far away where the scanner is.
 pub held_behind : {around : Around} {x : Context} (m : Marker) (p o : List ℕ) → Fits around x m p o
     → around.indent ≤ (moved m p).col → (j : Option Candidate) (there : Cursor) (allowed : Bool)
     → ((k : Candidate) → around.held ≡ Some k → is_block x ≡ true → j ≡ Some k)

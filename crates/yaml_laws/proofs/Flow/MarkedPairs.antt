@@ -1,9 +1,9 @@
 -- Pairs that a `?` begins, inside flow.
-use Rattle.yaml_laws.proofs.Common.{◌≡◌, ℕ, ◌+◌, ◌<◌, ◌≤◌, Bool, true, false, List, [], ◌∷◌, ◌++◌, length, refl, sym, ap, ◌∙◌, arith, append_assoc, ◌⊎◌, inl, inr, None, question_mark, Marker, Context, Kind, is_block, behind_question, begins_pair, behind_colon, Node, left_out, most_open, IsColonAndValue, IsKeyAndValue, IsValueAlone, IsBehindMark, IsExplicitPair, IsLoneMark, IsFlowNode}
+use Rattle.yaml_laws.proofs.Common.{◌≡◌, ℕ, ◌<◌, ◌≤◌, Bool, true, false, List, [], ◌∷◌, ◌++◌, refl, sym, ap, ◌∙◌, arith, append_assoc, ◌⊎◌, inl, inr, None, question_mark, Marker, Context, Kind, is_block, behind_question, begins_pair, behind_colon, Node, left_out, IsColonAndValue, IsKeyAndValue, IsValueAlone, IsBehindMark, IsExplicitPair, IsLoneMark, IsFlowNode}
 use Rattle.saphyr_scanner.specs.Grammar.Tokens as tokens
 use Rattle.saphyr_scanner.specs.Grammar.TokenGrammar as grammar
 use Rattle.yaml_laws.proofs.InFlow.States.{Around, state_at, FlowMoment, moment_in}
-use Rattle.yaml_laws.proofs.Flow.States.{FitsAround, moved, past, IsContentStart, PassesPiece, no_key, ended, PassesNode, after, StandsBefore}
+use Rattle.yaml_laws.proofs.Flow.States.{FitsAround, moved, past, IsContentStart, PassesPiece, no_key, ended, IsNext, next_in, PassesNode, after, StandsBefore}
 use Rattle.yaml_laws.proofs.Flow.Places.{moved_append}
 use Rattle.yaml_laws.proofs.Flow.GapSteps.{past_low, less_on}
 use Rattle.yaml_laws.proofs.Flow.Joins.{join, separation_joins, knowing}
@@ -75,25 +75,23 @@ inside_begins indent room key value t (inr (inr h)) =
 abbrev InsideTokens : Node → Node → List Kind → Type 0
 InsideTokens key value t = MarkedTokens key value (tokens.Key ∷ t)
 
+-- By what comes after the mark: a key, a value or both. The mark's token is put in front of the tokens, where the
+-- grammar has it.
 inside_passes : {around : Around} (room : ℕ) (key value : Node) → PassesNode around room key
     → PassesNode around room value → (y z : Context) → IsMarked y z → (m : Marker) (t o : List ℕ)
-    → FitsAround around m t o → IsBehindEntry around.indent o → Inside around.indent room key value t
-    → (now : FlowMoment) → now.key ≡ None → now.allowed ≡ false
-    → room + length now.outer ≤ most_open → now.adjacent < m.index → StandsBefore around now m (t ++ o)
+    → IsBehindEntry around.indent o → Inside around.indent room key value t → (now : FlowMoment) → now.key ≡ None
+    → now.allowed ≡ false → IsNext around room now m t o
     → PieceTokens around (state_at around (moment_in z now)) (InsideTokens key value) z now.outer now.places (moved m t)
     o
-inside_passes {around} room key value K V y z c m t o fits ends (inl (none, h)) now no_candidate none_allowed
-    low before text =
-    let n = K m t o (inl h) fits (entry_behind around.indent key o ends) (moment_in z now) before c.inside low text in
+inside_passes {around} room key value K V y z c m t o ends (inl (none, h)) now no_candidate none_allowed next =
+    let n = K m t o (inl h) (entry_behind around.indent key o ends) (moment_in z now) c.inside (next_in z next) in
     record {
       tokens = n.tokens;
       are = inr (none, (n.tokens, inr n.are, refl));
       passes = knowing n.passes (ended around.indent (moved m t) o) n.passes.knows.low;
     }
-inside_passes {around} room key value K V y z c m t o fits ends (inr (inl h)) now no_candidate none_allowed
-    low before text =
-    let start = state_at around (moment_in z now) in
-    let v = alone_passes room key value V z c.inside m t o fits ends h now no_candidate low before text in
+inside_passes room key value K V y z c m t o ends (inr (inl h)) now no_candidate none_allowed next =
+    let v = alone_passes room key value V z c.inside m t o ends h now no_candidate next in
     mapped_so (λ ts (vs, are, is). inl (
       tokens.Key ∷ [],
       tokens.Value ∷ vs,
@@ -101,11 +99,8 @@ inside_passes {around} room key value K V y z c m t o fits ends (inr (inl h)) no
       (vs, are, refl),
       cc,
     )) (rw c.colon at v)
-inside_passes {around} room key value K V y z c m t o fits ends (inr (inr h)) now no_candidate none_allowed
-    low before text =
-    let start = state_at around (moment_in z now) in
-    let v = marked_key_passes room key value K V z c.inside c.no_pair m t o fits ends h now no_candidate
-    none_allowed low before text in
+inside_passes room key value K V y z c m t o ends (inr (inr h)) now no_candidate none_allowed next =
+    let v = marked_key_passes room key value K V z c.inside c.no_pair m t o ends h now no_candidate none_allowed next in
     mapped_so (λ ts (ks, vs, are, others, is).
     inl (
       tokens.Key ∷ ks,
@@ -119,21 +114,26 @@ inside_passes {around} room key value K V y z c m t o fits ends (inr (inr h)) no
 -- a `?` with a key, a value or both
 pub explicit_passes : {around : Around} (room : ℕ) (key value : Node) → PassesNode around room key
     → PassesNode around room value → (y z : Context) → IsMarked y z → (m : Marker) (t o : List ℕ)
-    → FitsAround around m t o → IsBehindEntry around.indent o
+    → IsBehindEntry around.indent o
     → IsExplicitPair key value (IsFlowNode room key true around.indent) (IsFlowNode room value true around.indent)
-    around.indent t → (now : FlowMoment) → room + length now.outer ≤ most_open → now.adjacent < m.index
-    → StandsBefore around now m (t ++ o)
+    around.indent t → (now : FlowMoment) → IsNext around room now m t o
     → PieceTokens around (state_at around (moment_in y now)) (MarkedTokens key value) z now.outer now.places (moved m t)
     o
-explicit_passes {around} room key value K V y z c m t o fits ends (separation, pair, mark, h, e) now low before text =
+explicit_passes {around} room key value K V y z c m t o ends (separation, pair, mark, h, e) now next =
     let b = inside_begins around.indent room key value pair h in
-    let whole = fits_so m t ((63 ∷ separation) ++ pair) o e fits in
+    let whole = fits_so m t ((63 ∷ separation) ++ pair) o e next.fits in
+    let before = next.low in
     let texts : t ++ o ≡ 63 ∷ (separation ++ (pair ++ o)) = cc (append_assoc (63 ∷ separation) pair o) in
     let p = mark_behind around y z c m separation (pair ++ o) (fits_front m (63 ∷ separation) pair o whole) mark b.first
     (b.others ++ o) (ap (λ (x : List ℕ). x ++ o) b.is) b.content now
-    (omega (arith, before)) (text ∙ ap (past around.indent m) texts) in
-    let q = inside_passes room key value K V y z c (moved m (63 ∷ separation)) pair o
-    (fits_back m (63 ∷ separation) pair o p.right whole) ends h (after p) p.knows.0 p.knows.1 low p.knows.2 p.fits in
+    (omega (arith, before)) (next.stands ∙ ap (past around.indent m) texts) in
+    let q = inside_passes room key value K V y z c (moved m (63 ∷ separation)) pair o ends h (after p) p.knows.0
+    p.knows.1 (record {
+      fits = fits_back m (63 ∷ separation) pair o p.right whole;
+      enough = next.enough;
+      low = p.knows.2;
+      stands = p.fits;
+    }) in
     mapped_at (moved (moved m (63 ∷ separation)) pair) (moved m t)
     (cc (moved_append m (63 ∷ separation) pair)) (record {
       tokens = tokens.Key ∷ q.tokens;
@@ -145,15 +145,15 @@ upto : (a b c : ℕ) → a < b → b ≤ c → a ≤ c
 upto a b c h k = omega (arith, h, k)
 
 -- a `?` alone
-pub lone_passes : {around : Around} (key value : Node) (y z : Context) → IsMarked y z
-    → (m : Marker) (t : List ℕ) (c : ℕ) (cs : List ℕ) → FitsAround around m t (c ∷ cs) → EndsEntry c
-    → IsLoneMark key value around.indent t → (now : FlowMoment) → now.adjacent < m.index
-    → StandsBefore around now m (t ++ (c ∷ cs))
+pub lone_passes : {around : Around} (room : ℕ) (key value : Node) (y z : Context) → IsMarked y z
+    → (m : Marker) (t : List ℕ) (c : ℕ) (cs : List ℕ) → EndsEntry c → IsLoneMark key value around.indent t
+    → (now : FlowMoment) → IsNext around room now m t (c ∷ cs)
     → PieceTokens around (state_at around (moment_in y now)) (MarkedTokens key value) z now.outer now.places (moved m t)
     (c ∷ cs)
-lone_passes {around} key value y z q m t c cs fits ends (separation, no_key_there, none, mark, e) now before text =
-    let p = mark_behind around y z q m separation (c ∷ cs) (fits_so m t (63 ∷ separation) (c ∷ cs) e fits) mark c cs
-    refl (end_is_content c ends) now (omega (arith, before)) (cc) in
+lone_passes {around} room key value y z q m t c cs ends (separation, no_key_there, none, mark, e) now next =
+    let before = next.low in
+    let p = mark_behind around y z q m separation (c ∷ cs) (fits_so m t (63 ∷ separation) (c ∷ cs) e next.fits) mark c
+    cs refl (end_is_content c ends) now (omega (arith, before)) (cc) in
     mapped_at (moved m (63 ∷ separation)) (moved m t) (ap (moved m) (sym e))
     (record {
       tokens = tokens.Key ∷ [];

@@ -25,12 +25,9 @@ pub record IsReadTag (tag : Tag) (t : List ℕ) : Type 0 where
   pub is : IsTagText t handle suffix
   pub token : tokens.Tag (encode_utf8_all handle) (encode_utf8_all suffix) ≡ tag_token tag
 
-mark_encoded : tokens.Tag [] (encode_utf8_all (exclamation_mark ∷ [])) ≡ tag_token NonSpecific
-unfolding encode
-mark_encoded = refl
-
 pub tag_read : (tag : Tag) (t : List ℕ) → spelling.IsTag tag t → IsReadTag tag t
-tag_read NonSpecific t h = record { handle = []; suffix = 33 ∷ []; is = inl (h, refl, refl); token = mark_encoded }
+unfolding encode
+tag_read NonSpecific t h = record { handle = []; suffix = 33 ∷ []; is = inl (h, refl, refl); token = refl }
 tag_read (Verbatim uri) t h = record { handle = []; suffix = uri; is = inr (inl (h.0, h.2, refl, h.3)); token = refl }
 tag_read (Shorthand handle suffix) t h =
     let r = handle_read handle h.0 h.2 in
@@ -86,6 +83,8 @@ name_step reads around d token_of m b indicator name o e h ends now k a placed =
       end,
     )
 
+-- The text is written as its indicator and its name, and is one token (`token_passes`). Since no break is in it, its
+-- end is along the line, and blanks behind it are left there.
 name_passes : ReaderPromises → (around : Around) (token_of : List ℕ → Kind) (indicator : ℕ) (name t o : List ℕ)
     (m : Marker) → ((second n : ℕ) (c : Core) → step indicator second n c ≡ property.name_steps token_of n c)
     → is_start indicator ≡ true → is_break indicator ≡ false → IsAnchorName name → t ≡ indicator ∷ name
@@ -149,12 +148,11 @@ tag_step reads around d m b t handle suffix o h now k a ends placed =
       unbroken_along m t (tag_no_break t handle suffix h),
     )
 
-pub begins_tag : (second n : ℕ) (c : Core) → step 33 second n c ≡ property.tag_steps n c
-unfolding step
-begins_tag second n c = refl
-
+-- A tag is one token too (`token_passes`). Its text is taken apart into what the reader calls handle and suffix
+-- (`tag_read`), from which its token is made.
 pub tag_passes : ReaderPromises → (around : Around) (tag : Tag) (t o : List ℕ) (m : Marker) → IsTag tag t
     → (now : FlowMoment) → EndsTag (not (is_block now.context)) o → PassesName around (tag_token tag) now m t o
+unfolding step
 tag_passes reads around tag t o m h now ends fits from ready =
     let r = tag_read tag t h in
     let f = tag_first t r.handle r.suffix r.is in
@@ -174,7 +172,7 @@ tag_passes reads around tag t o m h now ends fits from ready =
       adjacent = now.adjacent;
       to = λ d. d;
       is = λ d. let c = core_at around d (right_at now (t ++ o) m b j e) in
-          ap (λ (z : ℕ). step z second n c) at_first ∙ begins_tag second n c
+          ap (λ (z : ℕ). step z second n c) at_first ∙ refl
           ∙ tag_step reads around d m b t r.handle r.suffix o r.is now j e ends placed;
       fits = refl;
       fresh = λ _ e. e;

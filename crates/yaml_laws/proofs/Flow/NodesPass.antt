@@ -1,29 +1,30 @@
 -- The scanner takes a node in flow style and makes its tokens.
-use Rattle.yaml_laws.proofs.Common.{◌≡◌, ℕ, ◌+◌, ◌<◌, ◌≤◌, false, true, List, [], ◌++◌, length, arith, inl, inr, Marker, is_block, Level, Properties, Node, Alias, Scalar, Seq, Map, Nodes, NoNode, MoreNodes, Pairs, NoPair, MorePairs, most_open, AreItems, AreOtherItems, AreFlowPairs, AreOtherFlowPairs, IsFlowNode}
+use Rattle.yaml_laws.proofs.Common.{◌≡◌, ℕ, ◌+◌, ◌≤◌, false, true, List, [], length, arith, inl, inr, Marker, is_block, Level, Node, Alias, Scalar, Seq, Map, Nodes, NoNode, MoreNodes, Pairs, NoPair, MorePairs, most_open, AreItems, AreOtherItems, AreFlowPairs, AreOtherFlowPairs, IsFlowNode}
 use Rattle.saphyr_scanner.specs.Grammar.TokenGrammar as grammar
 use Rattle.yaml_laws.proofs.InFlow.States.{Around, FlowMoment, state_at}
 use Rattle.yaml_laws.proofs.Flow.Tokens.{part_ready}
 use Rattle.yaml_laws.proofs.Flow.ContentStarts.{Begins, node_begins, plain_key_node_begins}
 use Rattle.yaml_laws.proofs.InBlock.Crossings.{holds_in_flow}
-use Rattle.yaml_laws.proofs.Flow.States.{fits_free, FitsAround, IsBehindNode, ReaderPromises, NodePasses, PassesNode, StandsBefore, ReadsText, follows_inside}
+use Rattle.yaml_laws.proofs.Flow.States.{fits_free, IsBehindNode, ReaderPromises, NodePasses, IsNext, PassesNode, ReadsText, follows_inside}
 use Rattle.yaml_laws.proofs.Flow.Collections.{square, curly, are_square, are_curly}
 use Rattle.yaml_laws.proofs.Flow.Items.{PassesPairItem, pair_item_passes, reads_item, reads_pair, ReadsOthers, no_others, more_others, ReadsEntries, no_entries, more_entries}
 use Rattle.yaml_laws.proofs.Flow.Properties.{alias_passes}
 use Rattle.yaml_laws.proofs.Flow.ScalarNodes.{scalar_passes, key_node_passes}
-use Rattle.yaml_laws.proofs.Flow.Collections.Runs.{ReadsCollection, reads_sequence, reads_mapping, calm_in_flow, collection_passes}
+use Rattle.yaml_laws.proofs.Flow.Collections.Runs.{reads_sequence, reads_mapping, calm_in_flow, collection_passes}
 use Rattle.saphyr_scanner.specs.declared.engine.level.Context.TheVariants as context
 
 -- ## A node inside flow
 
 passes_inside : {around : Around} {node : Node} {m : Marker} {t o : List ℕ} (room : ℕ) → Begins t → ((now : FlowMoment)
     → is_block now.context ≡ false → room + length now.outer ≤ most_open → ReadsText around node m t o now)
-    → FitsAround around m t o → IsBehindNode around.indent node o → (now : FlowMoment) → now.adjacent < m.index
-    → is_block now.context ≡ false → room + length now.outer ≤ most_open → StandsBefore around now m (t ++ o)
-    → NodePasses around now node m t o
-passes_inside {around} {node} {m} {t} {o} room begins passes fits behind now low flow small text =
-    let f = fits_free (inl flow) fits in
-    let r = passes now flow small f (follows_inside flow behind) (omega (arith, low), inr low) (state_at around now)
-    (part_ready around now m t o begins f fits.right text (holds_in_flow flow)) in
+    → IsBehindNode around.indent node o → (now : FlowMoment) → is_block now.context ≡ false
+    → IsNext around room now m t o → NodePasses around now node m t o
+passes_inside {around} {node} {m} {t} {o} room begins passes behind now flow next =
+    let low = next.low in
+    let f = fits_free (inl flow) next.fits in
+    let r = passes now flow next.enough f (follows_inside flow behind) (omega (arith, low), inr low)
+    (state_at around now)
+    (part_ready around now m t o begins f next.fits.right next.stands (holds_in_flow flow)) in
     record { tokens = r.tokens; are = r.are grammar.InFlow; passes = rw (r.none (inl flow)) at r.passes }
 
 -- ## All nodes
@@ -71,11 +72,11 @@ mutual
   all_pair_items_pass reads around room (Map p (MorePairs key value NoPair)) =
       pair_item_passes room p key value (nodes_pass reads around room key) (nodes_pass reads around room value)
   all_pair_items_pass reads around room (Map p (MorePairs key value (MorePairs other another pairs))) =
-      λ m t c cs fits ends h. absurd h
-  all_pair_items_pass reads around room (Map p NoPair) = λ m t c cs fits ends h. absurd h
-  all_pair_items_pass reads around room (Alias name) = λ m t c cs fits ends h. absurd h
-  all_pair_items_pass reads around room (Scalar p style value) = λ m t c cs fits ends h. absurd h
-  all_pair_items_pass reads around room (Seq p nodes) = λ m t c cs fits ends h. absurd h
+      λ m t c cs ends h. absurd h
+  all_pair_items_pass reads around room (Map p NoPair) = λ m t c cs ends h. absurd h
+  all_pair_items_pass reads around room (Alias name) = λ m t c cs ends h. absurd h
+  all_pair_items_pass reads around room (Scalar p style value) = λ m t c cs ends h. absurd h
+  all_pair_items_pass reads around room (Seq p nodes) = λ m t c cs ends h. absurd h
 
   all_pairs_pass : ReaderPromises → (around : Around) (room : ℕ) (pairs : Pairs)
       → ReadsEntries around curly room (AreFlowPairs room pairs around.indent) (grammar.YieldFlowPairs pairs)
@@ -91,16 +92,6 @@ mutual
       more_others (reads_pair room key value (nodes_pass reads around room key) (nodes_pass reads around room value))
       (all_other_pairs_pass reads around room pairs)
 
-pub sequence_read : ReaderPromises → (around : Around) (p : Properties) (nodes : Nodes)
-    → ReadsCollection around (Seq p nodes) p square (λ left. AreItems left nodes around.indent)
-    (grammar.YieldFlowEntries nodes)
-sequence_read reads around p nodes = reads_sequence around p nodes (λ left. all_items_pass reads around left nodes)
-
-pub mapping_read : ReaderPromises → (around : Around) (p : Properties) (pairs : Pairs)
-    → ReadsCollection around (Map p pairs) p curly (λ left. AreFlowPairs left pairs around.indent)
-    (grammar.YieldFlowPairs pairs)
-mapping_read reads around p pairs = reads_mapping around p pairs (λ left. all_pairs_pass reads around left pairs)
-
 all_room : (ls : List Level) → ls ≡ [] → most_open + length ls ≤ most_open
 all_room ls e = rw e (omega arith)
 
@@ -112,8 +103,8 @@ nodes_close reads around same (Alias name) m t o h now is none = alias_passes re
 nodes_close reads around same (Scalar p style value) m t o h now is none =
     scalar_passes reads around p style value m t o now (rw is h)
 nodes_close reads around same (Seq p nodes) m t o h now is none =
-    collection_passes reads (sequence_read reads around p nodes) most_open m t o now h (all_room now.outer none)
-    (λ _. same)
+    collection_passes reads (reads_sequence around p nodes (λ left. all_items_pass reads around left nodes)) most_open m
+    t o now h (all_room now.outer none) (λ _. same)
 nodes_close reads around same (Map p pairs) m t o h now is none =
-    collection_passes reads (mapping_read reads around p pairs) most_open m t o now h (all_room now.outer none)
-    (λ _. same)
+    collection_passes reads (reads_mapping around p pairs (λ left. all_pairs_pass reads around left pairs)) most_open m
+    t o now h (all_room now.outer none) (λ _. same)

@@ -117,10 +117,6 @@ ends_in_flow around node m o apart h right =
     stops (inr (inl e)) = inr (inl e)
     stops (inr (inr e)) = inl (rw (e.1, lands) (word_stops node h.separation h.first h.others apart h.ends))
 
-key_colon_stops : (r : List ℕ) → is_blank_or_breakz (slice_index r 0) ≡ true → is_in_word false (colon ∷ r) ≡ false
-unfolding is_in_word
-key_colon_stops r h = rw h refl
-
 blanks_apart : (w r : List ℕ) → AreIn is_blank w → slice_index (w ++ (colon ∷ r)) 0 ≢ number_sign
 blanks_apart [] r are e = absurd (omega (arith, e))
 blanks_apart (c ∷ cs) r are e = grind arith
@@ -128,10 +124,11 @@ blanks_apart (c ∷ cs) r are e = grind arith
 -- before the colon of a key
 pub ends_at_colon : (around : Around) (m : Marker) (o w r : List ℕ) → o ≡ w ++ (colon ∷ r) → AreIn is_blank w
     → is_blank_or_breakz (slice_index r 0) ≡ true → around.indent ≤ m.col → EndsPlain false around.column m o
+unfolding is_in_word
 ends_at_colon around m o w r is are white right =
     record {
       stops = inl (ap (λ (u : Cursor). is_in_word false u.rest) (ap (past_white m false) is
-          ∙ white_blanks m w 58 r are colon_content) ∙ key_colon_stops r white);
+          ∙ white_blanks m w 58 r are colon_content) ∙ (rw white refl));
       apart = rw is (blanks_apart w r are);
       tabs = tabs_behind_low around.column around.indent around.low m m false o
           (ap (λ (z : Marker × List ℕ). is_blank (slice_index z.1 0)) (blanks_lands around.indent m o w 58 r is are
@@ -144,15 +141,12 @@ pub ends_at_root : (around : Around) (m : Marker) (o : List ℕ) → IsBehindRoo
 ends_at_root around m o h right =
     record {
       stops = stops (reaches around.indent m o past_blanks) (h.lands right);
-      apart = other (slice_index o 0) (root_first around m o h);
+      apart = (λ e. absurd (false≢true (rw e at (root_first around m o h))));
       tabs = tabs_behind_low around.column around.indent around.low m m false o past_blanks;
     }
   where
     past_blanks : is_blank (slice_index (past around.indent m o).1 0) ≡ false
     past_blanks = lands_on_content around.column (past around.indent m o).0 (past around.indent m o).1 (h.lands right)
-
-    other : (c : ℕ) → IsTrue (is_blank_or_breakz c) → c ≢ number_sign
-    other c k e = absurd (false≢true (rw e at k))
 
     low : (a b c : ℕ) → a ≤ b → b < c → c ≤ a → ⊥
     low a b c h k g = absurd (omega (arith, h, k, g))

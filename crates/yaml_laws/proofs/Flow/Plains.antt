@@ -57,7 +57,9 @@ word_begins f indent t o (word, others, (is_word, begins, no_dash, no_mark, no_c
           further = λ _. safe.2.0;
         }
 
--- the first word of a key, which comes before the key's colon
+-- The first word of a key, which comes before the key's colon. A key on its own is one word: if it is one character
+-- that could be an indicator, the colon behind it is what makes it safe. Otherwise words and gaps come behind the first
+-- one.
 pub key_begins : (f : Bool) (indent : ℕ) (t r : List ℕ) → IsPlainKey f indent t → BeginsWord f t (58 ∷ r)
 key_begins f indent t r (inl ((some, safe, sign), begins)) = by_word t some safe sign begins
   where
@@ -113,6 +115,8 @@ value_test true first second i ad h low = and_false (first == 58)
 value_test false first second i ad h (inl e) = absurd (cc)
 value_test false first second i ad h (inr low) = grind arith
 
+-- The step of a plain scalar is the last choice of `step`. The four tests that read the second character or the core
+-- are premises; of the others each asks for a character that begins no plain scalar.
 pub plain_begins : (first second n : ℕ) (c : Core) → IsTrue (begins_plain first)
     → ((first == hyphen) && is_blank_or_breakz second) ≡ false
     → ((first == question_mark) && is_blank_or_breakz second) ≡ false
@@ -258,6 +262,8 @@ pub white_blanks : (m : Marker) (w : List ℕ) (c : ℕ) (cs : List ℕ) → Are
 white_blanks m [] c cs are content = rw (content.blank, content.break) refl
 white_blanks m (x ∷ xs) c cs are content = grind (arith, white_blanks (along m 1) xs c cs are.1 content)
 
+-- The scalar is one token (`token_passes`), which the step ends behind the blanks and the break that follow it
+-- (`past_white`). So a key may begin if a break was passed. On a key's line only blanks are.
 text_passes : ReaderPromises → (around : Around) (t o : List ℕ) (m : Marker) (now : FlowMoment)
     → BeginsWord (not (is_block now.context)) t o
     → (IsClear m t o → EndsPlain (not (is_block now.context)) around.column (moved m t) o

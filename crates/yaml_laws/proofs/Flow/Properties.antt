@@ -1,5 +1,5 @@
 -- The properties of a node in flow style are passed, and an alias is.
-use Rattle.std.proofs.Common.{◌≡◌, ◌≢◌, ℕ, zero, suc, ◌+◌, ◌-◌, ◌≤◌, Bool, false, List, [], ◌∷◌, ◌++◌, slice_index, refl, sym, ap, ◌∙◌, arith, subst, append_assoc, append-nil, IsTrue, inl, inr}
+use Rattle.std.proofs.Common.{◌≡◌, ◌≢◌, ℕ, zero, suc, ◌+◌, ◌-◌, Bool, false, List, [], ◌∷◌, ◌++◌, slice_index, refl, sym, ap, ◌∙◌, arith, subst, append_assoc, append-nil, IsTrue, inl, inr}
 use Rattle.yaml_laws.proofs.Common.{not, option_map, Option, Some, None, is_blank, is_blank_or_breakz, Marker, AreIn, EndsTag, spaces, IsGap, IsSeparation, both_in, Context, Kind, alias_token, anchor_token, tag_token, Place, Candidate, Level, is_block, State, Tag, Alias, saved, IsTag, IsAnchor, allows_adjacent}
 use Rattle.saphyr_scanner.specs.Grammar.TokenGrammar as grammar
 use Rattle.yaml_laws.specs.Grammar.FlowNodes as yaml
@@ -36,7 +36,8 @@ one_property : {around : Around} {start : Bool → State} {ls : List Level} {ps 
     → PassesPiece around start (behind_properties x kept ad) x ls ps m o ts
 one_property x kept ad p = grind (arith, knowing)
 
--- a gap is separation
+-- A gap is separation. Blanks alone are, on the line. With a break the gap ends in an indentation that may be more than
+-- is asked: as much as is asked ends the separation's lines, and the other spaces are blanks behind them (`longer`).
 pub gap_separates : (indent : ℕ) (w : List ℕ) → IsGap indent w → IsSeparation indent w
 gap_separates indent w (inl (some, are)) = ([], w, ([], tt, refl), are, refl)
 gap_separates indent w (inr (
@@ -51,7 +52,7 @@ gap_separates indent w (inr (
     let line = blanks ++ (comment ++ (10 ∷ (filler ++ spaces indent))) in
     let more = spaces (n - indent) ++ tail in
     let front_is : front ≡ spaces indent ++ more = cc (
-      longer indent n low,
+      (let same : n ≡ indent + (n - indent) = omega (arith, low) in ap spaces same ∙ sum indent (n - indent)),
       append_assoc (spaces indent) (spaces (n - indent)) tail,
     ) in (
       line ++ [],
@@ -68,9 +69,6 @@ gap_separates indent w (inr (
     sum zero j = let same : 0 + j ≡ j = omega arith in ap spaces same
     sum (suc i) j =
         let same : suc i + j ≡ suc (i + j) = omega arith in cc (sum i j)
-
-    longer : (i n : ℕ) → i ≤ n → spaces n ≡ spaces i ++ spaces (n - i)
-    longer i n low = let same : n ≡ i + (n - i) = omega (arith, low) in ap spaces same ∙ sum i (n - i)
 
 -- two with a gap between
 two_properties : (around : Around) (start : Bool → State) (x : Context) (kept before : Option Candidate)
@@ -155,6 +153,8 @@ both_passed {around} {P} {Q} {i} {j} first second m t a w b o h spaced g begins 
     (second n b o g (after p) ends inner (state_at around (after p))
     (part_ready around (after p) n b o begins inner p.right p.fits p.holds))) fits ready
 
+-- By which properties there are: one of the two is a token (`one_property`), and both are, in either order, with a gap
+-- between (`both_passed`).
 pub properties_read : ReaderPromises
     → (around : Around) (anchor : Option (List ℕ)) (tag : Option Tag) (m : Marker) (t o : List ℕ)
     → yaml.AreProperties anchor tag around.indent t → (now : FlowMoment) → EndsTag (not (is_block now.context)) o

@@ -56,7 +56,8 @@ key_of : (around : Around) (d : Bool) (now : FlowMoment) → is_block now.contex
 unfolding block.key_steps
 key_of around d now e = grind arith
 
--- A `?` before separation without a tab: the key after it is not kept.
+-- A `?` before separation without a tab: the key after it is not kept. The step passes what is behind the mark up to
+-- the next token (`spaces_passed`), and puts the mark's token, which ends there.
 pub mark_passes : (around : Around) (y : Context) → is_block y ≡ false → (m : Marker) (o : List ℕ)
     → FitsAround around m (question_mark ∷ []) o
     → (parted : IsParted around.indent o) → parted.separation ≢ [] → has_tab_outside false parted.separation ≡ false

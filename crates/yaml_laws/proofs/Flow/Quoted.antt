@@ -100,6 +100,9 @@ break_line low indent below q t items x o m spelled b line =
     let f = text_first q u items x spelled in
     rw b.same at (line_fits low indent below b.there u o f.0 f.1 f.2 b.start b.clear line)
 
+-- By recursion on how the text is spelled. Nothing changes but what follows: at the closing quote it is no further
+-- quote, and behind a break it begins no document marker, since the text has none. So the later lines are still
+-- indented, in the words of the reader too (`break_line`).
 extends : (low indent : ℕ) → low ≤ indent
     → (q : Quote) (t : List ℕ) (items : List Item) (x : List ℕ) (spelled : IsText q t items x)
     → LinesFit indent q t items x spelled → (o : List ℕ) (m : Marker) → IsClear m t o

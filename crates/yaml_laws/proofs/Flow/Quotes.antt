@@ -44,11 +44,6 @@ goes_in_flow : (around : Around) (d : Bool) (start : Marker) (now : FlowMoment) 
 unfolding goes_on_behind_quotes
 goes_in_flow around d start now flow e = rw (flow, e) refl
 
-goes_at_root : (around : Around) (d : Bool) (start : Marker) (now : FlowMoment) → now.context ≡ context.Block
-    → is_breakz (slice_index now.cursor.rest 0) ≡ true → goes_on_behind_quotes start (core_at around d now) ≡ true
-unfolding goes_on_behind_quotes
-goes_at_root around d start now block e = rw block (or_left (is_breakz (slice_index now.cursor.rest 0)) _ e)
-
 pub ends_node_content : (node : Node) (w others : List ℕ) (c : ℕ) → EndsNode node w c others → IsContentStart c
     × (ends_entry c ≡ true)
 ends_node_content node w others c (inl e) =
@@ -90,6 +85,7 @@ flow_ends_quotes around node start m o x flow h right =
 
 pub root_ends_quotes : (around : Around) (start m : Marker) (o : List ℕ) → IsBehindRoot around m o
     → around.indent ≤ m.col → EndsQuotes around start (mid_line m o) context.Block
+unfolding goes_on_behind_quotes
 root_ends_quotes around start m o h right =
     let p = separates_rest (mid_line m o) h.rest h.more h.is h.line h.break in
     let there : Cursor = record { rest = h.more; mark = moved m h.rest; blank_so_far = false } in
@@ -101,21 +97,17 @@ root_ends_quotes around start m o h right =
       past_blanks = lands_on_content around.column (past around.indent m o).0 (past around.indent m o).1
           (h.lands right);
       stays = λ _ e. line_rest_crosses h.rest h.more h.line h.break (ap crosses (sym h.is) ∙ e);
-      goes = λ d now same. goes_at_root around d start (at_cursor there now) same (first h.more h.break);
+      goes = λ d now same. (rw same (or_left (is_breakz (slice_index (at_cursor there now).cursor.rest 0)) _ (first
+          h.more h.break)));
     }
   where
     first : (more : List ℕ) → EndsLine more → is_breakz (slice_index more 0) ≡ true
     first more (inl e) = rw e refl
     first more (inr e) = rw e refl
 
-goes_before_colon : (around : Around) (d : Bool) (start : Marker) (now : FlowMoment) (r : List ℕ)
-    → now.context ≡ context.Block → now.cursor.rest ≡ colon ∷ r → start.line ≡ now.cursor.mark.line
-    → goes_on_behind_quotes start (core_at around d now) ≡ true
-unfolding goes_on_behind_quotes
-goes_before_colon around d start now r block is e = rw (block, is, eq-eqb start.line now.cursor.mark.line e) refl
-
 pub key_ends_quotes : (around : Around) (start m : Marker) (o w r : List ℕ) → o ≡ w ++ (colon ∷ r) → AreIn is_blank w
     → around.indent ≤ m.col → start.line ≡ m.line → EndsQuotes around start (mid_line m o) context.Block
+unfolding goes_on_behind_quotes
 key_ends_quotes around start m o w r is are right line =
     let p = separates around.indent (mid_line m o) w 58 r is (separation_of_blanks around.indent w are) right
     colon_content in
@@ -128,8 +120,12 @@ key_ends_quotes around start m o w r is are right line =
       lands = p.lands;
       past_blanks = ap (λ (z : Marker × List ℕ). is_blank (slice_index z.1 0)) lands;
       stays = λ _ e. absurd (clash (crosses o) e (ap crosses is ∙ blanks_cross w (58 ∷ r) are));
-      goes = λ d now same. goes_before_colon around d start (at_cursor p.there now) r same near.0
-          (line ∙ sym (ap (λ (n : Marker). n.line) (near.1 ∙ blanks_moved m w are)));
+      goes = λ d now same. (rw (
+        same,
+        near.0,
+        eq-eqb start.line (at_cursor p.there now).cursor.mark.line (line ∙ sym (ap
+            (λ (n : Marker). n.line) (near.1 ∙ blanks_moved m w are))),
+      ) refl);
     }
 
 pub behind_step : (around : Around) (d : Bool) (start : Marker) (style : Style) (text : List ℕ) (now : FlowMoment)
@@ -172,6 +168,9 @@ pub quote_first : (quote : Quote) (inside : List ℕ) → Begins (mark quote ∷
 quote_first Single inside = starts 39 inside (39 ∷ inside) refl refl
 quote_first Double inside = starts 34 inside (34 ∷ inside) refl refl
 
+-- The scalar is one token (`token_passes`). Behind it the step reads what separates it from what is next on its line
+-- (`p`), and goes on over the gap up to the next token (`g`): so a colon there is at the place where one may come at
+-- once, and a break in the gap lets a key begin.
 pub quoted_passes : ReaderPromises → (around : Around) (quote : Quote) (value t o : List ℕ) (m : Marker)
     → IsQuoted quote around.indent value t → (now : FlowMoment) → Fits around now.context m t o
     → (slice_index o 0 == apostrophe) ≡ false → EndsQuotes around m (mid_line (moved m t) o) now.context

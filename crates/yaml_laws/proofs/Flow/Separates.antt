@@ -141,9 +141,6 @@ separates_rest s rest more is (front, comment, blank, k, e) ends =
       grind (arith, moved),
     )
 
-no_blank_feed : (a b : List ℕ) → AreIn is_blank (a ++ (line_feed ∷ b)) → ⊥
-no_blank_feed a b h = absurd (let k : false ≡ true = (back_in is_blank a (10 ∷ b) h).0 in cc)
-
 over_lines : (column : ℕ) (s : Cursor) (w blanks comment more : List ℕ) (c : ℕ) (cs : List ℕ)
     → s.rest ≡ blanks ++ (comment ++ (line_feed ∷ more)) → w ++ (c ∷ cs) ≡ blanks ++ (comment ++ (line_feed ∷ more))
     → ¬ (AreIn is_blank w)
@@ -182,4 +179,5 @@ separates column s w c cs is (lines, blanks, (pieces, each, lines_are), are, e) 
         let both : w ≡ (first ++ comment) ++ (10 ∷ ((filler ++ spaces column) ++ (joined_pieces ps ++ blanks))) =
         inside ∙ sym (append_assoc first comment _) in
         over_lines column s w first comment more c cs (is ∙ text) text
-        (λ h. no_blank_feed (first ++ comment) _ (rw both at h)) first_are k low
+        (λ h. (absurd (let k : false ≡ true = (back_in is_blank (first ++ comment) (10 ∷ _) (rw both at h)).0 in cc)))
+        first_are k low

@@ -10,7 +10,7 @@ use Rattle.saphyr_scalar.specs.Steps.Directive as directives
 use Rattle.saphyr_scalar.specs.Spelling.Directive as spelling
 use Rattle.saphyr_scanner.specs.declared.engine.level.Context.TheVariants as context
 use Rattle.saphyr_scanner.specs.Grammar.TokenGrammar as grammar
-use Rattle.yaml_laws.proofs.InFlow.States.{Around, FlowMoment, Ready, moment, state_at, noted, RunsTo}
+use Rattle.yaml_laws.proofs.InFlow.States.{Around, FlowMoment, Ready, moment, moment_in, state_at, noted, RunsTo}
 
 -- ## Places in a text
 
@@ -376,10 +376,22 @@ abbrev pub IsNodeOrKey : ℕ → Node → ℕ → List ℕ → List ℕ → Type
 IsNodeOrKey room node indent p o =
     IsFlowNode room node true indent p ⊎ (IsPlainKeyNode node true indent p × ((r : List ℕ) × (o ≡ 58 ∷ r)))
 
+-- The text t is next at a moment inside flow, at m before o: it fits there, no colon may come at once, and so many more
+-- flow collections may be opened.
+pub record IsNext (around : Around) (room : ℕ) (now : FlowMoment) (m : Marker) (t o : List ℕ) : Type 0 where
+  pub fits : FitsAround around m t o
+  pub enough : room + length now.outer ≤ most_open
+  pub low : now.adjacent < m.index
+  pub stands : StandsBefore around now m (t ++ o)
+
+-- in whichever context
+pub next_in : {around : Around} {room : ℕ} {now : FlowMoment} {m : Marker} {t o : List ℕ} (y : Context)
+    → IsNext around room now m t o → IsNext around room (moment_in y now) m t o
+next_in y n = record { fits = n.fits; enough = n.enough; low = n.low; stands = n.stands }
+
 -- A node inside flow is passed, which may open so many flow collections.
 abbrev pub PassesNode : Around → ℕ → Node → Type 0
 PassesNode around room node =
-    (m : Marker) (p o : List ℕ) → IsNodeOrKey room node around.indent p o → FitsAround around m p o
-    → IsBehindNode around.indent node o
-    → (now : FlowMoment) → now.adjacent < m.index → is_block now.context ≡ false → room + length now.outer ≤ most_open
-    → StandsBefore around now m (p ++ o) → NodePasses around now node m p o
+    (m : Marker) (p o : List ℕ) → IsNodeOrKey room node around.indent p o → IsBehindNode around.indent node o
+    → (now : FlowMoment) → is_block now.context ≡ false → IsNext around room now m p o
+    → NodePasses around now node m p o

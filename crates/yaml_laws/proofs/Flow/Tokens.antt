@@ -203,10 +203,6 @@ PassesToken around says start now m p o kind =
     PassesPiece around start (after_token says now.context (keeping now m p)) now.context now.outer
     now.places (moved m p) o (kind ∷ [])
 
-pub same_saved : (n : ℕ) (m : Marker) (a b : Bool) (k j : Option Candidate) → (j ≡ k) × (b ≡ a)
-    → saved b n m j ≡ saved a n m k
-same_saved n m a b k j e = rw (e.0, e.1) refl
-
 -- the candidate after a token is what was one, or the token
 pub saved_since : (e : Bool) (n : ℕ) (m : Marker) (k j : Option Candidate) (p : List ℕ) (key : Option Candidate)
     → (j ≡ None) ⊎ (j ≡ k) → (key ≡ None) ⊎ (key ≡ saved e n m j) → Since k m p key
@@ -252,6 +248,9 @@ text_ready around now m p o b calm none f text =
 
 -- ## A token is passed
 
+-- What all tokens have in common: `steps` tells of the step over one, wherever the scanner stands before it. From there
+-- the step is run (`step_comes`), the token has its own place in the queue, and the key behind it is what was kept or
+-- begins with it (`saved_since`). A key that is held stays so on its line (`held_behind`).
 pub token_passes : (around : Around) (comment : Option Marker) (says : Bool → ℕ → Type 0) (kind : Kind) (p o : List ℕ)
     (m : Marker) (now : FlowMoment) → Fits around now.context m p o → around.indent ≤ (moved m p).col
     → (start : Bool → State) → Ready around start now m (p ++ o) → ((b : Bool) (j : Option Candidate) (e : Bool)
@@ -286,7 +285,7 @@ token_passes around comment says kind p o m now fits right start v steps =
       knows = record {
         piece = record { span = record { start = m; end = w.end }; kind = kind };
         is = refl;
-        keeps = λ e. came.same e ∙ same_saved (length now.places) m now.allowed v.allowed now.key v.key (v.same e);
+        keeps = λ e. came.same e ∙ (rw ((v.same e).0, (v.same e).1) refl);
         since = saved_since v.allowed (length now.places) m now.key v.key p came.key v.kept came.kept;
         holds = w.holds;
       };

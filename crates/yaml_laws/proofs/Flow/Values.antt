@@ -35,10 +35,6 @@ pub record Tabbed (around : Around) (o : List ℕ) (m : Marker) (now : FlowMomen
       ≡ Ok (core_at around d (at_cursor there now))
   pub lands : past around.indent there.mark there.rest ≡ past around.indent m o
 
-no_refusal : (around : Around) (d : Bool) (found : SkipTabs) (now : FlowMoment) → is_block now.context ≡ false
-    → refuse_lone_tab (found, core_at around d now) ≡ Ok (core_at around d now)
-no_refusal around d found now e = rw e refl
-
 pub tabbed : (around : Around) (o : List ℕ) (m : Marker) (now : FlowMoment) → is_block now.context ≡ false
     → IsParted around.indent o → around.indent ≤ m.col → Tabbed around o m now
 unfolding check_tab
@@ -52,7 +48,7 @@ tabbed around o m now flows parted right = by_tab (slice_index o 0 == 9) refl
           there = p.there;
           is = λ d. rw e (ap (λ q. (q >>= λ (z : SkipTabs × Cursor). Ok
               (z.0, with_cursor z.1 (core_at around d (at_cursor (cursor_at o m false) now)))) >>= refuse_lone_tab) p.is
-              ∙ no_refusal around d p.found (at_cursor p.there now) flows);
+              ∙ (rw flows refl));
           lands = p.lands;
         }
     by_tab false e = record { there = cursor_at o m false; is = λ d. rw e refl; lands = refl }
@@ -123,7 +119,9 @@ pair_kinds begins key others new m ts is are = grind (arith, place_kinds, place_
 abbrev pub key_at : Marker → List Place → Candidate
 key_at m ps = record { mark = m; place = length ps }
 
--- The colon after a key that begins at `first` and ends at e, and separation w.
+-- The colon after a key that begins at `first` and ends at e, and separation w. The scanner reaches the colon with the
+-- key still kept: the step opens the key's place, where a mapping's start may come before it (`pair_places`), and puts
+-- the colon's token. So the run over the key is told anew, with these tokens in front of the key's.
 pub colon_passes : (around : Around) (y : Context) → is_block y ≡ false
     → (first e : Marker) (node : Node) (w o : List ℕ) → IsSeparation around.indent w
     → FitsAround around (moved e w) (colon ∷ []) o → IsParted around.indent o
@@ -215,7 +213,8 @@ alone_known : (begins : Bool) (m : Marker)
     → place_kinds (alone_places begins m) ≡ alone_kinds begins ++ tokens.Value ∷ []
 alone_known begins m = grind arith
 
--- A colon where no key is kept: a key that is left out, or that a `?` began.
+-- A colon where no key is kept: a key that is left out, or that a `?` began. As in `colon_passes`, but no place is
+-- opened: the start of a pair, if one begins, is put before the colon's token.
 pub value_passes : (around : Around) (y : Context) → is_block y ≡ false → (m : Marker) (o : List ℕ)
     → FitsAround around m (colon ∷ []) o → IsParted around.indent o → (now : FlowMoment) → now.key ≡ None
     → (m.index ≡ now.adjacent) ⊎ IsTrue (ends_colon (slice_index o 0)) → now.adjacent ≤ m.index

@@ -1,6 +1,6 @@
 -- The plain scalars of a text in flow style are plain scalars as they are read.
-use Rattle.std.proofs.Common.{◌≡◌, ◌≢◌, ℕ, ◌≤◌, Bool, true, false, List, [], ◌∷◌, ◌++◌, length, slice_index, refl, sym, ap, ◌∙◌, arith, append_assoc, append-nil, IsTrue, IsFalse, inl, inr}
-use Rattle.yaml_laws.proofs.Common.{◌&&◌, ◌==◌, nat_tests, colon, hyphen, is_blank, is_break, is_blank_or_breakz, is_bom, is_flow, is_document_indicator, Marker, along, end_of_text, AreIn, NoBreaks, EndsPlain, is_plain_safe, ArePlainSafe, IsWordIn, AreSafeBefore, IsWordBefore, words_text, IsNoMarker, AreFurtherWords, IsPlainText, joined_pieces, AreEach, AreMany, IsWordGap, IsLoneDash, IsFurtherWord, IsPlain, IsLastWord, IsPlainKey}
+use Rattle.std.proofs.Common.{◌≡◌, ◌≢◌, ℕ, ◌≤◌, Bool, true, false, List, [], ◌∷◌, ◌++◌, length, slice_index, refl, sym, ap, ◌∙◌, arith, append_assoc, append-nil, IsTrue, inl, inr}
+use Rattle.yaml_laws.proofs.Common.{◌&&◌, ◌==◌, nat_tests, colon, hyphen, is_blank, is_break, is_blank_or_breakz, is_bom, is_flow, Marker, along, end_of_text, AreIn, NoBreaks, EndsPlain, is_plain_safe, ArePlainSafe, IsWordIn, AreSafeBefore, IsWordBefore, words_text, IsNoMarker, AreFurtherWords, IsPlainText, joined_pieces, AreEach, AreMany, IsWordGap, IsLoneDash, IsFurtherWord, IsPlain, IsLastWord, IsPlainKey}
 use Rattle.yaml_laws.proofs.Flow.States.{moved, IsClear}
 use Rattle.yaml_laws.proofs.Flow.Places.{moved_append, right_along, clear_front, clear_back, clear_here}
 use Rattle.yaml_laws.proofs.Flow.Names.{unbroken_along, unbroken_on_line}
@@ -87,12 +87,9 @@ last_before f w r (some, safe, no_comment) =
 
 -- ## No marker begins a line
 
-marked : (n : ℕ) (b : Bool) → ((n == 0) && b) ≡ false → n ≡ 0 → IsFalse b
-marked n b h e = rw e at h
-
 no_marker : (m : Marker) (w o : List ℕ) → w ≢ [] → IsClear m w o → IsNoMarker m (w ++ o)
 no_marker m [] o some clear = absurd (some refl)
-no_marker m (c ∷ cs) o some clear = marked m.col (is_document_indicator (c ∷ (cs ++ o))) (clear_here m c cs o clear)
+no_marker m (c ∷ cs) o some clear = λ e. rw e at (clear_here m c cs o clear)
 
 -- ## The words after the first
 

@@ -28,9 +28,6 @@ ends_last : (f : Frame) (c : ℕ) (m : Marker) (n : Moment) (other : Bool) (ps :
 unfolding unroll
 ends_last f c m n other ps = rw (zero_below_next c) refl
 
-at_line_start : (m : Marker) → m.col ≡ 0 → end_mark m ≡ m
-at_line_start m e = rw e refl
-
 -- the first character of a document marker
 record IsMarkerSign (c : ℕ) : Type 0 where
   nul : is_z c ≡ false
@@ -132,7 +129,7 @@ ends_here f c n other ps free (inl e) =
 ends_here f c n other ps free (inr h) =
     let m = n.cursor.mark in
     subst (λ (k : Marker). fetch_here (state_of (frame_at_column c f) n ps)
-    ≡ fetch_here (state_of f (record n { deeper = other }) (ps ++ end_place k ∷ []))) (sym (at_line_start m h.0))
+    ≡ fetch_here (state_of f (record n { deeper = other }) (ps ++ end_place k ∷ []))) (sym (rw h.0 refl))
     (ended_alike (frame_at_column c f) f n other ps (ps ++ end_place m ∷ []) h.0 h.1 (ends_last f c m n other ps))
 
 -- ## A collection ends
@@ -142,9 +139,6 @@ at_least c col h = grind (arith, nat_tests)
 
 not_less : (col c : ℕ) → col < c → nat_lt col c ≡ false → ⊥
 not_less col c h e = grind (arith, nat_tests)
-
-outer_least : (i c col : ℕ) → i ≤ c → c + 1 ≤ col + 1 → i ≤ col + 1
-outer_least i c col h k = omega (arith, h, k)
 
 -- the tokens of places before the end of a collection
 ended_kinds : (ps : List Place) (m : Marker) (ts : List Kind) → place_kinds ps ≡ ts
@@ -199,7 +193,7 @@ closes_block {limit} {start} {ts} f c m y inside ends v = by_column (nat_lt m.co
         ∙ ap fetch_here (stays_open (frame_at_column c f) false m y v.blank v.key v.allowed v.adjacent v.deeper v.places
         far) ∙ ends_here f c (seen (v.deeper && nat_le (c + 1) m.col)) false v.places refl h ∙ sym (arrived f false qs
         ∙ ap fetch_here (stays_open f false m y v.blank v.key v.allowed v.adjacent false qs
-        (outer_least f.indent c m.col inside far))))
+        (omega (arith, inside, far)))))
 
     by_column : (b : Bool) → nat_lt m.col c ≡ b
         → (w : At limit start f m y (ts ++ tokens.BlockEnd ∷ [])) × (w.key ≡ v.key) × (w.allowed ≡ v.allowed)

@@ -107,7 +107,8 @@ value_kinds further = start_kinds further tokens.BlockMappingStart tokens.Value
 room : (i j l limit : ℕ) → j ≤ i + 1 + l → i + suc l ≤ limit → j ≤ limit
 room i j l limit k h = omega (arith, k, h)
 
--- the `:` of a value is read, which begins a mapping or goes on with one
+-- The `:` of a value is read, which begins a mapping or goes on with one. From where the scanner stands the step is
+-- taken (`steps_on`), and its state is told at the next token (`before_next`).
 pub reads_value : {limit : ℕ} {start : State} {ts : List Kind} (f : Frame) (m : Marker) (o : List ℕ) (further : Bool)
     → nat_le f.indent m.col ≡ further → f.indent ≤ m.col + 1
     → IsBehindIndicator true (suc m.col) o
@@ -217,13 +218,10 @@ reads_colon {limit} {start} f n ps others new key k m o ts us further e far v is
     (steps_from g t (ps ++ places) v refl there refl (room m.index p.mark.index (length o) limit p.low count))
     (key_are further ps others key m ts us first (ap place_kinds (sym is) ∙ are)) refl refl refl
     (le_next n.adjacent m.index low) p.lands (p.clean (least_column (core_of g t)) (least_within further k.col f t far))
-    (none_same (crosses p.rest) (crosses o) p.crosses_same) (behind k.col m.col right)
+    (or-false (crosses p.rest) ∙ p.crosses_same) (behind k.col m.col right)
   where
     further_right : (i k m : ℕ) → i ≤ k + 1 → k ≤ m → i ≤ m + 1
     further_right i k m h l = omega (arith, h, l)
-
-    none_same : (a b : Bool) → a ≡ b → (a || false) ≡ (false || b)
-    none_same a b e = or-false a ∙ e
 
     behind : (k m : ℕ) → k ≤ m → k < m + 1
     behind k m h = omega (arith, h)

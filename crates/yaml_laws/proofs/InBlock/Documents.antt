@@ -108,10 +108,6 @@ pub text_of_document : (directives node others : List ℕ) → (directives ++ (h
     ≡ directives ++ (hyphen ∷ hyphen ∷ hyphen ∷ (node ++ others))
 text_of_document directives node others = simp append_assoc
 
-clean_node : (directives node : List ℕ) → HasNoReturn (directives ++ (hyphen ∷ hyphen ∷ hyphen ∷ node))
-    → HasNoReturn node
-clean_node directives node h = back_in _ (45 ∷ 45 ∷ 45 ∷ []) node (back_in _ directives (45 ∷ 45 ∷ 45 ∷ node) h)
-
 -- where directives may be, no key is asked for
 unopened : {limit : ℕ} {start : State} {free opened : Bool} {o : List ℕ} {ts : List Kind}
     → StandsLined limit start free opened o ts → StandsLined limit start free false o ts
@@ -168,4 +164,4 @@ reads_document {limit = limit} {start = start} readers leaves d free t others ts
     let text = ap (λ (x : List ℕ). x ++ others) e ∙ text_of_document directives node others in
     let f = reads_front readers d free directives (node ++ others) ts may are (lined_so text v) in
     reads_explicit leaves d free node others ts may explicit compatible unmarked is follows
-    (clean_node directives node (rw e at clean)) f.stands
+    (back_in _ (45 ∷ 45 ∷ 45 ∷ []) node (back_in _ directives (45 ∷ 45 ∷ 45 ∷ node) (rw e at clean))) f.stands

@@ -44,6 +44,8 @@ line_near : (m : Marker) (place : ℕ) (t : List ℕ) → IsOnLine t → length 
     → IsNear (record { mark = m; place = place }) (moved m t)
 line_near m place t line short = grind (arith, moved_along)
 
+-- The run over the key's text and the blanks behind it is `key_read`. What is left to tell is the moment that it leads
+-- to: the key is its candidate and not too far away, since the text is short, and only blanks are before the colon.
 pub reads_key : ReaderPromises → (limit : ℕ) (node : Node) → ReadsKey limit node
 reads_key reads limit node f m t o n far h line apart short white fits start ts v allowed =
     let around = around_of limit f in
@@ -146,7 +148,8 @@ what_comes : (limit : ℕ) → limit < 2 ^ 63 → (m : Marker) (t : List ℕ) (a
     → (allowed : Bool) (left : List ℕ) → (crosses (end ++ o) ≡ true → (allowed || crosses left) ≡ true)
     → EndsDocument (past 0 (moved m t) o).0 (past 0 (moved m t) o).1
     ⊎ ((left_key key (past 0 (moved m t) o).0 ≡ None) × ((crosses left || allowed) ≡ true))
-what_comes limit short m t at text end o place fits h k none_before key since allowed left fresh = grind (arith, or_true_swap, append_assoc, content_crosses, moved_append, later_end)
+what_comes limit short m t at text end o place fits h k none_before key since allowed left fresh =
+    grind (arith, or_true_swap, append_assoc, content_crosses, moved_append, later_end)
 
 -- ## The node
 
@@ -213,6 +216,9 @@ goes_behind {limit} {start} {f} {ts = ts} {us} v {n = n} {o} c low q lands_at st
       low = subst (λ (z : Marker × List ℕ). c.adjacent ≤ z.0.index) lands_at low;
     }
 
+-- A node in flow style at block level. The gap in front of it is passed, and the node is by `nodes_close`, of the laws
+-- on flow style, with the rest of its line as what comes behind (`behind_root`). In the words of blocks its end is told
+-- at the next token: which key is left there, and whether one may begin (`what_comes`).
 pub reads_flow : ReaderPromises → (limit : ℕ) → limit < 2 ^ 63 → (node : Node)
     → ReadsAt limit node (IsFlowInBlock most_open node)
 reads_flow reads limit short node place f same m t o (gap, text, end, gap_is, node_is, apart, end_is, e) fits behind

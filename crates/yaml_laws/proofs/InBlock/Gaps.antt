@@ -22,6 +22,9 @@ record StopsComment (m : Marker) (blank broke : Bool) (t : List ℕ) : Type 0 wh
       (tabbed_comment least m blank tab t) (past_comment 0 m t).1)
   stop : IsStop (past_comment 0 m t).1
 
+-- By the induction on a text between tokens (`OverGap`): the reader and `past` make the same choices, with the same
+-- tests. Each case rewrites by the tests that lead to it. The flags are what differs: a break was passed if one is in
+-- the text or one was before it, and a tab counts from the last break on.
 over_stops : OverGap 0 (λ m t. (blank broke : Bool) → GapStops m blank broke t)
     (λ m t. (blank broke : Bool) → StopsComment m blank broke t)
 over_stops =

@@ -1,6 +1,6 @@
 -- After the document marker of the last line nothing that was read may yet be a key, so all tokens up to its own are
 -- handed out.
-use Rattle.yaml_laws.proofs.Common.{Bool, List, [], ap, append-nil, arith, false, inl, inr, length, refl, sym, ℕ, ◌++◌, ◌∙◌, ◌∷◌, ◌≡◌, ◌≤◌, None, line_feed, full_stop, hyphen, Marker, Cursor, along, next_line, cursor_at, IsLineRest, Kind, Piece, Place, bare_place, State, LeadsTo, leads_on, onward, stay, place_kinds, place_kinds_append, length-append, is_open, known_before, DocumentMarker, Starts, Ends, marker_text, marker_token, cons_not_empty, state_at}
+use Rattle.yaml_laws.proofs.Common.{Bool, List, [], ap, append-nil, arith, false, inl, inr, length, refl, sym, ℕ, ◌++◌, ◌∙◌, ◌∷◌, ◌≡◌, ◌≤◌, None, line_feed, full_stop, hyphen, Marker, Cursor, along, next_line, cursor_at, IsLineRest, Kind, Piece, bare_place, State, LeadsTo, leads_on, onward, stay, place_kinds, place_kinds_append, length-append, is_open, known_before, DocumentMarker, Starts, Ends, marker_text, marker_token, cons_not_empty, state_at}
 use Rattle.saphyr_scanner.specs.Grammar.Tokens as tokens
 use Rattle.yaml_laws.proofs.Flow.Fillers.{rest_past}
 use Rattle.yaml_laws.proofs.Flow.Places.{moved_count}
@@ -27,9 +27,6 @@ comes_there : {limit : ℕ} {start s d : State} → GoesOnAs limit start s → s
 comes_there f running stay new = absurd (new refl)
 comes_there f running (onward s t u going is settles l) new = leads_on (first_step f running is settles) l
 
-longer_by_one : (ps : List Place) (p : Place) → ps ++ p ∷ [] ≡ ps → ⊥
-longer_by_one ps p e = let l = length-append ps (p ∷ []) in let same = ap length e in omega (arith, l, same)
-
 hands_token : {limit : ℕ} {start : State} {free : Bool} {P : Marker → Bool → Type 0} {y : List ℕ} {ts : List Kind}
     (v : StandsInStream limit start free P y ts) → past 0 v.mark y ≡ (v.mark, y) → EndsDocument v.mark y
     → (t : Cursor) (piece : Piece) → Fetches v.mark y (λ _. t) false piece → t.mark.index ≤ limit
@@ -41,7 +38,8 @@ hands_token {limit = limit} {y = y} {ts = ts} v here ends t piece is low known =
     record {
       last = state_at false t r.1 false v.adjacent (v.places ++ bare_place piece ∷ []);
       leads = comes_there v.follows refl r.4
-          (λ e. longer_by_one v.places (bare_place piece) (ap (λ (s : State). s.queue.places) e));
+          (λ e. (let l = length-append v.places ((bare_place piece) ∷ []) in let same = ap length (ap (λ (s : State).
+          s.queue.places) e) in omega (arith, l, same)));
       none = r.3 refl;
       outer = refl;
       known = known;

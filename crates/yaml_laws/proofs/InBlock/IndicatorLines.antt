@@ -102,7 +102,8 @@ token_behind n c cs some content =
     some_space : (n : ℕ) → 1 ≤ n → list_all (λ b. b == tab) (spaces n) ≡ false
     some_space n h = grind arith
 
--- the rest of a line, and its break
+-- The rest of a line, and its break. Blanks and a comment are in front, whatever the indicator: of the first character
+-- and of tabs nothing is asked, since no token is on the line. The next line is clean by premise.
 pub line_behind : {colon : Bool} {indent : ℕ} (rest o : List ℕ) → IsLineRest rest → IsCleanIn indent o
     → IsBehindIndicator colon indent (rest ++ (line_feed ∷ o))
 line_behind rest o (blanks, comment, are, k, e) clean =
@@ -133,7 +134,7 @@ line_behind rest o (blanks, comment, are, k, e) clean =
       first = rest_first rest (10 ∷ o) (blanks, comment, are, k, e) (inr refl);
     }
 
--- the same at the text's end
+-- The same at the text's end, where no line follows.
 pub last_behind : {colon : Bool} {indent : ℕ} (rest : List ℕ) → IsLineRest rest → IsBehindIndicator colon indent rest
 last_behind rest (blanks, comment, are, k, e) =
     let c = behind_is blanks comment k in

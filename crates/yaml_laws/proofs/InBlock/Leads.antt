@@ -21,9 +21,6 @@ plain_lead {limit} {start} {ts} p place f m w y none h b opens v =
     × (u.allowed ≡ true)) (sym (append-nil ts)) p_at in
     record { tokens = []; are = rw none refl; at = all.0; none = all.1; allowed = all.2 }
 
-true_crosses : (place : Position) (t : List ℕ) → crosses t ≡ true → (is_compact place || crosses t) ≡ true
-true_crosses place t e = rw e (or-true (is_compact place))
-
 -- Up to the first token of a collection, given its lead: properties or none, and then what is skipped up to the
 -- collection's column. A key may begin there, since a break was passed, or since the place is compact.
 pub reads_lead : {limit : ℕ} → ReadsLeaves limit → (p : Properties) (place : Position) (least column : ℕ) (f : Frame)
@@ -38,7 +35,7 @@ reads_lead {limit} leaves p place least column f same m lead y
     (skipped_append filler (spaces column) (filler_skipped filler filler_is) (spaces_skipped column)) in
     let over : crosses (w ++ y) ≡ true = ap crosses (append_assoc end (filler ++ spaces column) y)
     ∙ line_end_crosses end ((filler ++ spaces column) ++ y) end_is in
-    rw is (plain_lead p place f m w y none.0 skipped b (true_crosses place (w ++ y) over) (rw is at v))
+    rw is (plain_lead p place f m w y none.0 skipped b (rw over (or-true (is_compact place))) (rw is at v))
 reads_lead {limit} leaves p place least column f same m lead y
     (inl (front, end, filler, low, inr (white, t, spaced, properties, front_is), end_is, filler_is, e)) b fits start ts
     v =

@@ -22,14 +22,11 @@ pub moved_line : (m : Marker) (t : List ℕ) → IsLined m → m.index + length 
 moved_line m [] h low = omega arith
 moved_line m (c ∷ cs) h low =
     let more = moved_line (behind_character m c) cs (one_lined m c h)
-    (back m.index (behind_character m c).index (length cs) (moved_index m (c ∷ [])) low) in
+    (omega (arith, (moved_index m (c ∷ [])), low)) in
     omega (arith, one_line m c h (front m.index (length cs) low), more)
   where
     front : (i l : ℕ) → i + suc l < 2 ^ 63 → i < 2 ^ 63
     front i l h = omega (arith, h)
-
-    back : (i j l : ℕ) → j ≡ i + 1 → i + suc l < 2 ^ 63 → j + l < 2 ^ 63
-    back i j l e h = omega (arith, e, h)
 
 -- what is passed leads to no earlier line
 pub past_line : (m : Marker) (t : List ℕ) → IsLined m → m.index + length t < 2 ^ 63 → m.line ≤ (past 0 m t).0.line

@@ -145,6 +145,8 @@ IsBlockMapping p pairs place t o =
     (m : ℕ) × (lead entries : List ℕ) × IsLead p place (indent_at place) m lead × ArePairs most_open pairs m entries o
     × (t ≡ lead ++ entries)
 
+-- As `reads_sequence`, but a mapping is always right of what encloses it. So its pairs are read in a frame of their
+-- own, which closes behind them (`collection_closes`).
 reads_mapping : {limit : ℕ} → ReadsLeaves limit → (p : Properties) (key value : Node) (pairs : Pairs)
     → ReadsAt limit key (IsBlockNode most_open key) → ReadsAt limit value (IsBlockNode most_open value)
     → ReadsOtherPairs limit pairs

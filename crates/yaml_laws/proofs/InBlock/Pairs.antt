@@ -40,9 +40,6 @@ paired key value us vs others k v = inl (tokens.Key ∷ us, tokens.Value ∷ vs,
 
 -- ## A key on one line
 
-key_text : (node w v z : List ℕ) → (node ++ (w ++ (58 ∷ v))) ++ z ≡ node ++ (w ++ (58 ∷ (v ++ z)))
-key_text node w v z = simp append_assoc
-
 implicit_list : (further : Bool) (ts us vs : List Kind)
     → (ts ++ (key_kinds further ++ (us ++ tokens.Value ∷ []))) ++ vs
     ≡ (ts ++ mapping_start further) ++ ((tokens.Key ∷ us) ++ (tokens.Value ∷ vs))
@@ -58,7 +55,7 @@ reads_implicit {limit} leaves key value V f n further e far t z
     let g = frame_behind further n.col f in
     let m = moved n (node ++ between) in
     let inside : t ≡ (node ++ between) ++ (58 ∷ v) = is ∙ sym (append_assoc node between (58 ∷ v)) in
-    let text = ap (λ (x : List ℕ). x ++ z) is ∙ key_text node between v z in
+    let text = ap (λ (x : List ℕ). x ++ z) is ∙ (simp append_assoc) in
     let whole = fits_so n t ((node ++ between) ++ (58 ∷ v)) z inside fits in
     let fits_colon = fits_back n (node ++ between) (58 ∷ v) z whole in
     let end = ap (moved n) inside ∙ moved_append n (node ++ between) (58 ∷ v) in
@@ -103,6 +100,8 @@ alone_list : (further : Bool) (ts us : List Kind)
     → (ts ++ key_kinds further) ++ us ≡ (ts ++ mapping_start further) ++ (tokens.Key ∷ us)
 alone_list further ts us = grind (arith, append_assoc, append-nil)
 
+-- The mark is read, and then the key behind it. The value is left out: the grammar asks that no `:` of the mapping's
+-- own comes next, which is known of the text (`unvalued`) and of the tokens that are still to come (`ahead`).
 reads_alone : {limit : ℕ} → ReadsLeaves limit → (key value : Node) → ReadsAt limit key (IsBlockNode most_open key)
     → ReadsPair limit key value (IsKeyAlone value (IsBlockNode most_open key))
 reads_alone {limit} leaves key value K f n further e far t z (node, out, some, h, unvalued, is) fits behind start ts

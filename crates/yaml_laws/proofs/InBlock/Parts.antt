@@ -218,7 +218,8 @@ more_parts {limit} {opens = opens} {Is} {Others} {As} is_part more = record {
       };
 }
 
--- from the first part on
+-- From the first part on, which may begin the collection. It is read as a further part is (`more_parts`), but its place
+-- is given, and no indentation is before it.
 pub reads_parts : {limit : ℕ} {E : List Kind → List Kind → Type 0} {opens : Bool → List Kind}
     {Is Others : ℕ → List ℕ → List ℕ → Type 0} {As : List Kind → Type 0} → IsPart limit E opens Is
     → ReadsOtherParts limit Others As → (f : Frame) (n : Marker) (further : Bool) → nat_le f.indent n.col ≡ further

@@ -28,9 +28,6 @@ use Rattle.yaml_laws.proofs.InBlock.FlowNodes.{around_of, goes_behind}
 lands_on : (m : Marker) (b y : List ℕ) → Passes b → StartsContent y → past 0 m (b ++ y) ≡ (moved m b, y)
 lands_on m b y h content = cc (passes_to m b content.first content.others h content.content)
 
-clean_content : (y : List ℕ) → StartsContent y → IsClean y
-clean_content y content = rw content.is (content_clean content.first content.others content.content)
-
 text_line : {limit : ℕ} (m : Marker) (t o : List ℕ) → limit < 2 ^ 63 → FitsOnLines limit m t o
     → m.line ≤ (moved m t).line
 text_line m t o short fits = grind (arith, length-append, moved_line)
@@ -65,6 +62,8 @@ record PassesProperties (limit : ℕ) (start : State) (p : Properties) (f : Fram
   allowed : crosses o ≡ true → at.allowed ≡ true
   right : f.indent ≤ (moved m t).col
 
+-- The properties are read by the laws on flow style. In the words of blocks the scanner then is before what comes
+-- behind them (`goes_behind`), and a key that it keeps is not from a later line than theirs.
 properties_passed : ReaderPromises → {limit : ℕ} {start : State} {ts : List Kind} → limit < 2 ^ 63 → (f : Frame)
     (p : Properties) (t : List ℕ) → IsProperties p f.indent t → (m : Marker) (o : List ℕ) → f.indent ≤ m.col
     → IsTrue (is_blank_or_breakz (slice_index o 0)) → FitsOnLines limit m t o
@@ -98,6 +97,8 @@ line_first : (end o rest : List ℕ) → IsLineRest rest → end ≡ rest ++ (li
     → IsTrue (is_blank_or_breakz (slice_index (end ++ o) 0))
 line_first end o rest h e = cc (append_assoc rest (10 ∷ []) o, rest_first rest (10 ∷ o) h (inr refl))
 
+-- The gap, the properties, and what is between them and the header, which the scanner passes on its way to the header's
+-- indicator. A key that is kept there is from its line or an earlier one (`late`).
 pub reads_head : ReaderPromises → (limit : ℕ) → limit < 2 ^ 63 → ReadsHead limit
 reads_head reads limit short p place f same m gap t between y gap_is h between_is content fits start ts before =
     let n = moved m gap in
@@ -156,7 +157,8 @@ lines_behind w y (end, filler, n, (rest, rest_is, end_is), filler_is, e) content
     let text : w ++ y ≡ end ++ (more ++ y) = cc (append_assoc end more y) in
     record {
       skipped = rw e (skipped_append end more ends skipped);
-      clean = rw text (skipped_clean end (more ++ y) ends (skipped_clean more y skipped (clean_content y content)));
+      clean = rw text (skipped_clean end (more ++ y) ends (skipped_clean more y skipped (rw content.is (content_clean
+          content.first content.others content.content))));
       white = rw text (line_first end (more ++ y) rest rest_is end_is);
       crossed = ap crosses text ∙ line_end_crosses end (more ++ y) (rest, rest_is, end_is);
       rest = rest;
@@ -164,6 +166,8 @@ lines_behind w y (end, filler, n, (rest, rest_is, end_is), filler_is, e) content
       is = cc (append_assoc rest (10 ∷ []) more);
     }
 
+-- As `reads_head`, but the rest of the line is behind the properties, and a break. So the next token is on a later
+-- line, and no key of an earlier line is kept there (`late_key_left`): one may begin.
 pub reads_properties : ReaderPromises → (limit : ℕ) → limit < 2 ^ 63 → ReadsProperties limit
 reads_properties reads limit short p place f same m front t w y gap_is h next_line content fits start ts before =
     let n = moved m front in

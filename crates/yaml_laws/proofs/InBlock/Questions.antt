@@ -93,13 +93,11 @@ question_step f m o blank key ad deeper further e h clean i =
 abbrev pub key_kinds : Bool → List Kind
 key_kinds further = start_kinds further tokens.BlockMappingStart tokens.Key
 
-within_index : (i l j k limit : ℕ) → i + l ≡ j + k → j + k ≤ limit → i ≤ limit
-within_index i l j k limit e h = omega (arith, e, h)
-
 shifted : (i l limit : ℕ) → i + suc l ≤ limit → i + 1 + l ≤ limit
 shifted i l limit h = omega (arith, h)
 
--- `?` is read, which begins a mapping or goes on with one
+-- `?` is read, which begins a mapping or goes on with one. As `reads_value` of the colon, but the step itself passes
+-- what is behind the mark, so its token ends at the next one.
 pub reads_question : {limit : ℕ} {start : State} {ts : List Kind} (f : Frame) (m : Marker) (o : List ℕ) (further : Bool)
     → nat_le f.indent m.col ≡ further → f.indent ≤ m.col + 1 → BeginsWhite o → has_tab o ≡ false
     → m.index + length (question_mark ∷ o) ≤ limit → (v : At limit start f m (question_mark ∷ o) ts) → v.allowed ≡ true
@@ -124,7 +122,7 @@ reads_question {limit} {start} {ts} f m o further e far h clean count v allowed 
     let stop = past_stops (along m 1) o in
     before_next (yaml.BehindMark m.col) g t qs (along m 1) o
     (steps_on f g m (63 ∷ o) v (begins_with 63 m o (refl, refl, refl) refl refl refl refl) far t qs there refl
-    (within_index n.index (length y) (m.index + 1) (length o) limit counted (shifted m.index (length o) limit count)))
+    (omega (arith, counted, (shifted m.index (length o) limit count))))
     (start_are further m tokens.BlockMappingStart m n tokens.Key v.places ts v.are) refl refl refl (le_next v.adjacent
     m.index v.low)
     (past_again 0 (along m 1) o) (stop_tabbed (least_column (core_of g t)) n s.0 y stop) (or-true (crosses y)) refl

@@ -141,9 +141,9 @@ no_returns : (n : ℕ) → AreIn (λ c. not (c == carriage_return)) (spaces n)
 no_returns zero = tt
 no_returns (suc n) = (refl, no_returns n)
 
-some_text : (c : ℕ) (xs t : List ℕ) → t ≡ c ∷ xs → 0 < length t
-some_text c xs t e = subst (λ (y : List ℕ). 0 < length y) (sym e) (omega arith)
-
+-- The reading is given by the law on block scalars, and by another where it ends. Both the end and the text's own end
+-- with the spaces behind it are places that are passed from s to the same rest, so they are one place (`laws.place`).
+-- That it is on a later line comes from the break behind the header.
 pub block_taken : ReadsBlocks
     → (style : BlockStyle) (value : List ℕ) (indent : ℕ) (s : Cursor) (first : ℕ) (more t o : List ℕ) → s.rest ≡ t ++ o
     → t ≡ first ∷ more → is_break first ≡ false → AreIn (λ c. not (c == carriage_return)) t
@@ -157,7 +157,8 @@ block_taken laws style value indent s first more t o whole begins no_break clean
     let read = k.read ∙ ap (λ (y : List ℕ). Ok (y, k.span, k.left)) (k.value ∙ ap encode_utf8_all (sym is_value)) in
     let start : s.rest ≡ first ∷ (more ++ o) = whole ∙ ap (λ (y : List ℕ). y ++ o) begins in
     let went = laws.passes style indent s k.left (encode_utf8_all value) k.span
-    (ap (λ (y : List ℕ). is_break (slice_index y 0)) start ∙ no_break) (some_text first (more ++ o) s.rest start)
+    (ap (λ (y : List ℕ). is_break (slice_index y 0)) start ∙ no_break) (subst (λ (y : List ℕ). 0 < length y) (sym start)
+    (omega arith))
     read in
     let here : IsPassed s.mark s.rest k.left.mark others = grind arith in
     let there : IsPassed s.mark s.rest (moved s.mark (t ++ spaces n)) others =

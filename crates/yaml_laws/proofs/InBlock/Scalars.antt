@@ -9,7 +9,7 @@ use Rattle.yaml_laws.proofs.Flow.WordGaps.{prefix_reaches}
 use Rattle.yaml_laws.proofs.InBlock.States.{Frame, IsPlaced, At, Before, moved, past}
 use Rattle.yaml_laws.proofs.InBlock.Skips.{gap_passes}
 use Rattle.yaml_laws.proofs.InBlock.Lines.{FitsOnLines, fits_front, fits_so}
-use Rattle.yaml_laws.proofs.InBlock.Statements.{context_at, EndsNodeAt, NodeRead, ReadsAt}
+use Rattle.yaml_laws.proofs.InBlock.Statements.{EndsNodeAt, NodeRead, ReadsAt}
 use Rattle.yaml_laws.proofs.InBlock.Texts.{passes_to}
 use Rattle.yaml_laws.proofs.InBlock.BehindIndicators.{further_content}
 use Rattle.yaml_laws.proofs.InBlock.ScalarTexts.{ReadsBlocks, sign_content}
@@ -74,11 +74,6 @@ text_gap_reaches least m w h k = grind (arith, unbroken_along, unbroken_blanks, 
 
 -- ## The leaf
 
-scalar_are : (p : Properties) (style : Style) (value : List ℕ) (context : grammar.Context) (front : List Kind)
-    → grammar.YieldProperties p front
-    → grammar.YieldsNode (Scalar p style value) context (front ++ scalar_token style value ∷ [])
-scalar_are p style value context front h = (front, scalar_token style value ∷ [], h, inl refl, refl)
-
 -- Each block scalar is read.
 pub reads_block_scalars : ReadsBlocks → {limit : ℕ} → limit < 2 ^ 63 → ReadsHead limit
     → (p : Properties) (style : Style) (value : List ℕ)
@@ -105,7 +100,7 @@ reads_block_scalars laws {limit} short heads p style value place f same m t o
         let r = reads_behind laws f style value m w text o short far is fits_all behind_all v late in
         record {
           tokens = us ++ scalar_token style value ∷ [];
-          are = inr (scalar_are p style value (context_at place) us are);
+          are = inr (us, scalar_token style value ∷ [], are, inl refl, refl);
           arrived = rw whole (rw (append_assoc ts us (scalar_token style value ∷ [])) at r);
         }
 

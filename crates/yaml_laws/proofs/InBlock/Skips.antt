@@ -165,7 +165,8 @@ spaces_untabbed least (suc n) w y are k m blank far =
 
 pub lines_clean : (indent : ℕ) (filler front y : List ℕ) → IsFiller filler → IsLinePrefix indent front → IsClean y
     → IsCleanIn indent ((filler ++ front) ++ y)
-lines_clean indent filler front y filler_is prefix k least low m blank = grind (arith, append_assoc, skipped_untabbed, filler_skipped, spaces_untabbed)
+lines_clean indent filler front y filler_is prefix k least low m blank =
+    grind (arith, append_assoc, skipped_untabbed, filler_skipped, spaces_untabbed)
 
 -- Whether a tab is among the blanks before the next token.
 abbrev mutual

@@ -25,10 +25,6 @@ unfolding step scalar.quoted_steps
 quoted_fresh Single around second d s k ad n = refl
 quoted_fresh Double around second d s k ad n = refl
 
-plain_fresh : (around : Around) → KeepsPlace around scalar.plain_steps
-unfolding scalar.plain_steps
-plain_fresh around d s k ad n = refl
-
 fresh_so : (around : Around) (t u : List ℕ) → t ≡ u → Fresh around u → Fresh around t
 fresh_so around t u e h = rw e h
 
@@ -41,8 +37,9 @@ unfolding step property.tag_steps
 fresh_properties around indent anchor tag t o h = grind (arith, fresh_so, append_assoc, begins_anchor, name_fresh)
 
 fresh_word : (around : Around) (t o : List ℕ) → BeginsWord false t o → Fresh around (t ++ o)
+unfolding scalar.plain_steps
 fresh_word around t o w = λ d s k ad n. plain_dispatches around d n t o (moment s context.Block k [] true ad []) w
-    (inl refl) ∙ plain_fresh around d s k ad n ∙ sym (plain_dispatches (requiring around d s.mark) d n t o
+    (inl refl) ∙ refl ∙ sym (plain_dispatches (requiring around d s.mark) d n t o
     (moment s context.Block (Some (record { mark = s.mark; place = n })) [] false ad []) w (inl refl))
 
 fresh_content : (around : Around) (indent : ℕ) (style : Style) (value t o : List ℕ)

@@ -1,5 +1,5 @@
 -- A key on one line at block level: how its first token is read.
-use Rattle.yaml_laws.proofs.Common.{after_step, Bool, List, Ok, ap, arith, false, length, refl, slice_index, suc, true, ℕ, ◌+◌, ◌∙◌, ◌∷◌, ◌≡◌, ◌≤◌, [], None, Option, Some, inr, true≢false, nat_le, nat_lt, not, ◌&&◌, ◌-◌, ◌==◌, nat_tests, is_blank, AreIn, Marker, Cursor, ◌>>=◌, GapEnd, stop, Place, Candidate, State, on_core, cursor_at, queue_of, no_return, Core, StepResult, zero-add, end_of_gap, gap_here, stop_here}
+use Rattle.yaml_laws.proofs.Common.{after_step, Bool, List, Ok, ap, arith, false, length, refl, slice_index, suc, true, ℕ, ◌+◌, ◌∙◌, ◌∷◌, ◌≡◌, ◌≤◌, [], None, Option, Some, inr, true≢false, nat_le, nat_lt, not, ◌&&◌, ◌-◌, ◌==◌, nat_tests, is_blank, AreIn, Marker, Cursor, ◌>>=◌, GapEnd, stop, Place, Candidate, State, on_core, cursor_at, queue_of, no_return, Core, StepResult, zero-add, stop_here}
 use Rattle.saphyr_scanner.specs.declared.engine.level.Context.TheVariants as context
 use Rattle.saphyr_scanner.specs.Steps.Core.{drop_far_key}
 use Rattle.saphyr_scanner.specs.Steps.Passing.{pass_gap, check_comment, behind_gap}
@@ -15,11 +15,6 @@ pub record Blanks : Type 0 where
   pub are : AreIn is_blank text
 
 -- ## The first token
-
-content_gap : (low : ℕ) (c : ℕ) (cs : List ℕ) → IsContentStart c → (m : Marker) (blank : Bool)
-    → end_of_gap true low m blank false false (c ∷ cs) ≡ gap_here m blank false false (c ∷ cs)
-content_gap low c cs content m blank =
-    rw (content.blank, content.break, content.comment, no_return c content.break) refl
 
 -- content is no further left than its collection's entries
 begins_low : (around : Around) (d : Bool) (now : FlowMoment) → BeginsToken now.cursor.mark now.cursor.rest
@@ -84,7 +79,7 @@ first_ready around calm d blank k ad ps m c cs content right token fresh =
     let left = key_left context.Block k m in
     let kept = moment there context.Block left [] true ad ps in
     let e = deeper_at around d m in
-    let gapped = ap stop (content_gap (least around.column d) c cs content m blank)
+    let gapped = ap stop (rw (content.blank, content.break, content.comment, no_return c content.break) refl)
     ∙ stop_here m blank false (c ∷ cs) in
     let passed = ap (λ r. r >>= λ (p : GapEnd). check_comment (behind_gap (core_at around d begun) p)) gapped in
     let reached = ap (λ r. r >>= drop_far_key) passed ∙ drops_far_key around None d begun (unrequired calm) in

@@ -98,7 +98,7 @@ key_read reads around calm node m p n r h line apart short white right clear bel
       others = r;
       is = refl;
       content = colon_content;
-      near = nearer m.index (length (p ++ n.text)) short;
+      near = (omega (arith, short));
     } in
     let ready = rw (sym front) at (first_ready around calm d blank k ad ps m b.first (b.others ++ o) b.content right
     (rw front at token) (rw front at (text_fresh around (suc m.col) node p n.text r h))) in
@@ -126,6 +126,3 @@ key_read reads around calm node m p n r h line apart short white right clear bel
   where
     next : (n : ℕ) → suc n ≤ n + 1
     next n = omega arith
-
-    nearer : (i l : ℕ) → l ≤ 1024 → i + l ≤ i + 1024
-    nearer i l h = omega (arith, h)

@@ -51,6 +51,9 @@ from_on : {a b : Bool} {u v : Cursor} → a ≡ b → u ≡ v → (b ≡ false) 
 from_on step over (inl x) = inl (step ∙ x)
 from_on step over (inr x) = inr (ap (λ (u : Cursor). stands_behind_tab u.rest) over ∙ x)
 
+-- By the induction on a text between tokens (`OverGap`). Where `past` stops at a tab, a blank comes next, which the
+-- premise excludes. A tab that is passed stands before a rest without a token (`flag_rest`), and a break ends that
+-- (`no_flag`).
 over_tabs : (column : ℕ) → OverGap column (λ m t. (tab : Bool) → Tabs column m tab t) (λ m t. Unit {0})
 over_tabs column =
     record {

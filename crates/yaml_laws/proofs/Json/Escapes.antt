@@ -1,5 +1,5 @@
 -- The escapes of JSON's strings are escapes of double quoted scalars.
-use Rattle.yaml_laws.proofs.Common.{IsTrue, List, arith, refl, ℕ, ◌*◌, ◌+◌, ◌<◌, ◌≡◌, ◌≤◌, Some, nat_tests, IsHex, hex_value, is_hex, IsSurrogate, IsJsonEscape, IsCode}
+use Rattle.yaml_laws.proofs.Common.{IsTrue, List, arith, refl, ℕ, ◌<◌, ◌≡◌, ◌≤◌, Some, nat_tests, IsHex, hex_value, is_hex, IsSurrogate, IsJsonEscape, IsCode}
 use Rattle.saphyr_scalar.specs.Values.Escapes.{is_scalar_value, short_escape}
 use Rattle.saphyr_scalar.specs.Spelling.OneLine as spelling
 
@@ -16,9 +16,6 @@ hex_small d h = grind (arith, nat_tests)
 scalar_fits : (c : ℕ) → c < 0x1_0000 → ¬ (IsSurrogate c) → IsTrue (is_scalar_value c)
 scalar_fits c h other = grind (arith, nat_tests)
 
-four : (a b d e c : ℕ) → c ≡ ((a * 16 + b) * 16 + d) * 16 + e → (((0 * 16 + a) * 16 + b) * 16 + d) * 16 + e ≡ c
-four a b d e c is = omega arith
-
 -- four digits that stand for a character
 pub code_fits : (c : ℕ) (code : List ℕ) → IsCode c code → ¬ (IsSurrogate c) → spelling.IsNumber 117 c code
 code_fits c code (d3, d2, d1, d0, h3, h2, h1, h0, is, spelled) other =
@@ -26,6 +23,6 @@ code_fits c code (d3, d2, d1, d0, h3, h2, h1, h0, is, spelled) other =
     rw spelled (record {
       count = refl;
       hex = (hex_fits d3 h3, (hex_fits d2 h2, (hex_fits d1 h1, (hex_fits d0 h0, tt))));
-      value = four (hex_value d3) (hex_value d2) (hex_value d1) (hex_value d0) c is;
+      value = (omega arith);
       scalar = scalar_fits c small other;
     })

@@ -114,9 +114,6 @@ pub record ArePairAndOthers (room : ℕ) (key value : Node) (pairs : Pairs) (t :
   pub more : AreOtherFlowPairs room pairs 0 others
   pub calm : IsCalm t
 
-colon_calm : (w : List ℕ) → AreIn is_white w → IsCalm (codes ":" ++ w)
-colon_calm w h = calm_both (codes ":") w (calm_character 58 refl refl) (white_calm w h)
-
 pair_regrouped : (n w k v b c a x o : List ℕ) → n ++ (w ++ (k ++ (v ++ ((b ++ (c ++ a)) ++ (x ++ o)))))
     ≡ ((n ++ (w ++ (k ++ ((v ++ b) ++ c)))) ++ (a ++ x)) ++ o
 pair_regrouped n w k v b c a x o = simp append_assoc
@@ -124,6 +121,8 @@ pair_regrouped n w k v b c a x o = simp append_assoc
 calm_colon : (k g c : List ℕ) → IsCalm (k ++ g) → IsCalm c → IsCalm (k ++ (g ++ c))
 calm_colon k g c p q = rw (append_assoc k g c) at (calm_both (k ++ g) c p q)
 
+-- The white space around the parts moves: what is before the value goes to the separation behind the colon, and what is
+-- after it, with what is before the other pairs, behind the pair. `pair_regrouped` says so of the text.
 pub pair_and_others : (room : ℕ) (key value : Node) (pairs : Pairs) (n w v t u : List ℕ) → IsName room key n
     → AreIn is_white w → AreIn is_white v → IsPadded room value true t → IsTail (AreOtherFlowPairs room pairs 0) u
     → ArePairAndOthers room key value pairs (n ++ (w ++ (codes ":" ++ (v ++ (t ++ u)))))
@@ -138,7 +137,8 @@ pair_and_others room key value pairs n w v t u name wh vh p o =
     ∙ ap (λ (x : List ℕ). n ++ (w ++ (codes ":" ++ (v ++ ((p.before ++ (p.core ++ p.after)) ++ x))))) o.is
     ∙ pair_regrouped n w (codes ":") v p.before p.core p.after o.before o.core in
     let whole_calm = calm_both n (w ++ colon) name.calm (calm_both w colon (white_calm w wh)
-    (calm_colon (codes ":") behind p.core (colon_calm behind behind_white) p.calm)) in
+    (calm_colon (codes ":") behind p.core (calm_both (codes ":") behind (calm_character 58 refl refl) (white_calm behind
+    behind_white)) p.calm)) in
     record {
       pair = whole ++ gap;
       others = o.core;

@@ -33,6 +33,8 @@ raw_folded : (c : ℕ) (items : List Item) → (c == 10) ≡ false → AreOnLine
     → folded (raw_item c ∷ items) ≡ c ∷ folded items
 raw_folded c items h on = grind (arith, before_no_break)
 
+-- By how JSON spells the character: as itself, by a short escape, or by four digits. Each is an item of a double-quoted
+-- text in YAML, with the same value.
 one_spells : (c : ℕ) (spelling more value : List ℕ) → IsJsonSpelling c spelling → Spells more value
     → Spells (spelling ++ more) (c ∷ value)
 one_spells c spelling more value (inl h) r =

@@ -1,5 +1,5 @@
 -- The words of JSON are plain scalars of YAML's grammar, of one word.
-use Rattle.yaml_laws.proofs.Common.{Bool, List, [], ap, append-nil, arith, codes, false, inl, inr, refl, slice_index, subst, sym, true, ℕ, ◌++◌, ◌∙◌, ◌∷◌, ◌≡◌, ◌≢◌, ◌⊎◌, not, ◌&&◌, ◌==◌, nat_tests, IsDigit, is_blank, is_blank_or_breakz, is_bom, is_flow, colon, hyphen, number_sign, is_document_indicator, AreIn, plain_value, ArePlainSafe, IsWordIn, is_plain_safe, IsFirstWord, IsFlowScalar, begins_plain, Plain, IsWord}
+use Rattle.yaml_laws.proofs.Common.{Bool, List, [], ap, append-nil, arith, codes, false, inl, inr, refl, slice_index, subst, sym, true, ℕ, ◌++◌, ◌∙◌, ◌∷◌, ◌≡◌, ◌≢◌, ◌⊎◌, not, ◌&&◌, ◌==◌, nat_tests, IsDigit, is_blank, is_blank_or_breakz, is_bom, is_flow, hyphen, number_sign, is_document_indicator, AreIn, plain_value, ArePlainSafe, IsWordIn, is_plain_safe, IsFirstWord, IsFlowScalar, begins_plain, Plain, IsWord}
 use Rattle.yaml_laws.proofs.Json.WordCharacters.{BeginsWithDigit, is_always_plain, word_safe, word_begins}
 use Rattle.yaml_laws.proofs.Json.Calm.{IsCalm, is_no_break, calm_line}
 
@@ -16,9 +16,6 @@ always_safe in_flow c h = by_tests (is_blank_or_breakz c) (c == 58) (is_bom c) (
     by_tests false false false false true h = refl
     by_tests false false false false false h = refl
 
-safe_no_colon : (c : ℕ) → is_always_plain c ≡ true → c ≢ colon
-safe_no_colon c h e = absurd (let f : is_always_plain 58 ≡ true = rw e at h in cc)
-
 safe_no_break : (c : ℕ) → is_always_plain c ≡ true → is_no_break c ≡ true
 safe_no_break c h = grind (arith, nat_tests)
 
@@ -27,8 +24,11 @@ safe_raw c h = (grind (arith, nat_tests), grind (arith, nat_tests))
 
 words_safe : (in_flow : Bool) (t : List ℕ) → AreIn is_always_plain t → ArePlainSafe in_flow t
 words_safe in_flow [] h = tt
-words_safe in_flow (c ∷ cs) h =
-    (always_safe in_flow c h.0, (λ e. absurd (safe_no_colon c h.0 e)), words_safe in_flow cs h.1)
+words_safe in_flow (c ∷ cs) h = (
+  always_safe in_flow c h.0,
+  (λ e. absurd (absurd (let f : is_always_plain 58 ≡ true = rw e at h.0 in cc))),
+  words_safe in_flow cs h.1,
+)
 
 pub word_no_break : (t : List ℕ) → AreIn is_always_plain t → AreIn is_no_break t
 word_no_break [] h = tt

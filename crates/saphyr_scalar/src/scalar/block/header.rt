@@ -58,6 +58,7 @@ impl<T: Input> Reader<T> {
             return Err(Refusal {
                 text: FaultText::BlockScalarIndicatorZero,
                 mark: start,
+                may_change: false,
             });
         }
         self.skip_non_blank();
@@ -74,6 +75,7 @@ impl<T: Input> Reader<T> {
             return Err(Refusal {
                 text: FaultText::BlockScalarHeaderEndExpected,
                 mark: start,
+                may_change: false,
             });
         }
         self.skip_line_break();
@@ -81,6 +83,7 @@ impl<T: Input> Reader<T> {
             return Err(Refusal {
                 text: FaultText::BlockScalarTabFirst,
                 mark: start,
+                may_change: false,
             });
         }
         Ok(())

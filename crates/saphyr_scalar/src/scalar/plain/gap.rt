@@ -36,12 +36,14 @@ impl<T: Input> Reader<T> {
             return Err(Refusal {
                 text: FaultText::MisplacedByteOrderMark,
                 mark: self.mark,
+                may_change: false,
             });
         }
         if c != '#' && !is_z(c) {
             return Err(Refusal {
                 text: FaultText::TabInsidePlain,
                 mark: start,
+                may_change: false,
             });
         }
         Ok(())

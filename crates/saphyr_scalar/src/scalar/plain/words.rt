@@ -146,6 +146,7 @@ impl<T: Input> Reader<T> {
             return Err(Refusal {
                 text: FaultText::PlainDashBeforeFlow,
                 mark: self.mark,
+                may_change: false,
             });
         }
         Ok(self.is_in_plain_word(c, in_flow))

@@ -67,6 +67,7 @@ impl<T: Input> Reader<T> {
                     return Err(Refusal {
                         text: FaultText::TabAsIndentation,
                         mark: self.mark,
+                        may_change: false,
                     });
                 }
                 self.skip_blank();
@@ -92,7 +93,11 @@ impl<T: Input> Reader<T> {
         } else {
             return Ok(());
         };
-        Err(Refusal { text, mark: start })
+        Err(Refusal {
+            text,
+            mark: start,
+            may_change: self.is_at_open_end(),
+        })
     }
 
     // Takes off the empty lines after a break, and the blanks before what follows them. Appends what the
@@ -217,6 +222,7 @@ impl<T: Input> Reader<T> {
             return Err(Stop::Refused(Refusal {
                 text: FaultText::EndInsideQuotes,
                 mark: start,
+                may_change: true,
             }));
         }
         Ok(c)

@@ -4,5 +4,6 @@ use Rattle.saphyr_scanner.proofs.law.orders_spans.Goals as goal
 
 pub returns : goal.returns
 returns c = scan_in_order
-    (reader_ends c.reads_plain_values.ensures.value c.spells_each_quoted.ensures.spelled c.reads_block_texts.ensures.counted
+    (reader_ends c.reads_plain_values.ensures.value c.spells_each_quoted.ensures.spelled
+    c.reads_block_texts.ensures.counted
     c.spells_each_property.ensures.anchor c.spells_each_property.ensures.tag c.spells_each_directive.ensures)

@@ -61,6 +61,7 @@ fn pass_behind_quotes<T: Input>(
     Err(Refusal {
         text: FaultText::ContentAfterQuotes,
         mark: reader.mark(),
+        may_change: false,
     })
 }
 

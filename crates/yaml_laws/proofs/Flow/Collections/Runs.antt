@@ -63,6 +63,9 @@ follows_bracket {around} {x} {node} {m} {o} (follows_outside is behind) e right 
 follows_bracket {around} {x} {node} {m} {o} (follows_key k held block w r is are before white) e right =
     rw block (ends_key around.indent e o w r is are right)
 
+-- Properties are passed first (`behind_front`), and then the brackets (`brackets_pass`), from whichever moment the
+-- properties led to. That has the same context, levels and place of a colon, so what is known of them is carried over
+-- by equations.
 pub collection_passes : {around : Around} {node : Node} {p : Properties} {b : Brackets} {Text : ℕ → List ℕ → Type 0}
     {Are : List Kind → Type 0} → ReaderPromises → ReadsCollection around node p b Text Are → (room : ℕ) (m : Marker)
     (t o : List ℕ) (now : FlowMoment) → IsBracketText b Text p room around.indent t
@@ -80,10 +83,13 @@ collection_passes {around} {node} {p} {b} {Are = Are} reads collection room m t 
     let next_small : room + length next.outer ≤ most_open = rw same_outer small in
     let run : RunsInside around Are b next.context next.outer here inside o =
     λ j start no_candidate fresh on right stands. entries.passes here inside o h
-    (fits_around here inside (b.closing ∷ []) o right
-    (cut_back n (b.opening ∷ w) (inside ++ (b.closing ∷ [])) o right fits_next))
-    (record start { outer = level_of next.context j ∷ next.outer }) no_candidate fresh (omega (arith, r, next_small)) on
-    stands in
+    (record start { outer = level_of next.context j ∷ next.outer }) no_candidate fresh (record {
+      fits = fits_around here inside (b.closing ∷ []) o right
+          (cut_back n (b.opening ∷ w) (inside ++ (b.closing ∷ [])) o right fits_next);
+      enough = omega (arith, r, next_small);
+      low = on;
+      stands = stands;
+    }) in
     brackets_pass around Are b collection.are n w inside o next fits_next (entries.content inside [] h) parts
     (parted_by around.indent w (inside ++ (b.closing ∷ o)) parts (entries.content inside o h))
     (omega (arith, r, next_small)) next_calm (omega (arith, same_adjacent, later, low.0)) from at

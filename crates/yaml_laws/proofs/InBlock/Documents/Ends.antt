@@ -35,7 +35,8 @@ no_directives d t e h = rw e at h
 -- after filler a document marker or a byte order mark begins a line
 marked_follows : (filler : List ℕ) (c : ℕ) (cs o : List ℕ) → IsFiller filler → o ≡ filler ++ (c ∷ cs)
     → IsStop (c ∷ cs) → EndsContent (c ∷ cs) → FollowsDocument o
-marked_follows filler c cs o filler_is e stops ends = grind (arith, skipped_clean, filler_skipped, skipped_passes, filler_at_line)
+marked_follows filler c cs o filler_is e stops ends =
+    grind (arith, skipped_clean, filler_skipped, skipped_passes, filler_at_line)
 
 last_clean : (o : List ℕ) → IsLastFiller o → IsClean o
 last_clean o (filler, text, filler_is, (front, comment, are, k, text_is), is) =

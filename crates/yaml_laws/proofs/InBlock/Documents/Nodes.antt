@@ -1,5 +1,5 @@
 -- The node of a document is read (YAML 1.2.2, chapter 9).
-use Rattle.yaml_laws.proofs.Common.{Bool, List, [], ap, arith, false, inl, inr, length, refl, subst, sym, true, ℕ, ◌++◌, ◌+◌, ◌∙◌, ◌∷◌, ◌≡◌, ◌≤◌, None, Option, nat_le, ◌&&◌, ◌||◌, line_feed, Marker, ◌>>=◌, is_too_far, Candidate, Place, State, Kind, Node, most_open, has_marker, cursor_at, eq-eqb}
+use Rattle.yaml_laws.proofs.Common.{Bool, List, [], ap, arith, false, inl, inr, refl, subst, sym, true, ℕ, ◌++◌, ◌∙◌, ◌∷◌, ◌≡◌, None, Option, nat_le, ◌&&◌, ◌||◌, line_feed, Marker, ◌>>=◌, is_too_far, Candidate, Place, State, Kind, Node, most_open, has_marker, cursor_at, eq-eqb}
 use Rattle.saphyr_scanner.specs.Steps.Fetch.{fetch, fetch_here}
 use Rattle.saphyr_scanner.specs.Steps.Unrolling.{unroll}
 use Rattle.yaml_laws.specs.Grammar.BlockNodes.{Position as Position, indent_at, IsBlockNode}
@@ -82,9 +82,6 @@ flat m y blank key a ad deeper ps stop near ends =
 untabbed : (m : Marker) (blank : Bool) (t : List ℕ) → tabbed 0 m blank false t ≡ false
 untabbed m blank t = (settles 0 m t (past_stops m t)).1 0 (omega arith) blank
 
-sum_within : (i l j k limit : ℕ) → i + l ≡ j + k → j + k ≤ limit → i + l ≤ limit
-sum_within i l j k limit e h = omega (arith, e, h)
-
 -- A document's node is read where no collection is open. What the stream's statements say of a moment before the node
 -- and after it is put into the words of nodes: before it the next token is reached, and after it the document ends,
 -- where it doesn't matter how far right content would have to be (`flat`).
@@ -151,8 +148,7 @@ reads_root {limit} {start} leaves place flat_place node t others ts h follows v 
         fits = past_again 0 m others;
         line = (line, λ e. absurd (unopened e));
         count =
-            sum_within m.index (length others) v.mark.index (length (t ++ others)) limit (moved_count v.mark t others)
-            v.count;
+            (omega (arith, (moved_count v.mark t others), v.count));
         are = u.are;
         quiet = λ _. refl;
         low = u.low;

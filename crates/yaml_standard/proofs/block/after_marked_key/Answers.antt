@@ -11,4 +11,5 @@ returns-then-is_value_at c = λ end value.
 pub returns : goal.returns
 returns c =
     no_value_after_mark c.args.column _ _ (c.is_past.ensures c.if-not-is_past.false)
-    ((MatchOption-at_some (Unit {0}) (λ a. IsWhatComes a (chars c.args.text.now)) _ c.in-Some.is c.requires).no_value _ (c.is_value_at.ensures c.if-is_value_at.false))
+    ((MatchOption-at_some (Unit {0}) (λ a. IsWhatComes a (chars c.args.text.now)) _ c.in-Some.is c.requires).no_value _
+    (c.is_value_at.ensures c.if-is_value_at.false))

@@ -17,4 +17,5 @@ returns-in_ok-scalar-in-Block c =
 pub returns-in_ok-end-in_default : goal.returns-in_ok-end-in_default
 returns-in_ok-end-in_default c =
     IfSome_then c.behind_eol-in_default.result c.behind_eol-in_default.ensures
-    (λ x t. flow_leaf (position c.args.place) _ _ _ _ _ c.in_ok-indent.ensures c.in_ok-node-in_default.ensures c.in_ok-end-in_default.ensures t)
+    (λ x t. flow_leaf (position c.args.place) _ _ _ _ _ c.in_ok-indent.ensures c.in_ok-node-in_default.ensures
+    c.in_ok-end-in_default.ensures t)

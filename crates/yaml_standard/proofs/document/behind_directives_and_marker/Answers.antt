@@ -7,6 +7,7 @@ use Rattle.yaml_standard.proofs.document.behind_directives_and_marker.Goals as g
 
 pub returns-in-Some : goal.returns-in-Some
 returns-in-Some c =
-    let directives = MatchOption-at_some (Unit {0}) (λ x. TakesOff AreSomeDirectives (chars c.args.text.now) (chars x.now)) _ c.in-Some.is
+    let directives = MatchOption-at_some (Unit {0})
+    (λ x. TakesOff AreSomeDirectives (chars c.args.text.now) (chars x.now)) _ c.in-Some.is
     c.in_ok-found.ensures in
     IfSome_then c.behind_start.result c.behind_start.ensures (λ x e. marker_taken _ _ _ directives e)

@@ -4,7 +4,8 @@ use Rattle.yaml_standard.proofs.flow.entries.Goals as goal
 
 pub returns-then-is_end : goal.returns-then-is_end
 returns-then-is_end c =
-    entries_end _ _ _ _ _ c.behind_separation-entry.ensures (bracket_first _ _ _ _ c.closing.ensures c.in_ok-strip.ensures)
+    entries_end _ _ _ _ _ c.behind_separation-entry.ensures
+    (bracket_first _ _ _ _ c.closing.ensures c.in_ok-strip.ensures)
 
 pub returns-in-Mapping : goal.returns-in-Mapping
 returns-in-Mapping c = λ x end s t.

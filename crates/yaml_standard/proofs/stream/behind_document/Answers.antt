@@ -7,7 +7,8 @@ use Rattle.yaml_standard.proofs.stream.behind_document.Goals as goal
 
 pub returns-in-Some : goal.returns-in-Some
 returns-in-Some c =
-    let front = MatchOption-at_some (Unit {0}) (λ x. TakesOff (IsFront c.args.free) (chars c.args.text.now) (chars x.now)) _ c.in-Some.is
+    let front = MatchOption-at_some (Unit {0})
+    (λ x. TakesOff (IsFront c.args.free) (chars c.args.text.now) (chars x.now)) _ c.in-Some.is
     c.in_ok-found.ensures in
     both_ok c.behind_content.result _ _ (λ x h. explicit_taken _ _ _ _ front h) c.behind_content.ensures
 

@@ -16,7 +16,8 @@ loop-preserved c =
     c.in_ok-read.ensures in
     record {
       text = search rules;
-      continues = documents_continue _ _ _ _ _ _ _ _ c.loop.invariant.continues c.behind_filler-document.ensures document
+      continues = documents_continue _ _ _ _ _ _ _ _ c.loop.invariant.continues
+          c.behind_filler-document.ensures document
           c.next_place-place.ensures;
     }
 

@@ -11,5 +11,6 @@ returns-then-not-has_return c =
 
 pub returns : goal.returns
 returns c =
-    text_standard Standard _ _ _ (ap chars c.as_str.ensures.value ∙ c.in_ok-lines.ensures) c.judge-verdict.ensures.standard
+    text_standard Standard _ _ _ (ap chars c.as_str.ensures.value ∙ c.in_ok-lines.ensures)
+    c.judge-verdict.ensures.standard
     c.judge-verdict.ensures.strict

@@ -40,7 +40,8 @@ loop-declared-preserved g c more =
     directs none_declared (declared_of c.loop-declared.declared c.loop-declared.self.prefixes)
     (declared_of c.directive.new.declared c.directive.new.self.prefixes)
     (machine_in more c.args.self.now) (machine_in more c.loop-declared.self) next.2
-    (machine_in more c.directive.new.self) t _ (c.loop-declared.invariant more) (shown.1 more ∙ next.3) (c.is_directive.ensures next.1)
+    (machine_in more c.directive.new.self) t _ (c.loop-declared.invariant more) (shown.1 more ∙ next.3)
+    (c.is_directive.ensures next.1)
     c.if-not-is_directive.false
     (subst (λ (p : Names (List ℕ)). directive_at t.kind t (declared_of c.loop-declared.declared p) next.2
     ≡ Ok (declared_of c.directive.new.declared c.directive.new.self.prefixes, machine_in more c.directive.new.self))

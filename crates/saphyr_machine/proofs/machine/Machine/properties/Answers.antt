@@ -102,7 +102,8 @@ returns g c more =
           elim c.match-next.branch [
             | in-Tag-next+in_ok-tag+in-Tag-kind+in_ok-peek+in-Anchor-2+in_ok-anchor w ↦
                 let taken = w.in_ok-tag.ensures more piece first.2 first.1.handle first.1.text again named in
-                let tag = resolved (resolved_tag_at first.2.prefixes first.1.handle first.1.text place) first.2 _ _ taken in
+                let tag = resolved (resolved_tag_at first.2.prefixes first.1.handle first.1.text place)
+                first.2 _ _ taken in
                 let kind = w.in_ok-peek.field-0 in
                 let shown = w.in_ok-peek.ensures in
                 let next = next_in kind w.peek-in-Tag-kind.new.self more shown.0 in
@@ -117,7 +118,8 @@ returns g c more =
                 (resolved_tag w.in_ok-tag.field-0) (rw span at tag.0) took w.in-Anchor-2.is)
             | in-Tag-next+in_ok-tag+in-Tag-kind+in_ok-peek+in_default-2 w ↦
                 let taken = w.in_ok-tag.ensures more piece first.2 first.1.handle first.1.text again named in
-                let tag = resolved (resolved_tag_at first.2.prefixes first.1.handle first.1.text place) first.2 _ _ taken in
+                let tag = resolved (resolved_tag_at first.2.prefixes first.1.handle first.1.text place)
+                first.2 _ _ taken in
                 let kind = w.in_ok-peek.field-0 in
                 let shown = w.in_ok-peek.ensures in
                 let next = next_in kind w.peek-in-Tag-kind.new.self more shown.0 in

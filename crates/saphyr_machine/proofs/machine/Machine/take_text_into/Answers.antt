@@ -18,5 +18,6 @@ pub returns-clause-left : goal.returns-clause-left
 returns-clause-left g c more =
     let old = c.args.self.now in
     if_taken (tokens_in more old.scanner) (machine_in more old)
-    (λ t m. OnOk c.take_text_into.result (with_tokens (tokens_in more c.take_text_into.new.self) (machine_in more old) ≡ m))
+    (λ t m. OnOk c.take_text_into.result
+    (with_tokens (tokens_in more c.take_text_into.new.self) (machine_in more old) ≡ m))
     (λ t left is. let taken = c.take_text_into.ensures.left more t left is in search (rules, taken))

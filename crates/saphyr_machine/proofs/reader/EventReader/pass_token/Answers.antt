@@ -23,9 +23,11 @@ returns-in-Ok-true g c = λ more.
     let parts = rw next.3 at (c.in-Ok-take_parts.ensures.parts more) in
     let left = rw next.3 at (c.in-Ok-take_parts.ensures.left more) in
     let token = piece_with c.span-span.result c.in-Ok.kind (parts_view c.in-Ok-take_parts.parts) in
-    let same : piece ≡ token = same_piece c.in-Ok.kind next.1 (parts_view c.in-Ok-take_parts.parts) _ _ (sym span) parts in
+    let same : piece ≡ token = same_piece c.in-Ok.kind next.1 (parts_view c.in-Ok-take_parts.parts) _ _
+    (sym span) parts in
     let moved : machine_in more old.machine ≡ put_back token (machine_in more c.makes_no_event.new.self) =
-    sym peeked ∙ sym (put_back_again (machine_in more c.peek.new.self) next.2 piece next.3) ∙ ap (put_back piece) (sym left)
+    sym peeked ∙ sym (put_back_again (machine_in more c.peek.new.self) next.2 piece next.3)
+    ∙ ap (put_back piece) (sym left)
     ∙ ap (λ p. put_back p (machine_in more c.take_parts.new.self)) same
     ∙ ap (put_back token) (sym (c.in-Ok-true.ensures.same more)) in
     let between = c.if-not-is_between.ensures refl in (

@@ -49,4 +49,5 @@ invariant_of-self-in-Key-clause-within c =
 pub invariant_of-self-in_default-opening-clause-within : goal.invariant_of-self-in_default-opening-clause-within
 invariant_of-self-in_default-opening-clause-within c =
     let old = c.args.self.now in
-    subst (λ n. old.spent ≤ n) (sym (length-set old.places.items old.spent c.open-in_default-opening.new.self)) old.within
+    subst (λ n. old.spent ≤ n)
+    (sym (length-set old.places.items old.spent c.open-in_default-opening.new.self)) old.within

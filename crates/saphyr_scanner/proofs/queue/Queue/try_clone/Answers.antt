@@ -10,4 +10,7 @@ unfolding queue_places
 returns c =
     let old = c.args.self.now in
     let places = each_same old.places.items c.in_ok-clone.field-0.items c.in_ok-clone.ensures.cases.0 in
-    λ i. record { places = places_at (drop old.spent (places i)) (c.in_ok-try_clone.ensures i); handed = first_number old }
+    λ i. record {
+      places = places_at (drop old.spent (places i)) (c.in_ok-try_clone.ensures i);
+      handed = first_number old;
+    }

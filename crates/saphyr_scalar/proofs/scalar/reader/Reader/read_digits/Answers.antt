@@ -27,8 +27,8 @@ overflow_add-value g c = record {
 
 pub returns-then-not-is_hex : goal.returns-then-not-is_hex
 returns-then-not-is_hex g c = sym c.loop.invariant.same
-    ∙ digits_stop c.args.start c.args.count c.loop.counter c.loop.value
-    (mid_line (along c.args.self.now.mark c.loop.counter) (cursor_of c.loop.self).rest)
+    ∙ digits_stop c.args.start c.args.count c.loop.counter c.loop.value c.look-c.result
+    (mid_line (along c.args.self.now.mark c.loop.counter) (cursor_of c.loop.self).rest) c.look-c.ensures.value
     (ap class.is_hex (sym c.look-c.ensures.value) ∙ sym c.is_hex.ensures.test ∙ c.if-not-is_hex.true)
     c.loop-test.true
 

@@ -1,5 +1,6 @@
 -- A suffix was read behind a handle.
-use Rattle.saphyr_scalar.proofs.Common.{string_bytes, sym, ◌∙◌, Suffix, cursor_of}
+use Rattle.saphyr_scalar.proofs.Common.{string_bytes, ap, sym, ◌∙◌, Suffix, refuse_open, cursor_of}
+use Rattle.saphyr_scalar.specs.declared.scalar.fault.FaultText.TheVariants as fault
 use Rattle.saphyr_scalar.specs.Steps.Tag as spec
 use Rattle.saphyr_scalar.proofs.Plain.Pieces.{moves_failed}
 use Rattle.saphyr_scalar.proofs.Properties.TagSteps.{named_alone, named_ended, step_refused}
@@ -20,6 +21,7 @@ returns-then-len-before g c before word is =
     c.in_ok-read_uri_characters.ensures
     (sym (c.len.ensures ∙ c.read_uri_characters.new.text.bytes.ok.0) ∙ c.if-len-before.true
     ∙ c.len-before.ensures ∙ c.args.text.now.bytes.ok.0)
+    ∙ ap (λ b. refuse_open b fault.TagSuffixExpected c.args.start) (sym c.is_missing.ensures.value)
 
 pub returns : goal.returns
 unfolding spec.named_tail

@@ -1,5 +1,6 @@
 -- A plain scalar is put behind a text.
-use Rattle.saphyr_scalar.proofs.Common.{string_bytes, refl, sym, ap, ◌∙◌, is_break, Cursor, cursor_of}
+use Rattle.saphyr_scalar.proofs.Common.{string_bytes, refl, sym, ap, ◌∙◌, is_break, Cursor, refuse_open, cursor_of}
+use Rattle.saphyr_scalar.specs.declared.scalar.fault.FaultText.TheVariants as fault
 use Rattle.saphyr_scalar.specs.Steps.Plain as spec
 use Rattle.saphyr_scalar.proofs.Plain.LineEnds.{stays_there, blank_there, ended_at_once, behind_and_rest}
 use Rattle.saphyr_scalar.proofs.Plain.Pieces.{started, words_and_rest, plain_refused, no_plain, moves_refused, moves_failed}
@@ -16,7 +17,8 @@ returns-then-not-branch g c =
     let s = cursor_of c.args.self.now in
     let there = cursor_of c.plain_word_starts.new.self in
     ap (spec.with_text (string_bytes c.args.text.now)) (no_plain f c.args.indent s there
-    (started (spec.word_starts f) s there _ _ c.if-not-branch.true c.in_ok-plain_word_starts.ensures))
+    (started (spec.word_starts f) s there _ _ c.if-not-branch.true c.in_ok-plain_word_starts.ensures)
+    ∙ ap (λ b. refuse_open b fault.PlainEnd s.mark) (sym c.is_at_open_end.ensures.value))
 
 pub returns-then-ends_plain : goal.returns-then-ends_plain
 returns-then-ends_plain g c =

@@ -34,11 +34,13 @@ returns-then-is_break-2-clause-same g c =
     let text = string_bytes a.text.now in
     let v = cursor_of c.skip_seen_break-then-is_break-2.new.self in
     let moved = blanks_of text _ s t c.in_ok-c.ensures.moved in
-    let breaks = shows class.is_break t.rest _ _ _ c.in_ok-c.ensures.next c.is_break-2.ensures.test c.if-is_break-2.true in
+    let breaks = shows class.is_break t.rest _ _ _ c.in_ok-c.ensures.next c.is_break-2.ensures.test
+    c.if-is_break-2.true in
     reads_from c.read_quoted_lines-then-is_break-2.result _ _ _
     (ap (λ b. spec.with_front b (spec.inner_text_at a.quote a.indent a.start (spec.over_lines false 0) v))
     (moved.gone breaks)
-    ∙ blanks_to_break a.quote a.indent a.start text _ s t t v moved.run refl breaks c.skip_seen_break-then-is_break-2.ensures)
+    ∙ blanks_to_break a.quote a.indent a.start text _ s t t v moved.run refl breaks
+    c.skip_seen_break-then-is_break-2.ensures)
     (c.read_quoted_lines-then-is_break-2.ensures.same a.quote)
 
 pub returns-then-is_z-clause-same : goal.returns-then-is_z-clause-same
@@ -57,7 +59,8 @@ returns-clause-same g c =
     let t = cursor_of c.read_blanks.new.self in
     let text = string_bytes a.text.now in
     let moved = blanks_of text _ s t c.in_ok-c.ensures.moved in
-    let break = shows class.is_break t.rest _ _ _ c.in_ok-c.ensures.next c.is_break-2.ensures.test c.if-is_break-2.false in
+    let break = shows class.is_break t.rest _ _ _ c.in_ok-c.ensures.next c.is_break-2.ensures.test
+    c.if-is_break-2.false in
     ap (λ b. spec.with_front b (spec.inner_text_at a.quote a.indent a.start spec.no_gap t)) (moved.kept break)
     ∙ blanks_to_word a.quote a.indent a.start text _ s t t moved.run refl break
     (shows class.is_z t.rest _ _ _ c.in_ok-c.ensures.next c.is_z.ensures.test c.if-is_z.false)

@@ -1,5 +1,6 @@
 -- A uri was read behind the text.
-use Rattle.saphyr_scalar.proofs.Common.{string_bytes, refl, ap, sym, ◌∙◌, Uri, ◌>>=◌, pass, cursor_of}
+use Rattle.saphyr_scalar.proofs.Common.{string_bytes, refl, ap, sym, ◌∙◌, Uri, Cursor, ◌>>=◌, pass, is_missing, refuse_open, cursor_of}
+use Rattle.saphyr_scalar.specs.declared.scalar.fault.FaultText.TheVariants as fault
 use Rattle.saphyr_scalar.specs.Steps.Tag as spec
 use Rattle.saphyr_scalar.proofs.Lengths.{seen_left}
 use Rattle.saphyr_scalar.proofs.Properties.TagSteps.{verbatim_ended, verbatim_open}
@@ -20,6 +21,8 @@ returns-then-look-ne62 g c =
     ∙ verbatim_open start text (string_bytes c.read_uri_characters.new.text)
     (spec.decoded_at Uri start (cursor_of c.skip_n_non_blank.new.self)) (cursor_of c.read_uri_characters.new.self)
     c.in_ok-read_uri_characters.ensures (λ e. c.if-look-ne62.true (c.look.ensures.value ∙ e))
+    ∙ ap (λ b. refuse_open b fault.VerbatimTagEndExpected start)
+    (ap (λ (s : Cursor). is_missing 0 s.rest) (sym c.look.ensures.same) ∙ sym c.is_missing.ensures.value)
 
 pub returns : goal.returns
 unfolding spec.verbatim_tag

@@ -3,15 +3,15 @@ use Rattle.std.proofs.Common.{arith, subst, ◌≡◌, ◌-◌}
 use Rattle.saphyr_scanner.specs.Views.Places.{handle_length}
 use Rattle.saphyr_scanner.specs.Views.Texts.{BeginsWithTexts}
 use Rattle.saphyr_scanner.proofs.QueuedPlaces.{has_texts}
-use Rattle.saphyr_scanner.proofs.queue.place.Place.take_text_into.Goals as goal
+use Rattle.saphyr_scanner.proofs.queue.place.Place.take_texts_into.Goals as goal
 
 pub take_behind_into-requires-clause-there : goal.take_behind_into-requires-clause-there
 take_behind_into-requires-clause-there c =
     let has = has_texts c.args.self c.args.texts.now c.if-self-eq-APART.false c.requires.there in
     rw (c.handle-handle.ensures, c.from-count.ensures) has.1
 
-pub take_text_into-requires-clause-there : goal.take_text_into-requires-clause-there
-take_text_into-requires-clause-there c =
+pub take_second_into-requires-clause-there : goal.take_second_into-requires-clause-there
+take_second_into-requires-clause-there c =
     let p = c.args.self in
     let s = c.args.texts.now in
     let has = has_texts p s c.if-self-eq-APART.false c.requires.there in
