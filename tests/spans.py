@@ -32,6 +32,8 @@ ESCAPED, NAMED = re.compile(r"\\(.)"), {"n": "\n", "r": "\r", "t": "\t", "b": "\
 NOTHING = "nothing, at the next token"
 COMMA = "the comma or the bracket after it, and its tail"
 DOCUMENT_END = "`DocumentEnd`", "the `...`, else the next `---`, else nothing, at the end of the text"
+LINES = "`Scalar`, literal or folded", "its first content to the next other line, after empty lines and that line's spaces"
+WITH_PROPERTIES = "a scalar with properties", "the first property to the end of the scalar, or of the last"
 BRACKET = "a flow collection's start or end", "the bracket and its tail"
 AT_COLON, NO_KEY = ("a key before `:`, a value after it", "nothing, at the colon"), "a key after `?`, a whole document"
 
@@ -48,15 +50,12 @@ ROWS = {
     "alias": ("`Alias`", "the `*` and the name"),
     "plain": ("`Scalar`, plain", "its first character to its last"),
     "quoted": ("`Scalar`, quoted", "both quotes and their tail"),
-    "lines": (
-        "`Scalar`, literal or folded",
-        "its first content to the next other line, after the spaces of that line",
-    ),
-    "empty lines": ("`Scalar`, literal or folded", "including the empty lines after it"),
-    "no lines": ("`Scalar`, literal or folded", "without content: nothing, after the spaces of the line after it"),
-    "header": ("`Scalar`, literal or folded", "without content, at the end of the text: all from the header on"),
-    "with properties": ("a scalar with properties", "the first property to the end of the scalar"),
-    "properties": ("a scalar of properties alone", "the first to the last"),
+    "lines": LINES,
+    "empty lines": LINES,
+    "no lines": (LINES[0], "without content: nothing, after the spaces of the line after it"),
+    "header": (LINES[0], "without content, at the end of the text: all from the header on"),
+    "with properties": WITH_PROPERTIES,
+    "properties": WITH_PROPERTIES,
     "[": BRACKET,
     "{": BRACKET,
     "]": BRACKET,
