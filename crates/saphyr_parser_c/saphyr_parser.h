@@ -79,7 +79,7 @@ extern "C" {
 #define SAPHYR_VERSION 3000u
 
 /* The release that this header came with. Before the `+` is the version of the Rust crate whose events these are. */
-#define SAPHYR_PARSER_VERSION "0.3.3+rattle.3"
+#define SAPHYR_PARSER_VERSION "0.3.3+rattle.4"
 
 /* What a call returns. Below 0, the call failed. */
 enum saphyr_status {
@@ -389,7 +389,7 @@ saphyr_node saphyr_get(saphyr_parser *parser, saphyr_node node, const char *key,
 
 /*
  * Returns the node whose anchor has this id, so the one that an alias names, or SAPHYR_NO_NODE. An alias may be inside
- * the node that it names. It looks it up, and goes over no nodes.
+ * the node that it names. It looks at one node after the other.
  */
 saphyr_node saphyr_anchored(saphyr_parser *parser, size_t id);
 

@@ -19,7 +19,7 @@ use yaml_check::{
     parse_arguments, status_of, visible,
 };
 
-const VERSION: &str = "check_yaml 0.3.3+rattle.3";
+const VERSION: &str = "check_yaml 0.3.3+rattle.4";
 
 fn main(rt: HostRuntime) -> ExitCode {
     let alloc = rt.alloc();

@@ -7,11 +7,12 @@ use Rattle.saphyr_input.specs.Indicators.{colon, exclamation_mark}
 use Rattle.saphyr_scalar.specs.Views.Cursor.{Cursor}
 use Rattle.saphyr_scalar.specs.declared.scalar.style.ScalarStyle.{ScalarStyle}
 use Rattle.saphyr_scalar.specs.declared.scalar.style.ScalarStyle.TheVariants as style
-use Rattle.saphyr_scalar.specs.Spelling.Tag.{IsHandleText, IsTagText}
+use Rattle.saphyr_scalar.specs.Spelling.Tag.{IsTagText}
 use Rattle.saphyr_scanner.specs.Grammar.Tokens as tokens
 use Rattle.saphyr_scanner.specs.TokensInPlace as place
-use Rattle.saphyr_scanner.specs.TokensInPlace.{Begun, with_begun, fits, may_follow, may_stand, has_text}
+use Rattle.saphyr_scanner.specs.TokensInPlace.{Begun, with_begun, fits, may_follow, may_stand}
 use Rattle.saphyr_scanner.proofs.Taken.KeysInPlace.{no_text}
+use Rattle.saphyr_scanner.proofs.Taken.JsonEnds.{empty}
 
 -- properties or content of a node end on a line
 abbrev pub EndOn : Begun → ℕ → Type 0
@@ -27,9 +28,6 @@ other_first c more t e f = f (ap (λ l. slice_index l 0) e)
 tag_first : (text behind handle suffix : List ℕ) → IsTagText text handle suffix
     → slice_index (text ++ behind) 0 ≡ exclamation_mark
 tag_first text behind handle suffix h = grind arith
-
-empty_span : (span : Span) → span.end ≡ span.start → has_text span ≡ false
-empty_span span e = rw e (no_text span.start.index)
 
 scalar_elsewhere : (k : ScalarStyle) (b : Bool) (value : List ℕ) (span : Span) (s t : Cursor) (more : List ℕ)
     → s.rest ≡ colon ∷ more → IsTrue (is_blank_or_breakz (slice_index more 0))
@@ -79,11 +77,11 @@ elsewhere g tokens.FlowSequenceEnd b span s t more on at col e blank h p =
 elsewhere g tokens.FlowMappingStart b span s t more on at col e blank (inl h) p =
     other_first 123 more _ (sym e ∙ h.0.0) (λ x. omega (arith, x))
 elsewhere g tokens.FlowMappingStart b span s t more on at col e blank (inr h) p =
-    let no = empty_span span h.0 in let x : false ≡ true = rw no at p.1 in cc
+    let no = empty span h.0 in let x : false ≡ true = rw no at p.1 in cc
 elsewhere g tokens.FlowMappingEnd b span s t more on at col e blank (inl h) p =
     other_first 125 more _ (sym e ∙ h.0.0) (λ x. omega (arith, x))
 elsewhere g tokens.FlowMappingEnd b span s t more on at col e blank (inr h) p =
-    let no = empty_span span h.0 in let x : false ≡ true = rw no at p.1 in cc
+    let no = empty span h.0 in let x : false ≡ true = rw no at p.1 in cc
 elsewhere g tokens.BlockEntry b span s t more on at col e blank h p =
     other_first 45 more _ (sym e ∙ h.0.0) (λ x. omega (arith, x))
 elsewhere g tokens.FlowEntry b span s t more on at col e blank h p =

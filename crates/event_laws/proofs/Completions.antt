@@ -127,9 +127,6 @@ pair_closes ps es h = mapping_closes (CloseSequence ∷ ps) (events.SequenceEnd 
 abbrev leaf : Part
 leaf = Leaf forest.no_properties Plain []
 
-skip : (R : Claim) (ks : List Kind) (ps : List Part) → R ks ps → Then IsSkipped R ks (leaf ∷ ps)
-skip R ks ps r = put IsSkipped R [] (leaf ∷ []) ks ps (refl, refl) r
-
 maybe : (R : Claim) (ks : List Kind) (ps : List Part) → R ks ps → Then (IsOptionalOf InFlow) R ks (leaf ∷ ps)
 maybe R ks ps r = put (IsOptionalOf InFlow) R [] (leaf ∷ []) ks ps (forest.left_out, inl (refl, refl), refl) r
 
@@ -251,7 +248,8 @@ inside state.FlowMappingValue o ss i c = complete _ _ (Value ∷ FlowMappingEnd 
     (passing Value tt (left_out (brace_ended c.have)))
 inside state.FlowMappingEmptyValue o ss i c = complete _ _ (FlowMappingEnd ∷ c.kinds) leaf (CloseMapping ∷ c.parts)
     empty_scalar (events.MappingEnd ∷ c.emitted)
-    (skip (InMapping (FollowsStates o ss)) _ _ (pairs_end (FollowsStates o ss) c.kinds c.parts c.follows))
+    (put IsSkipped (InMapping (FollowsStates o ss)) [] (leaf ∷ []) _ _ (refl, refl)
+    (pairs_end (FollowsStates o ss) c.kinds c.parts c.follows))
     (λ ahead. tt) (refl, (tt, c.bare))
     (λ e. refl) (mapping_closes c.parts c.emitted c.emits)
     (left_out (brace_ended c.have))

@@ -11,11 +11,10 @@ use Rattle.yaml_tree.specs.declared.document.Document.{Document}
 use Rattle.yaml_tree.specs.declared.numbering.Numbering.{Numbering}
 use Rattle.yaml_tree.specs.declared.spans.DocumentSpans.{DocumentSpans}
 use Rattle.yaml_tree.specs.declared.spans.SpannedDocuments.{SpannedDocuments}
-use Rattle.yaml_tree.specs.declared.table.Entry.{Entry}
 use Rattle.yaml_tree.specs.declared.table.NodeTable.{NodeTable}
 use Rattle.yaml_tree.specs.declared.table.Root.{Root}
 use Rattle.yaml_tree.specs.Expanding.{nodes_once_expanded}
-use Rattle.yaml_tree.specs.Numbering.{Placed, FitDocuments, FitNode, IsEntryOf, IsRootOf, IsTableOf, IsTableOfOne}
+use Rattle.yaml_tree.specs.Numbering.{Placed, FitDocuments, FitNode, IsRootOf, IsTableOf, IsTableOfOne}
 use Rattle.yaml_tree.specs.Spanning.{AreSpanned, IsSpannedDocument, IsSpannedStream, all_spans, places_of_events}
 use Rattle.yaml_tree.specs.Unloading.{document_events, node_events}
 use Rattle.yaml_tree.specs.NumberingSeen.{HasNumbered}
@@ -78,16 +77,15 @@ one_root whole ds others ss rest d own roots more_roots number expanded root old
           (roots_more h.all m.0 roots h.taken h.are_roots) ((m.2, expands), tt));
     }
 
-pub all_roots : (s : SpannedDocuments) (ds : List Document) (ss : List DocumentSpans) (n : Numbering) (es : List Entry)
-    (roots : List Root) → ds ≡ [] → es ≡ n.entries.items
-    → HaveRoots (zip s.documents.items s.spans.items) ds ss roots n → (all : List Placed)
-    × AllZip (IsEntryOf all) es all × AllZip (IsRootOf all) roots (zip s.documents.items s.spans.items)
-all_roots s ds ss n es roots none entries h =
+pub all_roots : (s : SpannedDocuments) (ds : List Document) (ss : List DocumentSpans) (n : Numbering) (table : NodeTable)
+    → ds ≡ [] → table.entries ≡ n.entries
+    → HaveRoots (zip s.documents.items s.spans.items) ds ss table.roots.items n → IsTableOf s table
+all_roots s ds ss n table none entries h =
     let whole : zip s.documents.items s.spans.items ≡ h.taken =
     h.split ∙ ap (λ (x : List Document). h.taken ++ zip x ss) none ∙ append-nil h.taken in (
       h.all,
       rw entries h.numbered.numbered,
-      subst (λ (ds : List (Document × DocumentSpans)). AllZip (IsRootOf h.all) roots ds) (sym whole) h.are_roots,
+      subst (λ (ds : List (Document × DocumentSpans)). AllZip (IsRootOf h.all) table.roots.items ds) (sym whole) h.are_roots,
     )
 
 -- ## There are as many spans as events

@@ -1,10 +1,8 @@
 -- What is found in a table is what the nodes are.
-use Rattle.std.proofs.Common.{arith, rules, ◌≡◌, ◌∙◌, refl, sym, ap, subst, ℕ, zero, suc, ◌+◌, ◌*◌, ◌/◌, ◌<◌, ◌≤◌, Bool, true, false, cond, List, [], ◌∷◌, ◌++◌, length, get_or, slice_get, Option, Some, None, option_map, Global, String, Vec}
-use Rattle.std.proofs.lemmas.Option.{slice_get_within, slice_get_past, slice_get-map, same_Some}
-use Rattle.std.specs.BTreeMap.{get}
+use Rattle.std.proofs.Common.{arith, rules, ◌≡◌, ◌∙◌, refl, sym, ap, subst, ℕ, zero, suc, ◌+◌, ◌*◌, ◌/◌, ◌<◌, ◌≤◌, Bool, true, false, cond, List, [], ◌∷◌, ◌++◌, length, get_or, slice_get, slice_index_or, inl, inr, Option, Some, None, option_map, Global, String, Vec}
+use Rattle.std.proofs.lemmas.Option.{slice_get_within, slice_get_past, slice_get-get_or, slice_get-map, same_Some}
+use Rattle.std.proofs.lemmas.Bool.{cases_lt}
 use Rattle.std.specs.List.{AllZip}
-use Rattle.std.specs.Option.{option_and_then}
-use Rattle.std.specs.Ordering.{nat_cmp}
 use Rattle.saphyr_scalar.specs.declared.scalar.style.ScalarStyle.{ScalarStyle}
 use Rattle.saphyr_parser.specs.Types.Tag.{Tag}
 use Rattle.yaml_tree.specs.declared.node.Node.{Node, Alias, Scalar, Seq, Map, the_lemmas}
@@ -16,10 +14,9 @@ use Rattle.yaml_tree.specs.declared.table.Content.TheVariants as content
 use Rattle.yaml_tree.specs.declared.table.Entry.{Entry}
 use Rattle.yaml_tree.specs.declared.table.NodeTable.{NodeTable}
 use Rattle.yaml_tree.specs.Accessing.{text_of_node, anchor_of_node, first_pair, is_this_text}
-use Rattle.yaml_tree.specs.Anchored.{anchor_in}
 use Rattle.yaml_tree.specs.Following.{at_step, step_at_key}
-use Rattle.yaml_tree.specs.Numbering.{Placed, AllFit, AreAround, ArePartsOf, AreSpansOf, FindsNumber, HasNodes, HasNumber, HasParts, IsContentOf, IsEntryOf, IsNodeAt, IsNumberIn, Leads, Stand}
-use Rattle.yaml_tree.specs.Numbering.{both_parts, count_in, count_of_parts, pairs_in, parts_before, parts_of, spans_of, text_of_scalar}
+use Rattle.yaml_tree.specs.Numbering.{Placed, AllFit, AreAround, ArePartsOf, AreSpansOf, HasNodes, HasNumber, HasParts, IsContentOf, IsEntryOf, IsNodeAt, IsNumberIn, Leads, Stand}
+use Rattle.yaml_tree.specs.Numbering.{anchor_in, both_parts, count_in, count_of_parts, pairs_in, parts_before, parts_of, spans_of, text_of_scalar}
 use Rattle.yaml_tree.proofs.PartNumbers.{counts_parts, counts_pairs, key_of, own_fit, part_there, same_own, some_get, value_of}
 
 -- ## A node's content
@@ -301,20 +298,30 @@ none_left parts pairs all i own h = let count = counts_pairs parts pairs all own
 
 -- ## Anchors
 
-entry_anchored : (n id : ℕ) (o : Option Entry) → option_and_then (λ (e : Entry). anchor_in e.content) o ≡ Some id
-    → (e : Entry) × (o ≡ Some e) × (anchor_in e.content ≡ Some id)
-entry_anchored n id None there = cc
-entry_anchored n id (Some e) there = (e, refl, there)
+pub at_entry : (es : List Entry) (i : ℕ) (e : Entry) → i < length es → e ≡ slice_index_or es i e
+    → slice_get es i ≡ Some e
+at_entry es i e h is = slice_get-get_or es i e h ∙ ap Some (sym is)
 
--- the number that is kept of an anchor, or none
-pub finds_number : (table : NodeTable) (all : List Placed) (id : ℕ) (r : Option ℕ) → HasNodes all table
-    → r ≡ get nat_cmp table.anchored id → FindsNumber id all r
-finds_number table all id (Some number) h is =
-    let one = entry_anchored number id (slice_get table.entries.items number) (table.anchors id number (sym is)) in
-    let there = node_of_entry all table.entries.items all number one.0 h one.1 in
-    (there.0, there.1, sym (gives_anchor all one.0.content there.0.0 there.2.0) ∙ one.2)
-finds_number table all id None h is = λ number p k a.
-    let there = entry_at all table.entries.items all number p h k in
-    table.numbers id number (slice_get_within table.entries.items number there.0 there.1)
-    (ap (option_and_then (λ (e : Entry). anchor_in e.content)) there.1
-    ∙ gives_anchor all there.0.content p.0 there.2.0 ∙ a) (sym is)
+pub node_here : (table : NodeTable) (all : List Placed) (i id : ℕ) (e : Entry) → HasNodes all table
+    → slice_get table.entries.items i ≡ Some e → anchor_in e.content ≡ Some id
+    → (p : Placed) × IsNodeAt all i p × (anchor_of_node p.0 ≡ Some id)
+node_here table all i id e h k a =
+    let there = node_of_entry all table.entries.items all i e h k in
+    (there.0, there.1, sym (gives_anchor all e.content there.0.0 there.2.0) ∙ a)
+
+pub not_here : (table : NodeTable) (all : List Placed) (n i id : ℕ) (e : Entry) (p : Placed) → HasNodes all table
+    → slice_get table.entries.items n ≡ Some e → (anchor_in e.content ≡ Some id → ⊥) → i < n + 1
+    → IsNodeAt all i p → anchor_of_node p.0 ≡ Some id
+    → (i < n → IsNodeAt all i p → anchor_of_node p.0 ≡ Some id → ⊥) → ⊥
+not_here table all n i id e p h there none less k a before = elim (cases_lt i n) [
+  | inl l ↦ before l k a
+  | inr m ↦ let same : i ≡ n = omega arith in
+      none (gives_anchor all e.content p.0
+      (found table all i p e h k (sym there ∙ ap (slice_get table.entries.items) (sym same))).0 ∙ a)
+]
+
+pub not_behind : (table : NodeTable) (all : List Placed) (i : ℕ) (p : Placed) → HasNodes all table
+    → IsNodeAt all i p → (i < length table.entries.items → ⊥) → ⊥
+not_behind table all i p h k never =
+    let there = entry_at all table.entries.items all i p h k in
+    never (slice_get_within table.entries.items i there.0 there.1)

@@ -18,6 +18,5 @@ pub mod Expanding
 pub mod CounterSeen
 pub mod Following
 pub mod NodeLayer
-pub mod Anchored
 pub mod Numbering
 pub mod NumberingSeen

@@ -20,7 +20,7 @@ use Rattle.yaml_tree.specs.declared.parts.Parts.{Parts}
 use Rattle.yaml_tree.specs.declared.table.Root.{Root}
 use Rattle.yaml_tree.specs.declared.paths.Step.{Step}
 use Rattle.yaml_tree.specs.declared.paths.Step.TheVariants.{Index, Key, Value}
-use Rattle.yaml_tree.specs.Accessing.{anchor_of_node}
+use Rattle.yaml_tree.specs.Accessing.{anchor_of_node, some_anchor}
 use Rattle.yaml_tree.specs.Expanding.{nodes_once_expanded}
 use Rattle.yaml_tree.specs.Following.{at_step}
 use Rattle.yaml_tree.specs.Loading.{LoadsDocuments}
@@ -150,6 +150,13 @@ IsNumberIn parts before None = parts.count ≤ before
 abbrev pub text_of_scalar : Content → Option (List ℕ)
 text_of_scalar (content.Scalar text style id tag) = Some (string_bytes text)
 text_of_scalar _ = None
+
+-- the id of an anchor
+abbrev pub anchor_in : Content → Option ℕ
+anchor_in (content.Alias id) = None
+anchor_in (content.Scalar text style id tag) = some_anchor id
+anchor_in (content.Sequence id tag parts) = some_anchor id
+anchor_in (content.Mapping id tag parts) = some_anchor id
 
 -- how many items there are, or how many pairs
 abbrev pub count_in : Content → ℕ

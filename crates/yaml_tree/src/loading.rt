@@ -13,9 +13,8 @@ use crate::document::Document;
 use crate::fault::TreeFault;
 use crate::tally::{Limits, Tally};
 use saphyr_parser::law::hands_out_what_comes;
-use saphyr_parser::{Event, Fault, Input, Marker, Parser, Progress, no_event};
+use saphyr_parser::{Event, Input, Marker, Parser};
 use std::alloc::Global;
-use std::mem;
 
 /// Loads all documents of a text, from a parser that has handed out no event.
 ///
@@ -119,22 +118,19 @@ impl Loader {
             → HasTaken limits before self.old → LeavesPart result parser.old parser.new }
     {
         hands_out_what_comes();
-        let mut next = no_event();
-        let mut fault = Fault::OutOfMemory;
-        'events: loop {
-            match parser.next_event_into(&mut next, &mut fault) {
-                Progress::Event => {
-                    let event = mem::replace(&mut next.0, Event::Nothing);
+        while let Some(read) = parser.next_event() {
+            match read {
+                Ok((event, span)) => {
                     let last = ends_document(&event);
-                    self.take(event, next.1.start)?;
+                    self.take(event, span.start)?;
                     if last {
                         return Ok(true);
                     }
                 }
-                Progress::Fault => return Err(TreeFault::Parse(fault)),
-                Progress::Over => return Ok(false),
+                Err(fault) => return Err(TreeFault::Parse(fault)),
             }
         }
+        Ok(false)
     }
 
     // Takes an event whose span starts here. Checks the limits first.

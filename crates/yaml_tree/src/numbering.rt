@@ -2,7 +2,6 @@
 ghost use Rattle.std.specs.Prelude.{◌≡◌, ◌++◌, ◌∷◌, [], List, IfOk, OnOk, Some, length, slice_get};
 ghost use Rattle.saphyr_scalar.specs.declared.scalar.position.Span.{Span as Place};
 ghost use Rattle.saphyr_parser.specs.Cursor.{to_come};
-ghost use Rattle.yaml_tree.specs.Anchored.{HaveAnchors, HaveNumbers};
 ghost use Rattle.yaml_tree.specs.DocumentLoading.{LeavesBehindDocument};
 ghost use Rattle.yaml_tree.specs.Leaving.{LeavesParser};
 ghost use Rattle.yaml_tree.specs.Numbering.{FitDocuments, FitNode, IsTableOf, IsTableOfOne, LoadsNextTable, LoadsTable};
@@ -22,7 +21,7 @@ use crate::table::{Content, Entry, NodeTable, Root};
 use crate::tally::Limits;
 use saphyr_parser::{Input, Parser, Span, Tag};
 use std::alloc::{AllocError, Global};
-use std::collections::{BTreeMap, VecDeque};
+use std::collections::VecDeque;
 
 /// Loads all documents of a text as `load_documents_with_spans` does, as one list of nodes.
 pub fn load_table<'input, T: Input>(
@@ -90,7 +89,6 @@ impl NodeTable {
         NodeTable {
             entries: Vec::new(alloc),
             roots: Vec::new(alloc),
-            anchored: BTreeMap::new(alloc),
         }
     }
 
@@ -132,30 +130,11 @@ impl NodeTable {
             let number = numbering.number(document.root, &own.nodes)?;
             roots.push(Root { number, expanded })?;
         }
-        let anchored = numbers_of_anchors(alloc, &numbering.entries)?;
         Ok(NodeTable {
             entries: numbering.entries,
             roots,
-            anchored,
         })
     }
-}
-
-// The number of the node with each anchor.
-fn numbers_of_anchors(
-    alloc: Global,
-    entries: &[Entry],
-) -> Result<BTreeMap<usize, usize>, AllocError>
-    ensures anchors { IfOk result (HaveAnchors entries.now) }
-    ensures numbers { IfOk result (HaveNumbers (length entries.now) entries.now) }
-{
-    let mut numbers = BTreeMap::new(alloc);
-    for number in 0..entries.len() {
-        if let Some(id) = entries[number].content.anchor() {
-            numbers.insert(id, number)?;
-        }
-    }
-    Ok(numbers)
 }
 
 impl Numbering {

@@ -15,9 +15,8 @@ use crate::loading::{Loader, ends_document, is_at_start};
 use crate::spans::{DocumentSpans, SpanKeeper, SpannedDocuments};
 use crate::tally::Limits;
 use saphyr_parser::law::hands_out_what_comes;
-use saphyr_parser::{Event, Fault, Input, Parser, Progress, Span, no_event};
+use saphyr_parser::{Event, Input, Parser, Span};
 use std::alloc::Global;
-use std::mem;
 
 /// Loads all documents of a text as `load_documents` does, and keeps the place of each node.
 ///
@@ -112,22 +111,19 @@ impl SpannedLoader {
             → HasTaken limits before self.old.loader → LeavesPart result parser.old parser.new }
     {
         hands_out_what_comes();
-        let mut next = no_event();
-        let mut fault = Fault::OutOfMemory;
-        'events: loop {
-            match parser.next_event_into(&mut next, &mut fault) {
-                Progress::Event => {
-                    let event = mem::replace(&mut next.0, Event::Nothing);
+        while let Some(read) = parser.next_event() {
+            match read {
+                Ok((event, span)) => {
                     let last = ends_document(&event);
-                    self.take(event, next.1)?;
+                    self.take(event, span)?;
                     if last {
                         return Ok(true);
                     }
                 }
-                Progress::Fault => return Err(TreeFault::Parse(fault)),
-                Progress::Over => return Ok(false),
+                Err(fault) => return Err(TreeFault::Parse(fault)),
             }
         }
+        Ok(false)
     }
 
     // Takes an event with its span. Checks the limits first.

@@ -1,15 +1,15 @@
 //! Trees as one list of nodes that are known by their numbers, for callers that can't hold references into a tree.
-ghost use Rattle.std.specs.Prelude.{◌≡◌, ◌+◌, ◌*◌, ℕ, List, None as none, Some, length, option_copied, option_map, slice_get};
+ghost use Rattle.std.specs.Prelude.{◌≡◌, ◌↔◌, ◌+◌, ◌*◌, ℕ, IsTrue, List, None as none, Some, option_copied, option_map, slice_get};
 ghost use Rattle.yaml_tree.specs.declared.node.Node.{Node as Tree};
 ghost use Rattle.yaml_tree.specs.Accessing.{anchor_of_node, first_pair, is_this_text, text_of_node};
-ghost use Rattle.yaml_tree.specs.Anchored.{HaveAnchors, HaveNumbers, anchor_in};
 ghost use Rattle.yaml_tree.specs.Following.{step_at_key};
+ghost use Rattle.yaml_tree.specs.Numbering.{FindsNumber, HasNoNode, HasNodes, HasNumber, HasParts, IsNodeAt};
+ghost use Rattle.yaml_tree.specs.Numbering.{Placed, both_parts, count_of_parts};
 
 use crate::accessors::anchor_of_id;
 use crate::parts::Parts;
 use crate::paths::Step;
 use saphyr_parser::{ScalarStyle, Span, Tag};
-use std::collections::BTreeMap;
 
 /// What a node is, with its parts by their numbers. Those of a mapping are keys and values in turn.
 #[derive(Drop)]
@@ -40,16 +40,9 @@ pub struct Root {
 pub struct NodeTable {
     pub(crate) entries: Vec<Entry>,
     pub(crate) roots: Vec<Root>,
-    // The number of the node with each anchor. If several nodes have it, which no text's do, the number of one of them.
-    pub(crate) anchored: BTreeMap<usize, usize>,
-    ghost anchors: { HaveAnchors entries.items anchored },
-    ghost numbers: { HaveNumbers (length entries.items) entries.items anchored },
 }
 
 impl NodeTable {
-    ghost use Rattle.yaml_tree.specs.Numbering.{FindsNumber, HasNoNode, HasNodes, HasNumber, HasParts, IsNodeAt};
-    ghost use Rattle.yaml_tree.specs.Numbering.{Placed, both_parts, count_of_parts};
-
     /// The node with this number.
     #[must_use]
     pub fn entry(&self, number: usize) -> Option<&Entry>
@@ -132,12 +125,17 @@ impl NodeTable {
     pub fn with_anchor(&self, id: usize) -> Option<usize>
         ensures { (all : List Placed) → HasNodes all self.now → FindsNumber id all result }
     {
-        self.anchored.get(&id).copied()
+        for number in 0..self.entries.len() {
+            if self.entries[number].content.has_anchor(id) {
+                return Some(number);
+            }
+        }
+        None
     }
 }
 
 impl Content {
-    ghost use Rattle.yaml_tree.specs.Numbering.{Leads, count_in, pairs_in, text_of_scalar};
+    ghost use Rattle.yaml_tree.specs.Numbering.{Leads, anchor_in, count_in, pairs_in, text_of_scalar};
 
     /// The text of a scalar.
     #[must_use]
@@ -209,6 +207,15 @@ impl Content {
     {
         match self.text() {
             Some(own) => own == text,
+            None => false,
+        }
+    }
+
+    fn has_anchor(&self, id: usize) -> bool
+        ensures { IsTrue result ↔ anchor_in self.now ≡ Some id }
+    {
+        match self.anchor() {
+            Some(own) => own == id,
             None => false,
         }
     }

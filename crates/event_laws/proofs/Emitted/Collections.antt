@@ -76,26 +76,6 @@ opens opening close y first closing make inside later p d front u content t f re
     ((inside ++ closing ∷ []) ++ ps) make h c more (cc (between front u content t opening close rest k w)) v
     (λ r has. (span_up_to r (f all).end, step r all)) (rw (← same) emitted)
 
-flow_sequence : (p : forest.Properties) (ns : Nodes) (c : grammar.Context) (front content t : List Kind)
-    → grammar.YieldProperties p front
-    → grammar.IsBetween FlowSequenceStart FlowSequenceEnd (YieldFlowEntries ns) content → t ≡ front ++ content
-    → ((u : List Kind) → YieldFlowEntries ns u → FlowEntriesSay ns u) → NodeSays (forest.Seq p ns) c t
-flow_sequence p ns c front content t h d a g = record {
-  by = λ f k ks m x s ss e ps z more q l. opens FlowSequenceStart FlowSequenceEnd state.FlowSequenceFirstEntry
-      (OpenSequence p) CloseSequence SequenceStart (entry_parts ns) (after_nodes ns) p (context_of c) front d.0 content
-      t f (k ∷ ks) m x s ss e ps h tt d.2 a refl refl (λ q r. refl) more q (g d.0 d.1) l;
-}
-
-flow_mapping : (p : forest.Properties) (qs : Pairs) (c : grammar.Context) (front content t : List Kind)
-    → grammar.YieldProperties p front → grammar.IsBetween FlowMappingStart FlowMappingEnd (YieldFlowPairs qs) content
-    → t ≡ front ++ content → ((u : List Kind) → YieldFlowPairs qs u → FlowPairsSay qs u)
-    → NodeSays (forest.Map p qs) c t
-flow_mapping p qs c front content t h d a g = record {
-  by = λ f k ks m x s ss e ps z more q l. opens FlowMappingStart FlowMappingEnd state.FlowMappingFirstKey
-      (OpenMapping p) CloseMapping MappingStart (pair_parts qs) (after_pairs qs) p (context_of c) front d.0 content t f
-      (k ∷ ks) m x s ss e ps h tt d.2 a refl refl (λ q r. refl) more q (g d.0 d.1) l;
-}
-
 block_sequence : (p : forest.Properties) (ns : Nodes) (c : grammar.Context) (front content t : List Kind)
     → grammar.YieldProperties p front → grammar.AllowsBlock c
     → grammar.IsBetween BlockSequenceStart BlockEnd (YieldBlockEntries ns) content → t ≡ front ++ content
@@ -153,7 +133,11 @@ sequence_says p ns c t h flow block indentless = by_content h.3
   where
     by_content : grammar.YieldsSequence ns c (YieldFlowEntries ns) (YieldBlockEntries ns) h.1
         → NodeSays (forest.Seq p ns) c t
-    by_content (inl d) = flow_sequence p ns c h.0 h.1 t h.2 d h.4 flow
+    by_content (inl d) = record {
+      by = λ f k ks m x s ss e ps z more q l. opens FlowSequenceStart FlowSequenceEnd state.FlowSequenceFirstEntry
+          (OpenSequence p) CloseSequence SequenceStart (entry_parts ns) (after_nodes ns) p (context_of c) h.0 d.0 h.1
+          t f (k ∷ ks) m x s ss e ps h.2 tt d.2 h.4 refl refl (λ q r. refl) more q (flow d.0 d.1) l;
+    }
     by_content (inr (inl d)) = block_sequence p ns c h.0 h.1 t h.2 d.0 d.1 h.4 block
     by_content (inr (inr d)) =
         let first : (others : List Kind) × (h.1 ≡ BlockEntry ∷ others) = first_dash ns h.1 d.1 d.2 in
@@ -165,7 +149,11 @@ pub mapping_says : (p : forest.Properties) (qs : Pairs) (c : grammar.Context) (t
 mapping_says p qs c t h flow block = by_content h.3
   where
     by_content : grammar.YieldsMapping c (YieldFlowPairs qs) (YieldBlockPairs qs) h.1 → NodeSays (forest.Map p qs) c t
-    by_content (inl d) = flow_mapping p qs c h.0 h.1 t h.2 d h.4 flow
+    by_content (inl d) = record {
+      by = λ f k ks m x s ss e ps z more q l. opens FlowMappingStart FlowMappingEnd state.FlowMappingFirstKey
+          (OpenMapping p) CloseMapping MappingStart (pair_parts qs) (after_pairs qs) p (context_of c) h.0 d.0 h.1 t f
+          (k ∷ ks) m x s ss e ps h.2 tt d.2 h.4 refl refl (λ q r. refl) more q (flow d.0 d.1) l;
+    }
     by_content (inr d) = block_mapping p qs c h.0 h.1 t h.2 d.0 d.1 h.4 block
 
 -- ## Ends

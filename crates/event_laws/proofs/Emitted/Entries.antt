@@ -1,5 +1,5 @@
 -- Collections' entries are told, one after the other.
-use Rattle.event_laws.proofs.Common.{◌≡◌, List, [], ◌∷◌, ◌++◌, refl, subst, sym, ◌⊎◌, inl, inr, append_assoc, arith, no_properties, Properties, Node, Map, Nodes, NoNode, MoreNodes, Pairs, NoPair, MorePairs, Kind, BlockEnd, FlowSequenceEnd, FlowMappingEnd, BlockEntry, FlowEntry, Key, Value, InFlow, InBlock, InBlockMapping, YieldsOptional, IsListEnd, YieldsSinglePair, YieldsFlowPair, YieldsBlockPair, YieldsNode, YieldsPairEntry, YieldOtherFlowEntries, YieldOtherFlowPairs, YieldBlockEntries, YieldBlockPairs, State, Part, OpenMapping, CloseSequence, CloseMapping, node_parts, entry_parts, pair_parts, SequenceEnd, MappingEnd}
+use Rattle.event_laws.proofs.Common.{◌≡◌, List, [], ◌∷◌, ◌++◌, refl, subst, sym, ◌⊎◌, inl, inr, append_assoc, arith, no_properties, Properties, Node, Map, Nodes, NoNode, MoreNodes, Pairs, NoPair, MorePairs, Kind, BlockEnd, FlowSequenceEnd, FlowMappingEnd, BlockEntry, FlowEntry, InFlow, InBlock, InBlockMapping, YieldsOptional, IsListEnd, YieldsSinglePair, YieldsFlowPair, YieldsBlockPair, YieldsNode, YieldsPairEntry, YieldOtherFlowEntries, YieldOtherFlowPairs, YieldBlockEntries, YieldBlockPairs, State, Part, OpenMapping, CloseSequence, CloseMapping, node_parts, entry_parts, pair_parts, SequenceEnd, MappingEnd, emit}
 use Rattle.saphyr_machine.specs.declared.state.State.TheVariants as state
 use Rattle.saphyr_machine.specs.Steps.Flow.{flow_sequence_first_entry, flow_sequence_entry, flow_mapping_first_key, flow_mapping_pair_behind_comma, flow_mapping_key}
 use Rattle.saphyr_machine.specs.Steps.Block.{block_sequence_entry, indentless_sequence_entry, block_mapping_key}
@@ -7,9 +7,9 @@ use Rattle.saphyr_machine.specs.Steps.Expected.{event_step}
 use Rattle.event_laws.proofs.Emitted.Emitting.{SpansByKinds, Memory, Outer, expecting, at, span_of_token}
 use Rattle.event_laws.proofs.Remembering.{after_node, after_nodes, after_pairs, SaysParts, EmitsParts, plainly}
 use Rattle.event_laws.proofs.NodeStarts.{MayFollow, NodeSays, EachSays, EndsAt}
-use Rattle.event_laws.proofs.Emitted.SinglePairs.{EndsEntry, AtEntry, SaysEntry, entry_says}
+use Rattle.event_laws.proofs.Emitted.SinglePairs.{EndsEntry, SaysEntry, entry_says}
 use Rattle.event_laws.proofs.Emitted.SinglePairs as single
-use Rattle.event_laws.proofs.Emitted.FlowPairs.{EndsPair, AtPair}
+use Rattle.event_laws.proofs.Emitted.FlowPairs.{EndsPair}
 use Rattle.event_laws.proofs.Emitted.FlowPairs as flow
 use Rattle.event_laws.proofs.Emitted.Block.{mapping_ends, indentless_says}
 use Rattle.event_laws.proofs.Emitted.Block as block
@@ -64,41 +64,17 @@ indentless_ends : (f : SpansByKinds) (k : Kind) (ks : List Kind) (s : State) (ss
     (ps : List Part) → MayFollow InBlockMapping k → EmitsParts f (k ∷ ks) s ss e ps
     → EmitsParts f (k ∷ ks) state.IndentlessSequenceEntry (expecting s ss) e (CloseSequence ∷ ps)
 unfolding event_step indentless_sequence_entry
-indentless_ends f Key ks s ss e ps z l =
-    plainly e (at f (Key ∷ ks) state.IndentlessSequenceEntry (expecting s ss) e) (at f (Key ∷ ks) s ss e)
-    CloseSequence ps SequenceEnd (f ks) (λ q. cc) refl refl l
-indentless_ends f Value ks s ss e ps z l =
-    plainly e (at f (Value ∷ ks) state.IndentlessSequenceEntry (expecting s ss) e) (at f (Value ∷ ks) s ss e)
-    CloseSequence ps SequenceEnd (f ks) (λ q. cc) refl refl l
-indentless_ends f BlockEnd ks s ss e ps z l =
-    plainly e (at f (BlockEnd ∷ ks) state.IndentlessSequenceEntry (expecting s ss) e) (at f (BlockEnd ∷ ks) s ss e)
-    CloseSequence ps SequenceEnd (f ks) (λ q. cc) refl refl l
-indentless_ends f _ ks s ss e ps z l = elim z [ ]
+indentless_ends f k ks s ss e ps z l =
+    plainly e (at f (k ∷ ks) state.IndentlessSequenceEntry (expecting s ss) e) (at f (k ∷ ks) s ss e) CloseSequence ps
+    SequenceEnd (f ks) (λ q. cc) refl (stops k z) l
+  where
+    stops : (k : Kind) → MayFollow InBlockMapping k
+        → event_step (at f (k ∷ ks) state.IndentlessSequenceEntry (expecting s ss) e)
+        ≡ emit SequenceEnd (f ks) (at f (k ∷ ks) s ss e)
+    stops k h = grind arith
 
 pub no_indentless_entries : IndentlessSay NoNode []
 no_indentless_entries = record { by = indentless_ends }
-
--- ## Where entries begin
-
-at_first_entry : (f : SpansByKinds) (ss : Outer) (e : Memory)
-    → AtEntry f state.FlowSequenceFirstEntry ss e (λ l. at f l state.FlowSequenceFirstEntry ss e)
-unfolding event_step flow_sequence_first_entry
-at_first_entry f ss e = record { goes_on = λ l q. cc; steps = λ k l. refl }
-
-at_other_entry : (f : SpansByKinds) (ss : Outer) (e : Memory)
-    → AtEntry f state.FlowSequenceEntry ss e (λ l. at f (FlowEntry ∷ l) state.FlowSequenceEntry ss e)
-unfolding event_step flow_sequence_first_entry flow_sequence_entry
-at_other_entry f ss e = record { goes_on = λ l q. cc; steps = λ k l. refl }
-
-at_first_pair : (f : SpansByKinds) (ss : Outer) (e : Memory)
-    → AtPair f state.FlowMappingFirstKey ss e (λ l. at f l state.FlowMappingFirstKey ss e)
-unfolding event_step flow_mapping_first_key span_of_token
-at_first_pair f ss e = record { goes_on = λ l q. cc; span = span_of_token f; steps = λ k l. refl }
-
-at_other_pair : (f : SpansByKinds) (ss : Outer) (e : Memory)
-    → AtPair f state.FlowMappingKey ss e (λ l. at f (FlowEntry ∷ l) state.FlowMappingKey ss e)
-unfolding event_step flow_mapping_key flow_mapping_pair_behind_comma
-at_other_pair f ss e = record { goes_on = λ l q. cc; span = f; steps = λ k l. refl }
 
 -- ## An entry, and those after it
 
@@ -167,42 +143,47 @@ wrapped_pair p key value t bare h gk gv =
 
 pub first_entries : (n : Node) (ns : Nodes) (u v t : List Kind) → YieldOtherFlowEntries ns v → t ≡ u ++ v
     → EntrySays n u → OtherEntriesSay ns v → FlowEntriesSay (MoreNodes n ns) t
+unfolding event_step flow_sequence_first_entry
 first_entries n ns u v t h w first others =
     first_and_others EndsEntry FlowSequenceEnd state.FlowSequenceFirstEntry state.FlowSequenceEntry CloseSequence
     (node_parts n) (entry_parts ns) (after_node n) (after_nodes ns) u v t
     (λ ks. flow_entries_next EndsEntry ns v FlowSequenceEnd ks tt tt h) w
     (λ f k ls ks ss e ps same z r. first.by f k ls (λ l. at f l state.FlowSequenceFirstEntry ss e)
-    state.FlowSequenceFirstEntry ss e ps z (at_first_entry f ss e) r) others
+    state.FlowSequenceFirstEntry ss e ps z (record { goes_on = λ l q. cc; steps = λ k l. refl }) r) others
 
 pub other_entries : (n : Node) (ns : Nodes) (u v t : List Kind) → YieldOtherFlowEntries ns v → t ≡ FlowEntry ∷ (u ++ v)
     → EntrySays n u → OtherEntriesSay ns v → OtherEntriesSay (MoreNodes n ns) t
+unfolding event_step flow_sequence_first_entry flow_sequence_entry
 other_entries n ns u v t h w first others =
     first_and_others EndsEntry FlowSequenceEnd state.FlowSequenceEntry state.FlowSequenceEntry CloseSequence
     (node_parts n) (entry_parts ns) (after_node n) (after_nodes ns) (FlowEntry ∷ u) v t
     (λ ks. flow_entries_next EndsEntry ns v FlowSequenceEnd ks tt tt h) w
     (λ f k ls ks ss e ps same z r. first.by f k ls (λ l. at f (FlowEntry ∷ l) state.FlowSequenceEntry ss e)
-    state.FlowSequenceEntry ss e ps z (at_other_entry f ss e) r) others
+    state.FlowSequenceEntry ss e ps z (record { goes_on = λ l q. cc; steps = λ k l. refl }) r) others
 
 -- ## Braces
 
 pub first_pairs : (key value : Node) (qs : Pairs) (u v t : List Kind) → YieldOtherFlowPairs qs v → t ≡ u ++ v
     → YieldsFlowPair key value (YieldsNode key InFlow) (YieldsNode value InFlow) u → EachSays key InFlow
     → EachSays value InFlow → OtherPairsSay qs v → FlowPairsSay (MorePairs key value qs) t
+unfolding event_step flow_mapping_first_key span_of_token
 first_pairs key value qs u v t h w d gk gv others =
     pair_and_others EndsPair FlowMappingEnd state.FlowMappingFirstKey state.FlowMappingKey key value qs u v t
     (λ ks. flow_pairs_next EndsPair qs v FlowMappingEnd ks refl refl h) w
     (λ f k ls ks ss e ps same z r. flow.pair_says key value u d gk gv f k ls
-    (λ l. at f l state.FlowMappingFirstKey ss e) state.FlowMappingFirstKey ss e ps z (at_first_pair f ss e) r) others
+    (λ l. at f l state.FlowMappingFirstKey ss e) state.FlowMappingFirstKey ss e ps z
+    (record { goes_on = λ l q. cc; span = span_of_token f; steps = λ k l. refl }) r) others
 
 pub other_pairs : (key value : Node) (qs : Pairs) (u v t : List Kind) → YieldOtherFlowPairs qs v
     → t ≡ FlowEntry ∷ (u ++ v) → YieldsFlowPair key value (YieldsNode key InFlow) (YieldsNode value InFlow) u
     → EachSays key InFlow → EachSays value InFlow → OtherPairsSay qs v → OtherPairsSay (MorePairs key value qs) t
+unfolding event_step flow_mapping_key flow_mapping_pair_behind_comma
 other_pairs key value qs u v t h w d gk gv others =
     pair_and_others EndsPair FlowMappingEnd state.FlowMappingKey state.FlowMappingKey key value qs (FlowEntry ∷ u) v t
     (λ ks. flow_pairs_next EndsPair qs v FlowMappingEnd ks refl refl h) w
     (λ f k ls ks ss e ps same z r. flow.pair_says key value u d gk gv f k ls
-    (λ l. at f (FlowEntry ∷ l) state.FlowMappingKey ss e) state.FlowMappingKey ss e ps z (at_other_pair f ss e) r)
-    others
+    (λ l. at f (FlowEntry ∷ l) state.FlowMappingKey ss e) state.FlowMappingKey ss e ps z
+    (record { goes_on = λ l q. cc; span = f; steps = λ k l. refl }) r) others
 
 -- ## Block collections
 

@@ -16,14 +16,11 @@ InEntries R = Then BlockEntries (Then (Exactly (BlockEnd ∷ []) (CloseSequence 
 abbrev InIndentless : Claim → Claim
 InIndentless R = Then BlockEntries (Then (Exactly [] (CloseSequence ∷ [])) R)
 
-entry_join : (a b : List Kind) (p q : List Part) → IsOptionalOf InBlock a p → BlockEntries b q
-    → BlockEntries (BlockEntry ∷ (a ++ b)) (p ++ q)
-entry_join a b p q x y = (MoreNodes x.0 y.0, (a, b, x.1, y.1, refl), both_parts x.2 y.2)
-
 pub one_entry : (T : Claim) (ks : List Kind) (ps : List Part)
     → Then (IsOptionalOf InBlock) (Then BlockEntries T) ks ps → Then BlockEntries T (BlockEntry ∷ ks) ps
 one_entry T ks ps h =
-    join_behind (IsOptionalOf InBlock) BlockEntries T BlockEntries (BlockEntry ∷ []) [] ks ps entry_join h
+    join_behind (IsOptionalOf InBlock) BlockEntries T BlockEntries (BlockEntry ∷ []) [] ks ps
+    (λ a b p q x y. (MoreNodes x.0 y.0, (a, b, x.1, y.1, refl), both_parts x.2 y.2)) h
 
 -- after the token of an entry
 abbrev AtNode : Claim → Claim
@@ -79,10 +76,6 @@ IsMarked ks ps = (key value : Node)
     × YieldsMarkedPair key value (YieldsNode key InBlockMapping) (YieldsNode value InBlockMapping) (Key ∷ ks)
     × (ps ≡ node_parts key ++ node_parts value)
 
-marked_join : (a b : List Kind) (p q : List Part) → IsOptionalOf InBlockMapping a p → IsValueOf InBlockMapping b q
-    → IsMarked (a ++ b) (p ++ q)
-marked_join a b p q x y = (x.0, y.0, (Key ∷ a, b, (a, x.1, refl), y.1, refl), both_parts x.2 y.2)
-
 pair_join : (a b : List Kind) (p q : List Part) → IsMarked a p → BlockPairs b q → BlockPairs (Key ∷ (a ++ b)) (p ++ q)
 pair_join a b p q x y = (
   MorePairs x.0 x.1 y.0,
@@ -96,7 +89,8 @@ with_value : (R : Claim) (ks : List Kind) (ps : List Part)
 with_value R ks ps h =
     join_behind IsMarked BlockPairs (Then (Exactly (BlockEnd ∷ []) (CloseMapping ∷ [])) R) BlockPairs (Key ∷ []) [] ks
     ps pair_join
-    (regroup (IsOptionalOf InBlockMapping) (IsValueOf InBlockMapping) (InBlockPairs R) IsMarked ks ps marked_join h)
+    (regroup (IsOptionalOf InBlockMapping) (IsValueOf InBlockMapping) (InBlockPairs R) IsMarked ks ps
+    (λ a b p q x y. (x.0, y.0, (Key ∷ a, b, (a, x.1, refl), y.1, refl), both_parts x.2 y.2)) h)
 
 value_more : (t u : List Kind) → BeginsWithValue t → BeginsWithValue (t ++ u)
 value_more k u h = grind arith

@@ -1,14 +1,14 @@
 -- The steps at the content and the end of documents are turned.
 use Rattle.event_laws.proofs.OwnTokens.{ArePassed, ahead_of}
 use Rattle.event_laws.specs.EventsTaken.{MayFollowDocument, IsDocumentFollowed}
-use Rattle.event_laws.proofs.Common.{BelongsToNone, ◌≡◌, Bool, true, false, List, [], ◌∷◌, ◌++◌, map, Option, Result, Ok, Err, refl, ap, ◌∙◌, ◌⊎◌, inl, inr, append_assoc, arith, if◌then◌else◌, Marker, Span, Refusal, Directive, Version, TagPrefix, Reserved, Forest, Kind, directive_token, Piece, InBlock, AreMarks, AreEndsAndMarks, YieldDocuments, State, Part, CloseDocument, kinds, ◌>>=◌, Machine, with_pieces, node}
+use Rattle.event_laws.proofs.Common.{BelongsToNone, ◌≡◌, Bool, true, false, List, [], ◌∷◌, ◌++◌, map, Result, Ok, Err, refl, ap, ◌∙◌, ◌⊎◌, inl, inr, append_assoc, arith, if◌then◌else◌, Marker, Span, Refusal, Directive, Version, TagPrefix, Reserved, Forest, Kind, directive_token, Piece, InBlock, AreMarks, AreEndsAndMarks, YieldDocuments, State, Part, CloseDocument, kinds, ◌>>=◌, Machine, with_pieces, node}
 use Rattle.saphyr_scanner.specs.Grammar.Tokens as tokens
 use Rattle.saphyr_machine.specs.declared.state.State.TheVariants as state
 use Rattle.saphyr_machine.specs.Steps.Block.{block_node}
 use Rattle.saphyr_machine.specs.Steps.Documents.{is_mark, unpassed_token_from, unpassed_token, no_content, document_content_at, document_content, token_behind_marks, token_behind_document_at, token_behind_document, without_prefixes, document_end_at, document_end}
 use Rattle.event_laws.proofs.Emitted.Emitting.{Memory}
 use Rattle.event_laws.proofs.Turned.Following.{Then, IsNodeOf, IsOptionalOf, AreExplicit, Outside, IsFree, BeginsFreely}
-use Rattle.event_laws.proofs.Turned.Turning.{Aside, machine, Turned, weaker}
+use Rattle.event_laws.proofs.Turned.Turning.{Aside, piece_of, machine, Turned, weaker}
 use Rattle.event_laws.proofs.Turned.Content.{split, taken_one}
 use Rattle.event_laws.proofs.Turned.Nodes.{node_turned}
 use Rattle.event_laws.proofs.Turned.Entries.{Turns, TurnsBehind, TurnsAt, by_token, skip_optional, some_node}
@@ -20,7 +20,7 @@ unfolding block_node
 block_node_turned = grind (arith, by_token, node_turned)
 
 left_out : (k : Kind) → TurnsBehind (λ _. Then (IsOptionalOf InBlock)) k no_content
-left_out k sp ts r x s ss e w a = skip_optional InBlock (record { span = sp; kind = k }) sp ts r x s ss e a
+left_out k sp ts r x s ss e w a = skip_optional InBlock (piece_of k sp) sp ts r x s ss e a
 
 content_at_turned : TurnsAt (λ _. Then (IsOptionalOf InBlock)) document_content_at
 content_at_turned u0 = grind (arith, left_out, weaker, some_node, node_turned)
@@ -75,10 +75,10 @@ behind_all : (place : Marker) (ts : List Piece) (m : Machine)
 unfolding token_behind_marks unpassed_token
 behind_all place ts m = grind (arith, marks_passed)
 
-document_at : (k : Kind) (sp : Span) (ts : List Piece) (m : Machine) → MarkedBy (record { span = sp; kind = k } ∷ ts) m
-    (token_behind_document_at k (record { span = sp; kind = k }) (with_pieces ts m))
+document_at : (k : Kind) (sp : Span) (ts : List Piece) (m : Machine) → MarkedBy (piece_of k sp ∷ ts) m
+    (token_behind_document_at k (piece_of k sp) (with_pieces ts m))
 document_at tokens.ByteOrderMark sp ts m =
-    one_more_mark (record { span = sp; kind = tokens.ByteOrderMark }) ts m _ refl (behind_all sp.start ts m)
+    one_more_mark (piece_of tokens.ByteOrderMark sp) ts m _ refl (behind_all sp.start ts m)
 document_at _ sp ts m = record { marks = []; rest = ts; are = refl; are_marks = tt; no_mark = refl; leaves = refl }
 
 behind_turned : (ts : List Piece) (r : Aside) (x : State) (e : Memory)
@@ -147,21 +147,21 @@ without_end marks ks ps a f b =
 -- left, and begins a document with `---` (`without_end`): that what follows has no directive before it is known of the
 -- token ahead, since the next state asks what follows to begin as that does.
 end_at_turned : (k : Kind) (sp : Span) (n : Machine) (ts : List Piece) (r : Aside) (x : State) (e : Memory)
-    → Marked ts (machine ts r x [] e) (record { span = sp; kind = k }) n
-    → Turned (Outside state.DocumentEnd) e ts (document_end_at k (record { span = sp; kind = k }) (without_prefixes n))
+    → Marked ts (machine ts r x [] e) (piece_of k sp) n
+    → Turned (Outside state.DocumentEnd) e ts (document_end_at k (piece_of k sp) (without_prefixes n))
 end_at_turned tokens.DocumentEnd sp n ts r x e h = rw h.leaves (record {
-  used = h.marks ++ record { span = sp; kind = tokens.DocumentEnd } ∷ [];
+  used = h.marks ++ piece_of tokens.DocumentEnd sp ∷ [];
   part = CloseDocument;
-  taken = h.are ∙ taken_one h.marks (record { span = sp; kind = tokens.DocumentEnd }) h.rest;
+  taken = h.are ∙ taken_one h.marks (piece_of tokens.DocumentEnd sp) h.rest;
   emits = refl;
   remembers = refl;
   few = omega arith;
   places =
-      let end : Piece = record { span = sp; kind = tokens.DocumentEnd } in
+      let end : Piece = piece_of tokens.DocumentEnd sp in
       ahead_of (h.marks ++ end ∷ []) _ _ (passed_with h.marks end h.are_marks tt)
       (refl, rw (append_assoc h.marks (end ∷ []) h.rest) (followed h.marks end h.rest h.are_marks tt));
   alive = tt;
-  makes = λ ks ps f b. with_end h.marks (record { span = sp; kind = tokens.DocumentEnd }) ks ps refl h.are_marks f;
+  makes = λ ks ps f b. with_end h.marks (piece_of tokens.DocumentEnd sp) ks ps refl h.are_marks f;
 })
 end_at_turned (tokens.VersionDirective major minor) sp n ts r x e h = tt
 end_at_turned (tokens.TagDirective handle prefix) sp n ts r x e h = tt
@@ -175,7 +175,7 @@ end_at_turned k sp n ts r x e h = rw h.leaves (record {
   remembers = refl;
   few = omega arith;
   places = ahead_of h.marks _ _ (are_passed h.marks h.are_marks)
-      (refl, followed h.marks (record { span = sp; kind = k }) h.rest h.are_marks tt);
+      (refl, followed h.marks (piece_of k sp) h.rest h.are_marks tt);
   alive = tt;
   makes = λ ks ps f b. without_end h.marks ks ps h.are_marks f (b tt);
 })

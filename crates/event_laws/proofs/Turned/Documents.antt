@@ -1,6 +1,6 @@
 -- The steps at the beginnings of the stream and of documents are turned.
 use Rattle.event_laws.proofs.OwnTokens.{ArePassed, HasOwn, whole, passed_one, behind_own}
-use Rattle.event_laws.proofs.Common.{BelongsToNone, ◌≡◌, ◌≤◌, Bool, true, false, List, [], ◌∷◌, ◌++◌, length, map, Option, Some, Result, Ok, Err, refl, ap, ◌∙◌, ◌⊎◌, inl, inr, append_assoc, arith, if◌then◌else◌, Span, Refusal, Directive, AreCompatible, Document, Forest, Kind, directive_token, Piece, InBlock, State, anchors, Part, OpenStream, CloseStream, OpenDocument, document_parts, kinds, ◌>>=◌, Machine, Emitted, with_pieces, AreWellFormed}
+use Rattle.event_laws.proofs.Common.{BelongsToNone, ◌≡◌, ◌≤◌, Bool, true, false, List, [], ◌∷◌, ◌++◌, length, map, Some, Result, Ok, Err, refl, ap, ◌∙◌, ◌⊎◌, inl, inr, append_assoc, arith, if◌then◌else◌, Span, Refusal, Directive, AreCompatible, Document, Forest, Kind, directive_token, Piece, InBlock, State, anchors, Part, OpenStream, CloseStream, OpenDocument, document_parts, kinds, ◌>>=◌, Machine, Emitted, with_pieces, AreWellFormed}
 use Rattle.saphyr_scanner.specs.Grammar.Tokens as tokens
 use Rattle.saphyr_machine.specs.declared.state.State.TheVariants as state
 use Rattle.saphyr_machine.specs.Events as events
@@ -8,7 +8,7 @@ use Rattle.saphyr_machine.specs.Steps.Documents.{is_end_or_mark, unpassed_token_
 use Rattle.event_laws.proofs.Emitted.Emitting.{Memory}
 use Rattle.event_laws.proofs.Remembering.{event_in}
 use Rattle.event_laws.proofs.Turned.Following.{Claim, Then, IsNodeOf, IsOptionalOf, AreExplicit, Outside, BeginsFreely}
-use Rattle.event_laws.proofs.Turned.Turning.{Aside, machine, Goes, Turned, weaker, behind}
+use Rattle.event_laws.proofs.Turned.Turning.{Aside, piece_of, machine, Goes, Turned, weaker, behind}
 use Rattle.event_laws.proofs.Turned.Content.{split, taken_one}
 use Rattle.event_laws.proofs.Turned.Entries.{Wanted}
 use Rattle.event_laws.proofs.Turned.Directives.{PassesDirectives, PassedBy, directives_passed}
@@ -123,18 +123,18 @@ explicit_makes ts ds used rest u ks ps e q k c h =
     )
 
 explicit_at_turned : (k : Kind) (sp : Span) (n : Machine) (ts : List Piece) (r : Aside) (x : State)
-    (e : Memory) → PassesDirectives ts none_declared (machine ts r x [] e) (record { span = sp; kind = k }) n
-    → Turned (Explicit (kinds ts)) e ts (explicit_document_at k (record { span = sp; kind = k }) n)
+    (e : Memory) → PassesDirectives ts none_declared (machine ts r x [] e) (piece_of k sp) n
+    → Turned (Explicit (kinds ts)) e ts (explicit_document_at k (piece_of k sp) n)
 explicit_at_turned tokens.DocumentStart sp n ts r x e h = rw h.leaves (record {
-  used = h.used ++ record { span = sp; kind = tokens.DocumentStart } ∷ [];
+  used = h.used ++ piece_of tokens.DocumentStart sp ∷ [];
   part = OpenDocument true h.directives;
-  taken = h.are ∙ taken_one h.used (record { span = sp; kind = tokens.DocumentStart }) h.rest;
+  taken = h.are ∙ taken_one h.used (piece_of tokens.DocumentStart sp) h.rest;
   emits = refl;
   remembers = refl;
   few = omega arith;
   places = record {
     front = h.used;
-    own = record { span = sp; kind = tokens.DocumentStart } ∷ [];
+    own = piece_of tokens.DocumentStart sp ∷ [];
     back = [];
     are = refl;
     passed = are_passed h.used h.directives h.kinds_are;
@@ -143,7 +143,7 @@ explicit_at_turned tokens.DocumentStart sp n ts r x e h = rw h.leaves (record {
   };
   alive = (tt, tt);
   makes = λ ks ps f b. explicit_makes ts h.directives h.used h.rest
-      (record { span = sp; kind = tokens.DocumentStart }) ks ps h.are h.kinds_are refl h.compatible f;
+      (piece_of tokens.DocumentStart sp) ks ps h.are h.kinds_are refl h.compatible f;
 })
 explicit_at_turned _ sp n ts r x e h = tt
 
@@ -166,17 +166,17 @@ stream_makes : (ks : List Kind) (ps : List Part) → Outside state.ImplicitDocum
 stream_makes ks ps f = grind arith
 
 stream_at_turned : (k : Kind) (sp : Span) (ts : List Piece) (r : Aside) (x : State) (e : Memory)
-    → Turned (Wanted state.StreamStart [] (k ∷ kinds ts)) e (record { span = sp; kind = k } ∷ ts)
-    (stream_start_at k (record { span = sp; kind = k }) (machine ts r x [] e))
+    → Turned (Wanted state.StreamStart [] (k ∷ kinds ts)) e (piece_of k sp ∷ ts)
+    (stream_start_at k (piece_of k sp) (machine ts r x [] e))
 stream_at_turned tokens.StreamStart sp ts r x e =
     record {
-      used = record { span = sp; kind = tokens.StreamStart } ∷ [];
+      used = piece_of tokens.StreamStart sp ∷ [];
       part = OpenStream;
       taken = refl;
       emits = refl;
       remembers = refl;
       few = omega arith;
-      places = passed_one (record { span = sp; kind = tokens.StreamStart }) _ _ tt refl;
+      places = passed_one (piece_of tokens.StreamStart sp) _ _ tt refl;
       alive = tt;
       makes = λ ks ps f b. (stream_makes ks ps f, tt);
     }
@@ -244,20 +244,20 @@ stream_over F t us x e n k w o f = record {
 }
 
 explicit_there : (k : Kind) (sp : Span) (us : List Piece) (r : Aside) (x : State) (e : Memory)
-    → AreWellFormed (record { span = sp; kind = k } ∷ us)
-    → MovesOn (Wanted state.ImplicitDocumentStart [] (k ∷ kinds us)) e (record { span = sp; kind = k } ∷ us)
-    (explicit_document (record { span = sp; kind = k }) (machine us r x [] e))
+    → AreWellFormed (piece_of k sp ∷ us)
+    → MovesOn (Wanted state.ImplicitDocumentStart [] (k ∷ kinds us)) e (piece_of k sp ∷ us)
+    (explicit_document (piece_of k sp) (machine us r x [] e))
 explicit_there k sp us r x e w = moves (Wanted state.ImplicitDocumentStart [] (k ∷ kinds us)) e _ _
     (weaker (Explicit (k ∷ kinds us)) (Wanted state.ImplicitDocumentStart [] (k ∷ kinds us)) e _ _
-    (explicit_first (k ∷ kinds us)) (explicit_turned (record { span = sp; kind = k }) us r x e w))
+    (explicit_first (k ∷ kinds us)) (explicit_turned (piece_of k sp) us r x e w))
 
 implicit_at_moves : (k : Kind) (sp : Span) (us : List Piece) (r : Aside) (x : State) (e : Memory)
-    → AreWellFormed (record { span = sp; kind = k } ∷ us)
-    → MovesOn (Wanted state.ImplicitDocumentStart [] (k ∷ kinds us)) e (record { span = sp; kind = k } ∷ us)
-    (implicit_start_at k (record { span = sp; kind = k }) (machine us r x [] e))
+    → AreWellFormed (piece_of k sp ∷ us)
+    → MovesOn (Wanted state.ImplicitDocumentStart [] (k ∷ kinds us)) e (piece_of k sp ∷ us)
+    (implicit_start_at k (piece_of k sp) (machine us r x [] e))
 implicit_at_moves tokens.StreamEnd sp us r x e w =
     inr (stream_over (Wanted state.ImplicitDocumentStart [] (tokens.StreamEnd ∷ kinds us))
-    (record { span = sp; kind = tokens.StreamEnd }) us _ e w.1 refl refl refl
+    (piece_of tokens.StreamEnd sp) us _ e w.1 refl refl refl
     (([], [], tokens.StreamEnd ∷ [], tt, refl, refl, refl), tt))
 implicit_at_moves (tokens.VersionDirective major minor) sp us r x e w =
     explicit_there (tokens.VersionDirective major minor) sp us r x e w
@@ -267,7 +267,7 @@ implicit_at_moves (tokens.ReservedDirective name) sp us r x e w =
     explicit_there (tokens.ReservedDirective name) sp us r x e w
 implicit_at_moves tokens.DocumentStart sp us r x e w = explicit_there tokens.DocumentStart sp us r x e w
 implicit_at_moves k sp us r x e w = moves (Wanted state.ImplicitDocumentStart [] (k ∷ kinds us)) e _ _
-    (bare_turned (record { span = sp; kind = k }) us r x e)
+    (bare_turned (piece_of k sp) us r x e)
 
 implicit_pass : (k : Kind) (ahead ks : List Kind) (ps : List Part) → is_end_or_mark k ≡ true
     → Wanted state.ImplicitDocumentStart [] ahead ks ps → Wanted state.ImplicitDocumentStart [] (k ∷ ahead) (k ∷ ks) ps
@@ -284,21 +284,17 @@ implicit_moves ts r x e w =
 
 -- ## A document that begins with `---`
 
-explicit_next : (ahead ks : List Kind) (ps : List Part) → Explicit ahead ks ps
-    → Wanted state.DocumentStart [] ahead ks ps
-explicit_next ahead ks ps h = ((h.0, [], ks, tt, h.1, refl, h.2), h.3)
-
 explicit_at_moves : (k : Kind) (sp : Span) (us : List Piece) (r : Aside) (x : State) (e : Memory)
-    → AreWellFormed (record { span = sp; kind = k } ∷ us)
-    → MovesOn (Wanted state.DocumentStart [] (k ∷ kinds us)) e (record { span = sp; kind = k } ∷ us)
-    (explicit_start_at k (record { span = sp; kind = k }) (machine us r x [] e))
+    → AreWellFormed (piece_of k sp ∷ us)
+    → MovesOn (Wanted state.DocumentStart [] (k ∷ kinds us)) e (piece_of k sp ∷ us)
+    (explicit_start_at k (piece_of k sp) (machine us r x [] e))
 explicit_at_moves tokens.StreamEnd sp us r x e w =
     inr (stream_over (Wanted state.DocumentStart [] (tokens.StreamEnd ∷ kinds us))
-    (record { span = sp; kind = tokens.StreamEnd }) us _ e w.1 refl refl refl
+    (piece_of tokens.StreamEnd sp) us _ e w.1 refl refl refl
     (([], [], tokens.StreamEnd ∷ [], tt, refl, refl, refl), λ b. tt))
 explicit_at_moves k sp us r x e w = moves (Wanted state.DocumentStart [] (k ∷ kinds us)) e _ _
     (weaker (Explicit (k ∷ kinds us)) (Wanted state.DocumentStart [] (k ∷ kinds us)) e _ _
-    (explicit_next (k ∷ kinds us)) (explicit_turned (record { span = sp; kind = k }) us r x e w))
+    (λ ks ps h. ((h.0, [], ks, tt, h.1, refl, h.2), h.3)) (explicit_turned (piece_of k sp) us r x e w))
 
 never_free : (k : Kind) (ks : List Kind) → is_end_or_mark k ≡ true → BeginsFreely (k ∷ ks) → ⊥
 never_free k ks h b = grind arith

@@ -4,7 +4,7 @@ use Rattle.saphyr_scanner.specs.Grammar.Forest as forest
 use Rattle.saphyr_machine.specs.declared.state.State.TheVariants as state
 use Rattle.saphyr_machine.specs.Steps.Flow.{flow_mapping_pair_at, flow_mapping_first_key, flow_mapping_pair_behind_comma, flow_mapping_key_at, flow_mapping_key, flow_mapping_value_at, flow_mapping_value, flow_mapping_empty_value}
 use Rattle.event_laws.proofs.Turned.Following.{Claim, Then, Exactly, IsNodeOf, IsOptionalOf, IsSkipped, IsAnyValueOf, FirstPairs, OtherPairs, InMapping}
-use Rattle.event_laws.proofs.Turned.Turning.{regroup, replace, join_behind, put, both_parts}
+use Rattle.event_laws.proofs.Turned.Turning.{piece_of, regroup, replace, join_behind, put, both_parts}
 use Rattle.event_laws.proofs.Turned.Entries.{WantedIn, Turns, TurnsAt, by_token, passes, leaves_out, enters, behind_turned, here_turned, marked_value, any_value, closes}
 
 -- ## Pairs
@@ -47,11 +47,6 @@ alone_join : (a b : List Kind) (p q : List Part) → IsNodeOf InFlow a p → IsS
 alone_join a b p q x y =
     let tokens : a ++ b ≡ a = cc (append-nil a) in
     (x.0, forest.left_out, inr (inr (inr (refl, rw tokens x.1))), both_parts x.2 y.1)
-
-alone_first : (R : Claim) (ks : List Kind) (ps : List Part)
-    → Then (IsNodeOf InFlow) (Then IsSkipped (InMapping R)) ks ps → AtFirst R ks ps
-alone_first R ks ps h = pair_first R ks ps
-    (regroup (IsNodeOf InFlow) IsSkipped (InMapping R) IsPairOf ks ps alone_join h)
 
 no_value : (R : Claim) (ks : List Kind) (ps : List Part) → InMapping R ks ps → BeginsWithValue ks → ⊥
 no_value u0 ks ps h = grind arith
@@ -104,8 +99,10 @@ pair_at_turned span Value sp = leaves_out (λ _. AtFirst) state.FlowMappingValue
     (λ _ R ks ps f b. keyless_first R ks ps f (b tt)) sp sp
 pair_at_turned span FlowMappingEnd sp = closes (λ _. AtFirst) FirstPairs FlowMappingEnd MappingEnd CloseMapping
     (λ e. (refl, refl)) refl (λ t span ts k. inr (t, inl k, refl)) (NoPair, refl, refl) (λ _ R ks ps f. f)
-    (span (record { span = sp; kind = FlowMappingEnd })) sp
-pair_at_turned span k sp = enters (λ _. AtFirst) Flow state.FlowMappingEmptyValue k tt tt (λ _. alone_first) sp
+    (span (piece_of FlowMappingEnd sp)) sp
+pair_at_turned span k sp = enters (λ _. AtFirst) Flow state.FlowMappingEmptyValue k tt tt
+    (λ _ R ks ps h. pair_first R ks ps (regroup (IsNodeOf InFlow) IsSkipped (InMapping R) IsPairOf ks ps alone_join h))
+    sp
 
 pub first_pair_turned : Turns (λ _. AtFirst) flow_mapping_first_key
 unfolding flow_mapping_first_key

@@ -1,12 +1,12 @@
 -- The steps inside flow sequences are turned.
 use Rattle.event_laws.proofs.OwnTokens.{whole}
-use Rattle.event_laws.proofs.Common.{◌≡◌, List, [], ◌∷◌, ◌++◌, refl, ap, ◌∙◌, ◌⊎◌, inl, inr, append-nil, arith, Marker, Node, Map, Nodes, NoNode, MoreNodes, NoPair, MorePairs, Kind, FlowSequenceEnd, FlowEntry, Key, Value, InFlow, YieldsNode, YieldsPairEntry, YieldsSinglePair, YieldFlowEntries, YieldOtherFlowEntries, Flow, State, Part, CloseSequence, OpenMapping, CloseMapping, node_parts, SequenceEnd, is_left_out, node_or_nothing_at}
+use Rattle.event_laws.proofs.Common.{◌≡◌, List, [], ◌∷◌, ◌++◌, refl, ap, ◌∙◌, ◌⊎◌, inl, inr, append-nil, arith, Marker, Node, Map, Nodes, NoNode, MoreNodes, NoPair, MorePairs, Kind, FlowSequenceEnd, FlowEntry, Key, Value, InFlow, YieldsNode, YieldsPairEntry, YieldsSinglePair, YieldFlowEntries, YieldOtherFlowEntries, Flow, Part, CloseSequence, OpenMapping, CloseMapping, node_parts, SequenceEnd, is_left_out, node_or_nothing_at}
 use Rattle.saphyr_scanner.specs.Grammar.Forest as forest
 use Rattle.saphyr_machine.specs.declared.state.State.TheVariants as state
 use Rattle.saphyr_machine.specs.Steps.Machine.{with_pair_end}
 use Rattle.saphyr_machine.specs.Steps.Flow.{flow_sequence_first_entry_at, flow_sequence_first_entry, flow_sequence_entry_at, flow_sequence_entry, flow_sequence_entry_mapping_key, flow_sequence_entry_mapping_node, flow_sequence_entry_mapping_value_at, flow_sequence_entry_mapping_value, pair_ended_at, pair_ended_from, flow_sequence_entry_mapping_end}
 use Rattle.event_laws.proofs.Turned.Following.{Claim, Then, Exactly, IsNodeOf, IsOptionalOf, IsAnyValueOf, FirstEntries, OtherEntries, InSequence, AtPairEnd, AtPairValue, FollowsStates}
-use Rattle.event_laws.proofs.Turned.Turning.{Aside, machine, Turned, regroup, replace, join_behind, put, both_parts}
+use Rattle.event_laws.proofs.Turned.Turning.{Aside, piece_of, machine, Turned, regroup, replace, join_behind, put, both_parts}
 use Rattle.event_laws.proofs.Turned.Entries.{Turns, TurnsAt, by_token, passes, leaves_out, optional_turned, here_turned, enters, marked_value, any_value, closes}
 
 -- ## Entries
@@ -80,13 +80,13 @@ first_entry_at_turned : TurnsAt (λ _. AtFirst) flow_sequence_first_entry_at
 first_entry_at_turned FlowSequenceEnd sp = closes (λ _. AtFirst) FirstEntries FlowSequenceEnd SequenceEnd CloseSequence
     (λ e. (refl, refl)) refl (λ t span ts k. inr (t, inl k, refl)) (NoNode, refl, refl) (λ _ R ks ps f. f) sp sp
 first_entry_at_turned Key sp = λ ts r x s ss e w a. record {
-  used = record { span = sp; kind = Key } ∷ [];
+  used = piece_of Key sp ∷ [];
   part = OpenMapping forest.no_properties;
   taken = refl;
   emits = refl;
   remembers = refl;
   few = omega arith;
-  places = whole (record { span = sp; kind = Key } ∷ []) _ _
+  places = whole (piece_of Key sp ∷ []) _ _
       (inr (inr (record { span = sp; kind = Key }, refl, refl)), refl);
   alive = (tt, a);
   makes = λ ks ps f b. pair_first (FollowsStates s ss) ks ps f;

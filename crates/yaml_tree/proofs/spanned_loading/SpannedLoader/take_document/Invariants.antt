@@ -9,11 +9,11 @@ use Rattle.yaml_tree.specs.Leaving.{HasHandedOut}
 use Rattle.yaml_tree.proofs.DocumentRead.{ReadsOn}
 use Rattle.yaml_tree.proofs.spanned_loading.SpannedLoader.take_document.Given as goal
 
-abbrev pub invariant-events : goal.invariant-events
-invariant-events g l = ((limits : Limits) (before : List Happening) → HasTaken limits before l.fn.self.loader
+abbrev pub invariant-loop-read : goal.invariant-loop-read
+invariant-loop-read g l = ((limits : Limits) (before : List Happening) → HasTaken limits before l.fn.self.loader
     → ReadsOn EndNoDocument limits before (to_come l.fn.parser) (to_come l.parser) l.self.loader)
     × HasHandedOut l.fn.parser l.parser
     × KeepsTaken (to_come l.fn.parser) (to_come l.parser) l.fn.self.keeper l.self.keeper
 
-abbrev pub decreases-events : goal.decreases-events
-decreases-events g l = count (to_come l.parser)
+abbrev pub decreases-loop-read : goal.decreases-loop-read
+decreases-loop-read g l = count (to_come l.parser)

@@ -31,5 +31,6 @@ loop-document-preserved c = λ fits.
 pub returns : goal.returns
 returns c = λ fits.
     let now = c.loop-document in
-    all_roots c.args.spanned now.documents.items now.spans.items now.numbering now.numbering.entries.items
-    now.roots.items (nil_from_length now.documents.items (omega (arith, c.in_default.ensures.cases))) refl (now.invariant fits)
+    all_roots c.args.spanned now.documents.items now.spans.items now.numbering
+    (record { entries = now.numbering.entries; roots = now.roots })
+    (nil_from_length now.documents.items (omega (arith, c.in_default.ensures.cases))) refl (now.invariant fits)
