@@ -7,7 +7,7 @@ use Rattle.saphyr_parser.specs.Cursor.{ending_of_fault}
 use Rattle.saphyr_scalar.specs.declared.scalar.fault.ScanError.{ScanError}
 use Rattle.yaml_check.specs.declared.checking.Limits.{Limits}
 use Rattle.yaml_check.specs.declared.finding.Findings.{Findings}
-use Rattle.yaml_check.specs.declared.finding.Note.{Note}
+use Rattle.yaml_check.specs.declared.note.Note.{Note}
 use Rattle.yaml_check.specs.declared.rules.RuleSet.{RuleSet}
 use Rattle.yaml_check.specs.Helps.{Helps}
 use Rattle.yaml_check.specs.Opened.{OpenStarts, nothing_open, open_on, opened_note}

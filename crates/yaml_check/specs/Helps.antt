@@ -5,9 +5,9 @@ use Rattle.saphyr_parser.specs.Words.Marker.{Marker}
 use Rattle.saphyr_scalar.specs.Texts.{words}
 use Rattle.saphyr_scalar.specs.declared.scalar.fault.FaultText.TheVariants as fault
 use Rattle.yaml_check.specs.declared.open.Start.{Start}
-use Rattle.yaml_check.specs.declared.finding.Note.{Note}
-use Rattle.yaml_check.specs.declared.finding.Remark.{Remark}
-use Rattle.yaml_check.specs.declared.finding.Remark.TheVariants as remark
+use Rattle.yaml_check.specs.declared.note.Note.{Note}
+use Rattle.yaml_check.specs.declared.note.Remark.{Remark}
+use Rattle.yaml_check.specs.declared.note.Remark.TheVariants as remark
 use Rattle.yaml_check.specs.Opened.{OpenStarts, innermost}
 use Rattle.yaml_check.specs.Places.{IsLineStart, begins_line, is_space_or_tab, place_of_index}
 use Rattle.yaml_check.specs.Shown.{is_end_of_line, place_index}

@@ -3,9 +3,9 @@ use Rattle.std.specs.Prelude.{◌≡◌, ℕ, zero, suc, ◌-◌, List, [], ◌�
 use Rattle.std.specs.Str.{chars}
 use Rattle.saphyr_parser.specs.Words.Marker.{Marker}
 use Rattle.saphyr_scalar.specs.declared.scalar.fault.ScanError.{ScanError}
-use Rattle.yaml_check.specs.declared.finding.Finding.{Finding}
+use Rattle.yaml_check.specs.declared.warning.PlacedWarning.{PlacedWarning}
 use Rattle.yaml_check.specs.declared.finding.Findings.{Findings}
-use Rattle.yaml_check.specs.declared.finding.Note.{Note}
+use Rattle.yaml_check.specs.declared.note.Note.{Note}
 use Rattle.yaml_check.specs.declared.told.Severity.TheVariants as severity
 use Rattle.yaml_check.specs.declared.told.Format.{Format}
 use Rattle.yaml_check.specs.declared.told.Format.TheVariants as format
@@ -39,14 +39,14 @@ AddsTold format.Text false name text t old new = new ≡ old ++ told_line name t
 AddsTold format.Json shows name text t old new = new ≡ old ++ json.object name t
 
 -- the warnings are told one after the other
-abbrev pub AddsWarnings : Format → List ℕ → List ℕ → List Finding → List ℕ → List ℕ → Type 0
+abbrev pub AddsWarnings : Format → List ℕ → List ℕ → List PlacedWarning → List ℕ → List ℕ → Type 0
 AddsWarnings form name text [] old new = new ≡ old
 AddsWarnings form name text (w ∷ ws) old new =
     (middle : List ℕ) × AddsTold form true name text (told_warning w) old middle
     × AddsWarnings form name text ws middle new
 
 -- so many of them at most, and how many more there are
-abbrev pub AddsMost : Format → List ℕ → List ℕ → ℕ → List Finding → List ℕ → List ℕ → Type 0
+abbrev pub AddsMost : Format → List ℕ → List ℕ → ℕ → List PlacedWarning → List ℕ → List ℕ → Type 0
 AddsMost form name text most ws old new = MatchOption (slice_get ws most) (AddsWarnings form name text ws old new)
     (λ w. (middle : List ℕ) × AddsWarnings form name text (take most ws) old middle
     × AddsTold form true name text (told_more w (length ws - most)) middle new)

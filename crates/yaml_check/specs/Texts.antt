@@ -3,10 +3,10 @@ use Rattle.std.specs.Prelude.{ℕ, List, ◌++◌, codes}
 use Rattle.std.specs.Fmt.{decimal}
 use Rattle.saphyr_parser.specs.Words.Marker.{Marker}
 use Rattle.saphyr_scalar.specs.Faults.{line_and_column}
-use Rattle.yaml_check.specs.declared.finding.Remark.{Remark}
-use Rattle.yaml_check.specs.declared.finding.Remark.TheVariants as remark
-use Rattle.yaml_check.specs.declared.finding.Warning.{Warning}
-use Rattle.yaml_check.specs.declared.finding.Warning.TheVariants as warning
+use Rattle.yaml_check.specs.declared.note.Remark.{Remark}
+use Rattle.yaml_check.specs.declared.note.Remark.TheVariants as remark
+use Rattle.yaml_check.specs.declared.warning.Warning.{Warning}
+use Rattle.yaml_check.specs.declared.warning.Warning.TheVariants as warning
 
 abbrev pub warning_text : Warning → List ℕ
 warning_text (warning.DuplicateKey first) = codes "duplicate key; first at " ++ line_and_column first

@@ -3,8 +3,8 @@ use Rattle.std.specs.Prelude.{ℕ, List, ◌++◌, codes, string_bytes}
 use Rattle.std.specs.Fmt.{decimal}
 use Rattle.saphyr_parser.specs.Words.Span.{Span}
 use Rattle.saphyr_scalar.specs.declared.scalar.fault.ScanError.{ScanError}
-use Rattle.yaml_check.specs.declared.finding.Finding.{Finding}
-use Rattle.yaml_check.specs.declared.finding.Note.{Note}
+use Rattle.yaml_check.specs.declared.warning.PlacedWarning.{PlacedWarning}
+use Rattle.yaml_check.specs.declared.note.Note.{Note}
 use Rattle.yaml_check.specs.declared.told.Severity.{Severity}
 use Rattle.yaml_check.specs.declared.told.Severity.TheVariants as severity
 use Rattle.yaml_check.specs.Rules.{rule_name}
@@ -23,7 +23,7 @@ severity_word severity.Error = codes "error"
 severity_word severity.Warning = codes "warning"
 severity_word severity.Note = codes "note"
 
-abbrev pub told_warning : Finding → ToldSeen
+abbrev pub told_warning : PlacedWarning → ToldSeen
 told_warning w = record {
   span = w.span;
   severity = severity.Warning;
@@ -35,7 +35,7 @@ abbrev pub more_text : ℕ → List ℕ
 more_text count = decimal count ++ codes " more warnings begin here"
 
 -- what is left out behind so many warnings: that there are more
-abbrev pub told_more : Finding → ℕ → ToldSeen
+abbrev pub told_more : PlacedWarning → ℕ → ToldSeen
 told_more w count = record {
   span = w.span;
   severity = severity.Note;

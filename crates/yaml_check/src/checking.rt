@@ -12,13 +12,15 @@ ghost use Rattle.yaml_check.specs.Warned as warned;
 use crate::brackets::opened_note;
 use crate::content::Content;
 use crate::counting::Count;
-use crate::finding::{Finding, Findings, Note, Warning};
+use crate::finding::Findings;
 use crate::help::help_on;
 use crate::keys::Keys;
+use crate::note::Note;
 use crate::open::Open;
 use crate::rules::RuleSet;
 use crate::sizes::Sizes;
 use crate::view::characters;
+use crate::warning::{PlacedWarning, Warning};
 use saphyr_parser::{Event, Fault, Input, Parser, ScanError, Span};
 use std::alloc::{AllocError, Global};
 use std::mem::replace;
@@ -41,7 +43,7 @@ struct Checker {
     keys: Keys,
     sizes: Sizes,
     open: Open,
-    warnings: Vec<Finding>,
+    warnings: Vec<PlacedWarning>,
 }
 
 /// The warnings of these rules on a text, and the parser's fault if it refuses the text.
@@ -101,7 +103,7 @@ fn notes_on(
 /// What the rules found in events, and what is open behind them.
 #[derive(Drop)]
 struct Checked {
-    warnings: Vec<Finding>,
+    warnings: Vec<PlacedWarning>,
     open: Open,
     fault: Option<ScanError>,
 }
@@ -204,21 +206,21 @@ impl Checker {
     }
 
     /// Warns of a collection if as many as allowed are already open around it.
-    fn too_deep(&self, event: &Event, span: Span) -> Option<Finding>
+    fn too_deep(&self, event: &Event, span: Span) -> Option<PlacedWarning>
         ensures { result ≡ warned.depth_warning (seen_of self.now) (happening event.now) span }
     {
         let begins = matches!(event, Event::SequenceStart(..) | Event::MappingStart(..));
         if !begins || self.sizes.depth() != self.depth {
             return None;
         }
-        Some(Finding {
+        Some(PlacedWarning {
             span,
             warning: Warning::TooDeep(self.depth),
         })
     }
 
     /// Keeps a warning, if there is one and its rule is on.
-    fn warn(&mut self, told: Option<Finding>) -> Result<(), AllocError>
+    fn warn(&mut self, told: Option<PlacedWarning>) -> Result<(), AllocError>
         ensures told { OnOk result (self.new.warnings.items
             ≡ self.old.warnings.items ++ warned.told_by self.old.rules told) }
         ensures behind { seen_of self.new ≡ seen_of self.old }

@@ -4,8 +4,8 @@ ghost use Rattle.yaml_check.specs.Helps as spec;
 ghost use Rattle.yaml_check.specs.OpenSeen.{open_of};
 
 use crate::escapes::bad_escape;
-use crate::finding::{Note, Remark};
 use crate::lines::{conflict_marker, has_colon, line_before, quote_before};
+use crate::note::{Note, Remark};
 use crate::open::Open;
 use crate::places::place_of_index;
 use saphyr_parser::{Marker, ScanError};

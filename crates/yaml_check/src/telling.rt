@@ -8,11 +8,13 @@ ghost use Rattle.yaml_check.specs.ToldSeen.{told_of};
 ghost use Rattle.yaml_check.specs.Reports.{AddsError, AddsErrors, AddsFault, AddsNote, AddsMost, AddsTold, AddsWarnings, IsReport, name_in, told_line};
 
 use crate::arguments::Options;
-use crate::finding::{Finding, Findings, Note};
+use crate::finding::Findings;
 use crate::json::{push_escaped, push_object};
+use crate::note::Note;
 use crate::places::place_of_index;
 use crate::told::{Format, Severity, Source, Told};
 use crate::view::{View, characters, push_visible};
+use crate::warning::PlacedWarning;
 use saphyr_parser::{Marker, Span};
 use std::alloc::{AllocError, Global};
 
@@ -114,7 +116,7 @@ fn tell_some(
     alloc: Global,
     out: &mut String,
     source: &Source,
-    warnings: &[Finding],
+    warnings: &[PlacedWarning],
     most: usize,
 ) -> Result<(), AllocError>
     ensures { OnOk result (AddsMost source.now.format source.now.name.now source.now.text.now
@@ -134,7 +136,7 @@ fn tell_warnings(
     alloc: Global,
     out: &mut String,
     source: &Source,
-    warnings: &[Finding],
+    warnings: &[PlacedWarning],
 ) -> Result<(), AllocError>
     ensures { OnOk result (AddsWarnings source.now.format source.now.name.now source.now.text.now
         warnings.now (string_bytes out.old) (string_bytes out.new)) }
@@ -150,7 +152,7 @@ fn tell_warning(
     alloc: Global,
     out: &mut String,
     source: &Source,
-    finding: Finding,
+    finding: PlacedWarning,
 ) -> Result<(), AllocError>
     ensures { OnOk result (AddsTold source.now.format true source.now.name.now
         source.now.text.now (told_warning finding) (string_bytes out.old) (string_bytes out.new)) }
@@ -173,7 +175,7 @@ fn tell_more(
     alloc: Global,
     out: &mut String,
     source: &Source,
-    next: Finding,
+    next: PlacedWarning,
     count: usize,
 ) -> Result<(), AllocError>
     ensures { OnOk result (AddsTold source.now.format true source.now.name.now
