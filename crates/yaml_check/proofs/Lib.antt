@@ -1,5 +1,6 @@
 pub mod Judging
 pub mod KeyMaps
+pub mod LineLemmas
 pub mod StatusLemmas
 pub mod StepsBack
 pub mod ViewParts

@@ -11,6 +11,7 @@ pub mod KeysSeen
 pub mod OpenSeen
 pub mod Opened
 pub mod Places
+pub mod Remarks
 pub mod Reports
 pub mod Rules
 pub mod Shown

@@ -53,13 +53,13 @@ fn is_passed(c: char) -> bool
     is_space_or_tab(c) || is_end_of_line(c) || c == '-' || c == '?'
 }
 
-fn is_left_bracket(c: char) -> bool
+pub(crate) fn is_left_bracket(c: char) -> bool
     ensures { result ≡ spec.is_left_bracket c }
 {
     c == '[' || c == '{'
 }
 
-fn is_right_bracket(c: char) -> bool
+pub(crate) fn is_right_bracket(c: char) -> bool
     ensures { result ≡ spec.is_right_bracket c }
 {
     c == ']' || c == '}'
