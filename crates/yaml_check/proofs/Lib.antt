@@ -2,5 +2,5 @@ pub mod Judging
 pub mod KeyMaps
 pub mod StatusLemmas
 pub mod StepsBack
+pub mod Reported
 pub mod ViewParts
-pub mod Warnings
