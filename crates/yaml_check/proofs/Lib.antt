@@ -3,5 +3,5 @@ pub mod KeyMaps
 pub mod LineLemmas
 pub mod StatusLemmas
 pub mod StepsBack
+pub mod Reported
 pub mod ViewParts
-pub mod Warnings
