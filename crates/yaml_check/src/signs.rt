@@ -217,15 +217,16 @@ pub(crate) fn closing_bracket(text: &[char], end: usize) -> Option<usize>
     None
 }
 
-/// Whether a comma may be missing before a place: the bracket that is open there is closed later, and no quotes end
-/// right before the place, unless a colon follows.
+/// Whether a comma may be missing before a place: the bracket that is open there is closed behind it, and no quotes
+/// end right before it, unless a colon follows.
 pub(crate) fn lacks_comma(text: &[char], end: usize) -> bool
     requires { end ≤ length text.now }
     ensures { IsTrue result → spec.IsClosed text.now end }
 {
     let is_behind_quote = end > 0 && (text[end - 1] == '"' || text[end - 1] == '\'');
     let is_colon = end < text.len() && text[end] == ':';
-    closing_bracket(text, end).is_some() && (is_colon || !is_behind_quote)
+    let closes = end < text.len() && is_right_bracket(text[end]);
+    closing_bracket(text, end).is_some() && !closes && (is_colon || !is_behind_quote)
 }
 
 /// The single quote right before a place that is a letter's apostrophe.
