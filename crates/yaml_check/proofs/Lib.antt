@@ -1,3 +1,4 @@
+pub mod FoundIn
 pub mod Judging
 pub mod KeyMaps
 pub mod LineLemmas

@@ -22,8 +22,8 @@ fault_found found = option_map (λ e. ending_of_fault (fault.Scan e)) found
 abbrev pub NamesFault : Answer → Findings → Type 0
 NamesFault a found = fault_found found.fault ≡ a.fault
 
--- what is found by the parser's answer on a text: the warnings of the rules that are on, on its events, and what is told
--- of the fault that ends them by the collections that are open there
+-- what is found by the parser's answer on a text: the warnings of the rules that are on, on its events, and what is
+-- told of the fault that ends them by the collections that are open there
 abbrev pub NamesFindings : Options → List ℕ → Findings → Type 0
 NamesFindings options bytes found = AreFindings options (chars bytes)
     (warnings_on (answer_of_text bytes).events (nothing_seen options.rules options.limits))

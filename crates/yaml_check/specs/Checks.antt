@@ -24,8 +24,8 @@ events_asked options a = if options.events then printed_lines a.events else []
 abbrev pub told_unless_quiet : Options → List ℕ → List ℕ
 told_unless_quiet options told = if options.quiet then [] else told
 
--- A text is right: no fault ends its events, no warning is on one of them, it is YAML 1.2.2 if that is asked, and nothing
--- is told of it.
+-- A text is right: no fault ends its events, no warning is on one of them, it is YAML 1.2.2 if that is asked, and
+-- nothing is told of it.
 pub record IsRight (options : Options) (bytes : List ℕ) (old new : Option (List ℕ)) : Type 0 where
   pub fault : (answer_of_text bytes).fault ≡ None
   pub warnings : warnings_on (answer_of_text bytes).events (nothing_seen options.rules options.limits) ≡ []

@@ -122,7 +122,8 @@ IsHelp text o place message None = Unit {0}
 IsHelp text o place message (Some n) = Helps text o place message n
 
 -- what is told of a fault with these words at a place, by what is open there
-pub record IsToldOf (text : List ℕ) (o : OpenStarts) (place : Marker) (message : List ℕ) (told : FaultTold) : Type 0 where
+pub record IsToldOf (text : List ℕ) (o : OpenStarts) (place : Marker) (message : List ℕ) (told : FaultTold) :
+    Type 0 where
   pub help : Option Note
   pub is_help : IsHelp text o place message help
   pub is : told ≡ fault_told place (opened_note text o place) help
