@@ -35,5 +35,5 @@ found_in (Err e) options text bytes same utf8 fault findings = tt
 
 pub wrong_in : (r : Result Findings AllocError) (options : Options) (bytes : List ℕ) → ¬ IsUtf8 bytes
     → IfOk r (λ found. found.verdict ≡ verdict.Wrong) → IfOk r (IsFoundIn options bytes)
-wrong_in (Ok found) options bytes no wrong = inr (no, wrong)
-wrong_in (Err e) options bytes no wrong = tt
+wrong_in (Ok found) options bytes other wrong = inr (other, wrong)
+wrong_in (Err e) options bytes other wrong = tt

@@ -24,7 +24,7 @@ use Rattle.yaml_check.specs.declared.finding.Verdict.{Verdict}
 use Rattle.yaml_check.specs.declared.finding.Verdict.TheVariants as verdict
 use Rattle.yaml_check.specs.declared.finding.Finding.{Finding}
 use Rattle.yaml_check.specs.declared.warning.PlacedWarning.{PlacedWarning}
-use Rattle.yaml_check.specs.Checked.{IsFound}
+use Rattle.yaml_check.specs.Checked.{IsFound, NamesFindings}
 use Rattle.yaml_check.specs.Found.{AreFindings, verdict_of}
 use Rattle.yaml_check.specs.Opened.{OpenStarts}
 use Rattle.yaml_check.specs.Reports.{IsReport, name_in}
@@ -187,16 +187,16 @@ right_of : (options : Options) (text : List ℕ) (ws : List PlacedWarning) (o : 
     → (fault ≡ None) × ((ws ≡ []) × (options.standard ≡ true → IsStandard text))
 right_of options text ws o None found are right =
     let none = found_nothing options text ws are.departed found (sym right ∙ are.verdict) in
-    (refl, none.0, λ asked. are.departures.standard asked none.1)
+    (refl, (none.0, λ asked. are.departures.standard asked none.1))
 right_of options text ws o (Some (Refused place message)) found are right =
     let wrong = sym right ∙ are.verdict in absurd (cc)
 right_of options text ws o (Some OutOfMemory) found are right = absurd are
 
 pub is_right : (options : Options) (bytes : List ℕ) (old new : Option (List ℕ)) (found : Findings)
-    → IsFound options bytes found → found.verdict ≡ verdict.Right
+    → NamesFindings options bytes found → found.verdict ≡ verdict.Right
     → Appends old new (events_asked options (answer_of_text bytes)) → IsRight options bytes old new
-is_right options bytes old new found is right written =
-    let parts = right_of options (chars bytes) _ _ (answer_of_text bytes).fault found is.findings right in record {
+is_right options bytes old new found are right written =
+    let parts = right_of options (chars bytes) _ _ (answer_of_text bytes).fault found are right in record {
       fault = parts.0;
       warnings = parts.1.0;
       standard = parts.1.1;

@@ -133,6 +133,7 @@ fn tell_not_utf8<W: Write>(
 }
 
 /// Checks a text. Writes its events, if they are asked for, and what is found.
+#[tactic(auto, using(crate::proofs::Judging::is_right))]
 fn judge<W: Write>(
     alloc: Global,
     name: &str,

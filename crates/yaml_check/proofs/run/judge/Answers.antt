@@ -1,4 +1,4 @@
-use Rattle.yaml_check.proofs.Judging.{is_right, lines_cut, passes_fault, passes_want, told_cut, told_verdict}
+use Rattle.yaml_check.proofs.Judging.{lines_cut, passes_fault, passes_want, told_cut, told_verdict}
 use Rattle.std.proofs.Common.{refl}
 use Rattle.yaml_check.proofs.run.judge.Goals as goal
 
@@ -8,11 +8,6 @@ returns-in_err-found g c = passes_want _ _ _ _ _ c.from_residual.ensures.1
 pub returns-in_err-write_events : goal.returns-in_err-write_events
 returns-in_err-write_events g c = passes_fault _ _ _ _ _ _ _ c.from_residual-in_err-write_events.ensures.1
     (lines_cut _ c.args.name.now c.args.options c.args.text.now _ _ c.in_err-write_events.ensures)
-
-pub returns-in_ok-write_events : goal.returns-in_ok-write_events
-returns-in_ok-write_events g c = is_right c.args.options c.args.text.now _ _ c.in_ok-found.found
-    (record { fault = c.in_ok-found.ensures.fault; findings = c.in_ok-found.ensures.findings })
-    (c.is_right.ensures.yes c.if-is_right.true) c.in_ok-write_events.ensures
 
 pub returns-in_err-told : goal.returns-in_err-told
 returns-in_err-told g c = passes_want _ _ _ _ _ c.from_residual-in_err-told.ensures.1
