@@ -12,11 +12,11 @@ ghost use Rattle.std.specs.Process.{exit_status};
 use std::alloc::{AllocError, Global};
 use std::env;
 use std::fs::File;
-use std::io::{BufWriter, Read, Write};
+use std::io::{BufWriter, Write};
 use std::process::ExitCode;
 use yaml_check::{
-    Call, CheckFault, HELP, Options, Verdict, WrongCall, check_source, check_standard,
-    parse_arguments, status_of, visible,
+    Call, CheckFault, HELP, Options, Verdict, WrongCall, check_source, parse_arguments, status_of,
+    visible,
 };
 
 const VERSION: &str = "check_yaml 0.3.3+rattle.4";
@@ -126,24 +126,10 @@ fn check_named<W: Write>(
     out: &mut W,
 ) -> Result<Verdict, CheckFault> {
     if name == "-" {
-        return check_read(rt, options, name, &mut rt.stdin(), out);
+        return check_source(rt.alloc(), name, &mut rt.stdin(), options, out);
     }
     match File::open(rt, name) {
-        Ok(mut file) => check_read(rt, options, name, &mut file, out),
+        Ok(mut file) => check_source(rt.alloc(), name, &mut file, options, out),
         Err(error) => Err(CheckFault::CantRead(error)),
     }
-}
-
-// Checks what is read.
-fn check_read<R: Read, W: Write>(
-    rt: &HostRuntime,
-    options: Options,
-    name: &str,
-    source: &mut R,
-    out: &mut W,
-) -> Result<Verdict, CheckFault> {
-    if options.standard {
-        return check_standard(rt.alloc(), name, source, options, out);
-    }
-    check_source(rt.alloc(), name, source, options, out)
 }

@@ -1,10 +1,10 @@
 -- A verdict on bytes, from that on their text; a verdict on what was read; and what was written up to a failure.
-use Rattle.std.proofs.Common.{arith, ◌≡◌, ℕ, zero, suc, ◌<◌, List, [], ◌++◌, length, Option, Result, Ok, Err, refl, sym, ap, inl, inr, subst, ◌∙◌, append-nil, append_assoc}
+use Rattle.std.proofs.Common.{◌≡◌, ℕ, zero, suc, ◌<◌, List, [], ◌++◌, length, Option, Some, None, ◌∷◌, Result, Ok, Err, refl, sym, ap, inl, inr, subst, ◌∙◌, append-nil, append_assoc}
 use Rattle.std.specs.Prelude.{Bool, true, false, not, IsErrAnd, if◌then◌else◌}
 use Rattle.std.specs.Str.{chars, IsUtf8}
 use Rattle.std.specs.Io.KnownBytes.{Appends, Keeps}
 use Rattle.std.proofs.KnownBytes.{Appends-nil}
-use Rattle.saphyr_parser.specs.Answer.{Answer}
+use Rattle.saphyr_parser.specs.Answer.{Answer, Ending, OutOfMemory, Refused}
 use Rattle.saphyr_parser.specs.Cursor.{EventCursor, to_come}
 use Rattle.saphyr_parser.specs.Types.Fault.{Fault}
 use Rattle.saphyr_parser.specs.Types.Fault.TheVariants as parser
@@ -22,11 +22,14 @@ use Rattle.yaml_check.specs.declared.run.CheckFault.{CheckFault}
 use Rattle.yaml_check.specs.declared.run.CheckFault.TheVariants as fault
 use Rattle.yaml_check.specs.declared.finding.Verdict.{Verdict}
 use Rattle.yaml_check.specs.declared.finding.Verdict.TheVariants as verdict
-use Rattle.yaml_check.specs.Checked.{NamesFault, NamesNotes, NamesWarnings}
-use Rattle.yaml_check.specs.declared.told.Format.{Format}
-use Rattle.yaml_check.specs.Reports.{AddsErrors, IsReport, name_in}
-use Rattle.yaml_check.specs.Checks.{Checks, IsClean, IsCutShort, IsReported, IsWrong, Judges, JudgesBytes, WritesLines, WritesTold, events_asked, told_unless_quiet}
-use Rattle.yaml_check.specs.Checks.{ChecksStandard, JudgesFurther, JudgesStandard, TellsWrong}
+use Rattle.yaml_check.specs.declared.finding.Finding.{Finding}
+use Rattle.yaml_check.specs.declared.warning.PlacedWarning.{PlacedWarning}
+use Rattle.yaml_check.specs.Checked.{IsFound, NamesFindings}
+use Rattle.yaml_check.specs.Found.{AreFindings, verdict_of}
+use Rattle.yaml_check.specs.Opened.{OpenStarts}
+use Rattle.yaml_check.specs.Reports.{IsReport, name_in}
+use Rattle.yaml_check.specs.Checks.{Checks, IsCutShort, IsReported, IsRight, IsWrong, Judges, JudgesBytes, WritesLines, WritesTold, events_asked, told_unless_quiet}
+use Rattle.yaml_standard.specs.Verdicts.{IsStandard}
 
 pub judges_text : (r : Result Verdict CheckFault) (name : List ℕ) (options : Options) (text bytes : List ℕ)
     (old new : Option (List ℕ)) → text ≡ bytes → IsUtf8 bytes → Judges r name options text old new
@@ -64,15 +67,13 @@ cut_lines name options bytes old new t =
 
 -- of what is told not all was written
 pub cut_report : (name : List ℕ) (options : Options) (bytes told : List ℕ) (old middle new : Option (List ℕ))
-    (found : Findings) → NamesFault (answer_of_text bytes) found
-    → NamesWarnings options.rules options.limits (answer_of_text bytes) found
-    → NamesNotes (chars bytes) (answer_of_text bytes) found
-    → IsReport options.format options.max_findings (name_in options.format name) (chars bytes) found told
+    (found : Findings) → IsFound options bytes found
+    → IsReport options.format (name_in options.format name) (chars bytes) found told
     → Appends old middle (events_asked options (answer_of_text bytes))
     → TakesBeginning middle new (told_unless_quiet options told) → IsCutShort name options bytes old new
-cut_report name options bytes told old middle new found names warns notes report lines t = record {
+cut_report name options bytes told old middle new found is report lines t = record {
   told = told;
-  report = inr (found, names, warns, notes, report);
+  report = inr (found, is, report);
   taken = begins_behind old middle new _ _ lines t;
 }
 
@@ -156,23 +157,51 @@ lines_cut fault.OutOfMemory name options bytes old new h = h
 
 pub told_cut : (f : CheckFault) (name : List ℕ) (options : Options) (bytes told : List ℕ) (old middle new :
     Option (List ℕ))
-    (found : Findings) → NamesFault (answer_of_text bytes) found
-    → NamesWarnings options.rules options.limits (answer_of_text bytes) found
-    → NamesNotes (chars bytes) (answer_of_text bytes) found
-    → IsReport options.format options.max_findings (name_in options.format name) (chars bytes) found told
+    (found : Findings) → IsFound options bytes found
+    → IsReport options.format (name_in options.format name) (chars bytes) found told
     → Appends old middle (events_asked options (answer_of_text bytes))
     → WritesTold (Err f) (told_unless_quiet options told) middle new → Judges (Err f) name options bytes old new
-told_cut (fault.CantRead e) name options bytes told old middle new found names warns notes report lines h = absurd h
-told_cut fault.CantWrite name options bytes told old middle new found names warns notes report lines h =
-    cut_report name options bytes told old middle new found names warns notes report lines h
-told_cut fault.OutOfMemory name options bytes told old middle new found names warns notes report lines h = absurd h
+told_cut (fault.CantRead e) name options bytes told old middle new found is report lines h = absurd h
+told_cut fault.CantWrite name options bytes told old middle new found is report lines h =
+    cut_report name options bytes told old middle new found is report lines h
+told_cut fault.OutOfMemory name options bytes told old middle new found is report lines h = absurd h
 
--- what is told is told by the verdict, where not nothing was found
+-- what is told is told by the verdict, where it is not that nothing was found
 pub told_verdict : (v : Verdict) (name : List ℕ) (options : Options) (bytes : List ℕ) (old new : Option (List ℕ))
-    → (told : IsReported v name options bytes old new) → ¬ IsClean told.found → Judges (Ok v) name options bytes old new
-told_verdict verdict.Right name options bytes old new told some = absurd (some told.verdict)
+    → IsReported v name options bytes old new → ¬ (v ≡ verdict.Right) → Judges (Ok v) name options bytes old new
+told_verdict verdict.Right name options bytes old new told some = absurd (some refl)
 told_verdict verdict.Warned name options bytes old new told some = told
 told_verdict verdict.Wrong name options bytes old new told some = told
+
+-- nothing was found in a text that is right
+
+found_nothing : (options : Options) (text : List ℕ) (ws : List PlacedWarning) (ds : List Finding) (found : Findings)
+    → verdict.Right ≡ verdict_of ws ds → (ws ≡ []) × (ds ≡ [])
+found_nothing options text [] [] found is = (refl, refl)
+found_nothing options text (w ∷ ws) [] found is = absurd cc
+found_nothing options text [] (d ∷ ds) found is = absurd cc
+found_nothing options text (w ∷ ws) (d ∷ ds) found is = absurd cc
+
+right_of : (options : Options) (text : List ℕ) (ws : List PlacedWarning) (o : OpenStarts) (fault : Option Ending)
+    (found : Findings) → AreFindings options text ws o fault found → found.verdict ≡ verdict.Right
+    → (fault ≡ None) × ((ws ≡ []) × (options.standard ≡ true → IsStandard text))
+right_of options text ws o None found are right =
+    let none = found_nothing options text ws are.departed found (sym right ∙ are.verdict) in
+    (refl, (none.0, λ asked. are.departures.standard asked none.1))
+right_of options text ws o (Some (Refused place message)) found are right =
+    let wrong = sym right ∙ are.verdict in absurd (cc)
+right_of options text ws o (Some OutOfMemory) found are right = absurd are
+
+pub is_right : (options : Options) (bytes : List ℕ) (old new : Option (List ℕ)) (found : Findings)
+    → NamesFindings options bytes found → found.verdict ≡ verdict.Right
+    → Appends old new (events_asked options (answer_of_text bytes)) → IsRight options bytes old new
+is_right options bytes old new found are right written =
+    let parts = right_of options (chars bytes) _ _ (answer_of_text bytes).fault found are right in record {
+      fault = parts.0;
+      warnings = parts.1.0;
+      standard = parts.1.1;
+      written = written;
+    }
 
 -- the fault of a call is passed on
 
@@ -187,51 +216,3 @@ pub passes_fault : (r : Result Verdict CheckFault) (f : CheckFault) (name : List
     → Judges r name options bytes old new
 passes_fault (Ok v) f name options bytes old new h judged = absurd h
 passes_fault (Err e) f name options bytes old new h judged = rw h judged
-
--- ## Is it YAML
-
-never_unread : (f : CheckFault) (first : Result Verdict CheckFault) (name : List ℕ) (options : Options)
-    (bytes : List ℕ) (old middle new : Option (List ℕ)) → JudgesBytes first name options bytes old middle
-    → JudgesFurther first (Err f) name options bytes middle new → IsWrong (Err f)
-never_unread (fault.CantRead e) (Ok verdict.Right) name options bytes old middle new b (inl h) = let is = h.0 in cc
-never_unread (fault.CantRead e) (Ok verdict.Right) name options bytes old middle new b (inr h) = h
-never_unread (fault.CantRead e) (Ok verdict.Warned) name options bytes old middle new b (inl h) = let is = h.0 in cc
-never_unread (fault.CantRead e) (Ok verdict.Warned) name options bytes old middle new b (inr h) = h
-never_unread (fault.CantRead e) (Ok verdict.Wrong) name options bytes old middle new b h = let is = h.0 in cc
-never_unread (fault.CantRead e) (Err (fault.CantRead d)) name options bytes old middle new (inl b) h = b.1
-never_unread (fault.CantRead e) (Err (fault.CantRead d)) name options bytes old middle new (inr b) h = b.1
-never_unread (fault.CantRead e) (Err fault.CantWrite) name options bytes old middle new b h = let is = h.0 in cc
-never_unread (fault.CantRead e) (Err fault.OutOfMemory) name options bytes old middle new b h = let is = h.0 in cc
-never_unread fault.CantWrite first name options bytes old middle new b h = tt
-never_unread fault.OutOfMemory first name options bytes old middle new b h = tt
-
-pub standard_read : (r : Result Verdict CheckFault) (name : List ℕ) (options : Options) (bytes : List ℕ)
-    (unread left old new : Option (List ℕ)) → ReadsAll unread left bytes
-    → JudgesStandard r name options bytes old new → ChecksStandard r name options unread left old new
-standard_read (Ok v) name options bytes unread left old new read h = (bytes, read, h)
-standard_read (Err (fault.CantRead e)) name options bytes unread left old new read (first, middle, b, h) =
-    absurd (never_unread (fault.CantRead e) first name options bytes old middle new b h)
-standard_read (Err fault.CantWrite) name options bytes unread left old new read h = (bytes, read, h)
-standard_read (Err fault.OutOfMemory) name options bytes unread left old new read h = (bytes, read, h)
-
-some_told : (form : Format) (name text : List ℕ) (n : ℕ) (told : List ℕ) → 0 < n → AddsErrors form name text n [] told
-    → (more : ℕ) × AddsErrors form name text (suc more) [] told
-some_told form name text zero told h adds = absurd (omega (arith, h))
-some_told form name text (suc n) told h adds = (n, adds)
-
-pub wrong_told : (name : List ℕ) (options : Options) (text : List ℕ) (n : ℕ) (told : List ℕ)
-    (old new : Option (List ℕ)) → 0 < n
-    → AddsErrors options.format (name_in options.format name) (chars text) n [] told
-    → WritesTold (Ok tt) (told_unless_quiet options told) old new
-    → TellsWrong (Ok verdict.Wrong) name options text old new
-wrong_told name options text n told old new h adds written =
-    (refl, told, some_told options.format _ (chars text) n told h adds, written)
-
-pub wrong_cut : (f : CheckFault) (name : List ℕ) (options : Options) (text : List ℕ) (n : ℕ) (told : List ℕ)
-    (old new : Option (List ℕ)) → 0 < n
-    → AddsErrors options.format (name_in options.format name) (chars text) n [] told
-    → WritesTold (Err f) (told_unless_quiet options told) old new → TellsWrong (Err f) name options text old new
-wrong_cut (fault.CantRead e) name options text n told old new h adds written = absurd written
-wrong_cut fault.CantWrite name options text n told old new h adds written =
-    (told, some_told options.format _ (chars text) n told h adds, written)
-wrong_cut fault.OutOfMemory name options text n told old new h adds written = absurd written

@@ -1,16 +1,17 @@
 -- What a check says of the events of a text and of the fault that may end them.
-use Rattle.std.specs.Prelude.{◌≡◌, ℕ, List, Option, None, Some, Result, Ok, Err, option_map}
+use Rattle.std.specs.Prelude.{◌≡◌, ◌⊎◌, ℕ, List, Option, None, Some, Result, Ok, Err, option_map}
+use Rattle.std.specs.Str.{chars, IsUtf8}
 use Rattle.saphyr_parser.specs.Types.Fault.{Fault}
 use Rattle.saphyr_parser.specs.Types.Fault.TheVariants as fault
-use Rattle.saphyr_parser.specs.Answer.{Answer, Ending, Refused}
+use Rattle.saphyr_parser.specs.Answer.{Answer, Ending}
 use Rattle.saphyr_parser.specs.Cursor.{ending_of_fault}
+use Rattle.saphyr_parser.specs.Runs.{answer_of_text}
 use Rattle.saphyr_scalar.specs.declared.scalar.fault.ScanError.{ScanError}
-use Rattle.yaml_check.specs.declared.checking.Limits.{Limits}
+use Rattle.yaml_check.specs.declared.arguments.Options.{Options}
 use Rattle.yaml_check.specs.declared.finding.Findings.{Findings}
-use Rattle.yaml_check.specs.declared.finding.Note.{Note}
-use Rattle.yaml_check.specs.declared.rules.RuleSet.{RuleSet}
-use Rattle.yaml_check.specs.Helps.{Helps}
-use Rattle.yaml_check.specs.Opened.{OpenStarts, nothing_open, open_on, opened_note}
+use Rattle.yaml_check.specs.declared.finding.Verdict.TheVariants as verdict
+use Rattle.yaml_check.specs.Found.{AreFindings}
+use Rattle.yaml_check.specs.Opened.{nothing_open, open_on}
 use Rattle.yaml_check.specs.Warned.{nothing_seen, warnings_on}
 
 -- a fault that was found, as the parser's list ends with it
@@ -21,25 +22,21 @@ fault_found found = option_map (λ e. ending_of_fault (fault.Scan e)) found
 abbrev pub NamesFault : Answer → Findings → Type 0
 NamesFault a found = fault_found found.fault ≡ a.fault
 
--- the warnings are those of the rules that are on, on the parser's events
-abbrev pub NamesWarnings : RuleSet → Limits → Answer → Findings → Type 0
-NamesWarnings on limits a found = found.warnings.items ≡ warnings_on a.events (nothing_seen on limits)
+-- what is found by the parser's answer on a text: the warnings of the rules that are on, on its events, and what is
+-- told of the fault that ends them by the collections that are open there
+abbrev pub NamesFindings : Options → List ℕ → Findings → Type 0
+NamesFindings options bytes found = AreFindings options (chars bytes)
+    (warnings_on (answer_of_text bytes).events (nothing_seen options.rules options.limits))
+    (open_on (answer_of_text bytes).events nothing_open) (answer_of_text bytes).fault found
 
--- the bracket that is open where a fault comes
-abbrev pub opened_on : List ℕ → OpenStarts → Option Ending → Option Note
-opened_on text o (Some (Refused place message)) = opened_note text o place
-opened_on text o _ = None
+pub record IsFound (options : Options) (bytes : List ℕ) (found : Findings) : Type 0 where
+  pub fault : NamesFault (answer_of_text bytes) found
+  pub findings : NamesFindings options bytes found
 
--- help on a fault, where there is one
-abbrev pub IsHelp : List ℕ → OpenStarts → Option Ending → Option Note → Type 0
-IsHelp text o fault None = Unit {0}
-IsHelp text o (Some (Refused place message)) (Some n) = Helps text o place message n
-IsHelp text o _ (Some n) = ⊥
-
--- The notes are on the fault: the bracket that is open by the events and the text before it, and a sentence of help.
-pub record NamesNotes (text : List ℕ) (a : Answer) (found : Findings) : Type 0 where
-  pub opened : found.opened ≡ opened_on text (open_on a.events nothing_open) a.fault
-  pub help : IsHelp text (open_on a.events nothing_open) a.fault found.help
+-- The same of bytes: those that are no text are wrong.
+abbrev pub IsFoundIn : Options → List ℕ → Findings → Type 0
+IsFoundIn options bytes found =
+    (IsUtf8 bytes × IsFound options bytes found) ⊎ ((¬ IsUtf8 bytes) × (found.verdict ≡ verdict.Wrong))
 
 -- How reading all events ends. Memory may run out before any of them.
 abbrev pub EndsAs : Result (Unit {0}) Fault → Answer → Type 0

@@ -1,5 +1,5 @@
 -- What the check of a source reads and writes, and what its verdict means.
-use Rattle.std.specs.Prelude.{◌≡◌, ℕ, suc, ◌⊎◌, if◌then◌else◌, List, [], ◌++◌, Option, None, Result, Ok, Err}
+use Rattle.std.specs.Prelude.{◌≡◌, ℕ, ◌⊎◌, true, if◌then◌else◌, List, [], ◌++◌, Option, None, Result, Ok, Err}
 use Rattle.std.specs.Str.{chars, IsUtf8}
 use Rattle.std.specs.Io.KnownBytes.{Appends}
 use Rattle.saphyr_parser.specs.Answer.{Answer}
@@ -11,27 +11,10 @@ use Rattle.yaml_check.specs.declared.run.CheckFault.{CheckFault}
 use Rattle.yaml_check.specs.declared.run.CheckFault.TheVariants as fault
 use Rattle.yaml_check.specs.declared.finding.Verdict.{Verdict}
 use Rattle.yaml_check.specs.declared.finding.Verdict.TheVariants as verdict
-use Rattle.yaml_check.specs.Checked.{NamesFault, NamesNotes, NamesWarnings}
+use Rattle.yaml_check.specs.Checked.{IsFound}
 use Rattle.yaml_check.specs.Warned.{nothing_seen, warnings_on}
-use Rattle.yaml_check.specs.Reports.{AddsErrors, IsReport, name_in}
+use Rattle.yaml_check.specs.Reports.{IsReport, name_in}
 use Rattle.yaml_standard.specs.Verdicts.{IsStandard}
-
--- nothing was found
-abbrev pub IsClean : Findings → Type 0
-IsClean found = (found.warnings.items ≡ []) × (found.fault ≡ None)
-
--- there are warnings, and no fault
-abbrev pub HasWarningsAlone : Findings → Type 0
-HasWarningsAlone found = (¬ (found.warnings.items ≡ [])) × (found.fault ≡ None)
-
-abbrev pub HasFault : Findings → Type 0
-HasFault found = ¬ (found.fault ≡ None)
-
--- what a verdict says of what was found
-abbrev pub IsVerdict : Verdict → Findings → Type 0
-IsVerdict verdict.Right found = IsClean found
-IsVerdict verdict.Warned found = HasWarningsAlone found
-IsVerdict verdict.Wrong found = HasFault found
 
 -- the lines of the events, where they are asked for
 abbrev pub events_asked : Options → Answer → List ℕ
@@ -41,23 +24,22 @@ events_asked options a = if options.events then printed_lines a.events else []
 abbrev pub told_unless_quiet : Options → List ℕ → List ℕ
 told_unless_quiet options told = if options.quiet then [] else told
 
--- A text is right: no fault ends its events, no warning is on one of them, and nothing is told of it.
+-- A text is right: no fault ends its events, no warning is on one of them, it is YAML 1.2.2 if that is asked, and
+-- nothing is told of it.
 pub record IsRight (options : Options) (bytes : List ℕ) (old new : Option (List ℕ)) : Type 0 where
   pub fault : (answer_of_text bytes).fault ≡ None
   pub warnings : warnings_on (answer_of_text bytes).events (nothing_seen options.rules options.limits) ≡ []
+  pub standard : options.standard ≡ true → IsStandard (chars bytes)
   pub written : Appends old new (events_asked options (answer_of_text bytes))
 
--- A text has warnings, or a fault, as the verdict says. What is told of it names the fault of the parser, or none where
--- it has none, the warnings on its events, and the notes.
+-- What is told of what is found in a text, which has this verdict.
 pub record IsReported (v : Verdict) (name : List ℕ) (options : Options) (bytes : List ℕ) (old new : Option (List ℕ)) :
     Type 0 where
   pub found : Findings
-  pub verdict : IsVerdict v found
-  pub names : NamesFault (answer_of_text bytes) found
-  pub warns : NamesWarnings options.rules options.limits (answer_of_text bytes) found
-  pub notes : NamesNotes (chars bytes) (answer_of_text bytes) found
+  pub is_found : IsFound options bytes found
+  pub verdict : found.verdict ≡ v
   pub told : List ℕ
-  pub report : IsReport options.format options.max_findings (name_in options.format name) (chars bytes) found told
+  pub report : IsReport options.format (name_in options.format name) (chars bytes) found told
   pub middle : Option (List ℕ)
   pub events : Appends old middle (events_asked options (answer_of_text bytes))
   pub written : Appends middle new (told_unless_quiet options told)
@@ -66,10 +48,8 @@ pub record IsReported (v : Verdict) (name : List ℕ) (options : Options) (bytes
 -- else is told, of such a report.
 pub record IsCutShort (name : List ℕ) (options : Options) (bytes : List ℕ) (old new : Option (List ℕ)) : Type 0 where
   pub told : List ℕ
-  pub report : (told ≡ []) ⊎ ((found : Findings) × NamesFault (answer_of_text bytes) found
-      × NamesWarnings options.rules options.limits (answer_of_text bytes) found
-      × NamesNotes (chars bytes) (answer_of_text bytes) found
-      × IsReport options.format options.max_findings (name_in options.format name) (chars bytes) found told)
+  pub report : (told ≡ []) ⊎ ((found : Findings) × IsFound options bytes found
+      × IsReport options.format (name_in options.format name) (chars bytes) found told)
   pub taken : TakesBeginning old new (events_asked options (answer_of_text bytes) ++ told_unless_quiet options told)
 
 -- What the verdict on a text says of it.
@@ -101,51 +81,6 @@ abbrev pub Checks : Result Verdict CheckFault → List ℕ → Options → Optio
 Checks (Err (fault.CantRead e)) name options unread left old new = new ≡ old
 Checks r name options unread left old new =
     (bytes : List ℕ) × ReadsAll unread left bytes × JudgesBytes r name options bytes old new
-
--- ## Is it YAML
-
--- some errors of the text are told, one at least
-abbrev pub IsToldOfErrors : List ℕ → Options → List ℕ → List ℕ → Type 0
-IsToldOfErrors name options bytes told =
-    (more : ℕ) × AddsErrors options.format (name_in options.format name) (chars bytes) (suc more) [] told
-
--- A text is wrong: one error at least is told of it, one after the other, or a beginning of them.
-abbrev pub TellsWrong : Result Verdict CheckFault → List ℕ → Options → List ℕ → Option (List ℕ) → Option (List ℕ)
-    → Type 0
-TellsWrong (Ok v) name options bytes old new =
-    (v ≡ verdict.Wrong) × (told : List ℕ) × IsToldOfErrors name options bytes told
-    × Appends old new (told_unless_quiet options told)
-TellsWrong (Err (fault.CantRead e)) name options bytes old new = ⊥
-TellsWrong (Err fault.CantWrite) name options bytes old new =
-    (told : List ℕ) × IsToldOfErrors name options bytes told × TakesBeginning old new (told_unless_quiet options told)
-TellsWrong (Err fault.OutOfMemory) name options bytes old new = new ≡ old
-
--- A text in which no error was found is standard, and the verdict stays; or more is told of it.
-abbrev pub JudgesGrammar : Verdict → Result Verdict CheckFault → List ℕ → Options → List ℕ → Option (List ℕ)
-    → Option (List ℕ) → Type 0
-JudgesGrammar v r name options bytes old new =
-    ((r ≡ Ok v) × IsStandard (chars bytes) × (new ≡ old)) ⊎ TellsWrong r name options bytes old new
-
--- What comes behind such an answer.
-abbrev pub JudgesFurther : Result Verdict CheckFault → Result Verdict CheckFault → List ℕ → Options → List ℕ
-    → Option (List ℕ) → Option (List ℕ) → Type 0
-JudgesFurther (Ok verdict.Right) r name options bytes old new = JudgesGrammar verdict.Right r name options bytes old new
-JudgesFurther (Ok verdict.Warned) r name options bytes old new =
-    JudgesGrammar verdict.Warned r name options bytes old new
-JudgesFurther first r name options bytes old new = (r ≡ first) × (new ≡ old)
-
--- The bytes are checked as `check_source` does, and where that finds no error, by the grammar.
-abbrev pub JudgesStandard : Result Verdict CheckFault → List ℕ → Options → List ℕ → Option (List ℕ) → Option (List ℕ)
-    → Type 0
-JudgesStandard r name options bytes old new = (first : Result Verdict CheckFault) × (middle : Option (List ℕ))
-    × JudgesBytes first name options bytes old middle × JudgesFurther first r name options bytes middle new
-
--- The same of a source. Where it can't be read, nothing is written.
-abbrev pub ChecksStandard : Result Verdict CheckFault → List ℕ → Options → Option (List ℕ) → Option (List ℕ)
-    → Option (List ℕ) → Option (List ℕ) → Type 0
-ChecksStandard (Err (fault.CantRead e)) name options unread left old new = new ≡ old
-ChecksStandard r name options unread left old new =
-    (bytes : List ℕ) × ReadsAll unread left bytes × JudgesStandard r name options bytes old new
 
 -- ## Writing
 

@@ -3,8 +3,8 @@ use Rattle.std.specs.Prelude.{zero, Bool, true, false, [], Option, Some, None, o
 use Rattle.saphyr_parser.specs.Words.Span.{Span}
 use Rattle.saphyr_parser.specs.Words.Forest.{Plain}
 use Rattle.saphyr_parser.specs.Events.{Happening, DocumentStart, Scalar}
-use Rattle.yaml_check.specs.declared.finding.Finding.{Finding}
-use Rattle.yaml_check.specs.declared.finding.Warning.TheVariants as warning
+use Rattle.yaml_check.specs.declared.warning.PlacedWarning.{PlacedWarning}
+use Rattle.yaml_check.specs.declared.warning.Warning.TheVariants as warning
 
 -- outside documents, and after the first event of one
 abbrev pub no_document : Option Span
@@ -20,6 +20,6 @@ is_empty_node (Scalar [] Plain zero None) = true
 is_empty_node _ = false
 
 -- what is told of an event
-abbrev pub content_warning : Option Span → Happening → Option Finding
+abbrev pub content_warning : Option Span → Happening → Option PlacedWarning
 content_warning begun what = if is_empty_node what
     then option_map (λ span. record { span = span; warning = warning.EmptyDocument }) begun else None

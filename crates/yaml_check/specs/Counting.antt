@@ -2,8 +2,8 @@
 use Rattle.std.specs.Prelude.{ℕ, zero, suc, Bool, true, false, Option, Some, None, option_and_then, if◌then◌else◌}
 use Rattle.saphyr_parser.specs.Words.Span.{Span}
 use Rattle.saphyr_parser.specs.Events.{Happening, Alias, Scalar, SequenceStart, MappingStart}
-use Rattle.yaml_check.specs.declared.finding.Finding.{Finding}
-use Rattle.yaml_check.specs.declared.finding.Warning.TheVariants as warning
+use Rattle.yaml_check.specs.declared.warning.PlacedWarning.{PlacedWarning}
+use Rattle.yaml_check.specs.declared.warning.Warning.TheVariants as warning
 
 -- a node begins here; an alias is one
 abbrev pub is_node : Happening → Bool
@@ -30,10 +30,10 @@ one_less (suc n) = Some n
 abbrev pub left_behind : Happening → Option ℕ → Option ℕ
 left_behind what left = if is_node what then option_and_then one_less left else left
 
-abbrev pub one_too_many : ℕ → Option ℕ → Span → Option Finding
+abbrev pub one_too_many : ℕ → Option ℕ → Span → Option PlacedWarning
 one_too_many most (Some zero) span = Some (record { span = span; warning = warning.TooManyNodes most })
 one_too_many most _ span = None
 
 -- what is told of an event
-abbrev pub node_warning : ℕ → Option ℕ → Happening → Span → Option Finding
+abbrev pub node_warning : ℕ → Option ℕ → Happening → Span → Option PlacedWarning
 node_warning most left what span = if is_node what then one_too_many most left span else None

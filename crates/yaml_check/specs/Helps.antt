@@ -1,58 +1,15 @@
 -- Help on faults: what it says, and of which place.
-use Rattle.std.specs.Prelude.{ℕ, ◌+◌, ◌<◌, ◌≤◌, ◌≡◌, ◌⊎◌, ◌==◌, ◌||◌, Bool, true, false, if◌then◌else◌, List, length, drop, slice_index, Option, Some, None, codes}
-use Rattle.std.specs.Str.{bytes_eq}
+use Rattle.std.specs.Prelude.{ℕ, ◌+◌, ◌-◌, ◌<◌, ◌≤◌, ◌≡◌, ◌⊎◌, ◌==◌, ◌&&◌, ◌||◌, Bool, true, false, nat_le, List, length, drop, slice_get, slice_index, Option, Some, is_some}
 use Rattle.saphyr_parser.specs.Words.Marker.{Marker}
-use Rattle.saphyr_scalar.specs.Texts.{words}
-use Rattle.saphyr_scalar.specs.declared.scalar.fault.FaultText.TheVariants as fault
 use Rattle.yaml_check.specs.declared.open.Start.{Start}
-use Rattle.yaml_check.specs.declared.finding.Note.{Note}
-use Rattle.yaml_check.specs.declared.finding.Remark.{Remark}
-use Rattle.yaml_check.specs.declared.finding.Remark.TheVariants as remark
-use Rattle.yaml_check.specs.Opened.{OpenStarts, innermost}
+use Rattle.yaml_check.specs.declared.note.Note.{Note}
+use Rattle.yaml_check.specs.declared.note.Remark.{Remark}
+use Rattle.yaml_check.specs.declared.note.Remark.TheVariants as remark
+use Rattle.yaml_check.specs.Mended.{is_at_fault, is_of_collection}
+use Rattle.yaml_check.specs.Opened.{OpenStarts, innermost, is_right_bracket, opened_note}
 use Rattle.yaml_check.specs.Places.{IsLineStart, begins_line, is_space_or_tab, place_of_index}
+use Rattle.yaml_check.specs.Remarks.{remarks_on}
 use Rattle.yaml_check.specs.Shown.{is_end_of_line, place_index}
-
--- ## By the message
-
-abbrev pub is_on_quotes : List ℕ → Bool
-is_on_quotes m = bytes_eq m (words fault.QuotedIndentation)
-    || (bytes_eq m (words fault.EndInsideQuotes)
-    || bytes_eq m (words fault.DocumentIndicatorInsideQuotes))
-
-abbrev pub is_on_escape : List ℕ → Bool
-is_on_escape m = bytes_eq m (words fault.UnknownEscape)
-    || (bytes_eq m (words fault.HexadecimalDigitExpected)
-    || bytes_eq m (words fault.EscapedCodePoint))
-
-abbrev pub is_on_tab : List ℕ → Bool
-is_on_tab m = bytes_eq m (words fault.TabInBlockIndentation)
-    || (bytes_eq m (words fault.TabAsIndentation)
-    || bytes_eq m (words fault.TabNotAllowed))
-
-abbrev pub is_on_first_character : List ℕ → Bool
-is_on_first_character m = bytes_eq m (codes "unexpected character: `@'")
-    || (bytes_eq m (codes "unexpected character: ``'") || bytes_eq m (codes "unexpected character: `%'"))
-
-abbrev pub remark_on_structure : List ℕ → Option Remark
-remark_on_structure m = if bytes_eq m (words fault.KeyWithoutColon) then Some remark.NoColon
-    else (if bytes_eq m (words fault.SequenceEntryNotAllowed) then Some remark.SequenceLine
-    else (if bytes_eq m (words fault.BlockMappingKeyExpected)
-    then Some remark.MappingColumn
-    else (if bytes_eq m (words fault.SequenceEntryExpected)
-    then Some remark.SequenceColumn
-    else (if bytes_eq m (words fault.UnknownAnchor) then Some remark.UnknownAlias
-    else (if is_on_first_character m then Some remark.FirstCharacter
-    else (if bytes_eq m (words fault.InvalidIndentation) then Some remark.BracketColumn else None))))))
-
--- the help for a fault with a message, where a colon comes before it on its line or not
-abbrev pub remark_on : Bool → List ℕ → Option Remark
-remark_on after_colon m = if is_on_quotes m then Some remark.QuotesOpen
-    else (if is_on_escape m then Some remark.Escape
-    else (if is_on_tab m then Some remark.Tab
-    else (if bytes_eq m (words fault.ValueNotAllowed)
-    then Some (if after_colon then remark.ColonInText else remark.LineGoesOn)
-    else (if bytes_eq m (words fault.ContentAfterQuotes) then Some remark.QuotesEnd
-    else remark_on_structure m))))
 
 -- ## Places of the text
 
@@ -100,32 +57,134 @@ IsQuoteBefore text close quote at = (at < close) × (slice_index text at ≡ quo
 abbrev pub IsQuote : List ℕ → ℕ → ℕ → Type 0
 IsQuote text end at = (at < end) × ((slice_index text at ≡ 34) ⊎ (slice_index text at ≡ 39))
 
+-- a character is at an index
+abbrev pub IsCharacter : ℕ → List ℕ → ℕ → Type 0
+IsCharacter c text at = (at < length text) × (slice_index text at ≡ c)
+
+abbrev pub IsTab : List ℕ → ℕ → Type 0
+IsTab text at = IsCharacter 9 text at
+
+-- no character, a blank or a break follows
+abbrev pub is_blank_behind : List ℕ → ℕ → Bool
+is_blank_behind text at = nat_le (length text) (at + 1) || (is_space_or_tab (slice_index text (at + 1))
+    || is_end_of_line (slice_index text (at + 1)))
+
+-- a character without a blank behind it
+abbrev pub IsTight : ℕ → List ℕ → ℕ → Type 0
+IsTight c text at = IsCharacter c text at × (is_blank_behind text at ≡ false)
+
+-- the dashes of entries, and blanks, are all that is between two indexes
+pub record IsBehindDashes (text : List ℕ) (start at : ℕ) : Type 0 where
+  pub within : at < length text
+  pub behind : start ≤ at
+  pub dashes : (k : ℕ) → start ≤ k → k < at
+      → ((slice_index text k == 45) || is_space_or_tab (slice_index text k)) ≡ true
+
+-- a colon, or the sign of a block scalar, before an index
+abbrev pub IsColonBefore : List ℕ → ℕ → ℕ → Type 0
+IsColonBefore text end at = (at < end) × (slice_index text at ≡ 58)
+
+abbrev pub IsBlockScalarBefore : List ℕ → ℕ → ℕ → Type 0
+IsBlockScalarBefore text end at = (at < end) × ((slice_index text at ≡ 124) ⊎ (slice_index text at ≡ 62))
+
+-- the first character of the line of a place that is no blank
+pub record BeginsLine (text : List ℕ) (end at : ℕ) : Type 0 where
+  pub start : ℕ
+  pub last : ℕ
+  pub line : IsLineStart text end start
+  pub content : IsLineContent text start last at
+
+-- Characters that look like another: spaces with another width or none, and quotes.
+abbrev pub is_between : ℕ → ℕ → ℕ → Bool
+is_between first last c = nat_le first c && nat_le c last
+
+abbrev pub is_sign : Remark → ℕ → Bool
+is_sign remark.NoBreakSpace c = (c == 0xa0) || (c == 0x202f)
+is_sign remark.IdeographicSpace c = c == 0x3000
+is_sign remark.OtherSpace c = is_between 0x2000 0x200a c
+is_sign remark.ZeroWidth c = is_between 0x200b 0x200d c || (c == 0xfeff)
+is_sign remark.TypographersQuote c = is_between 0x2018 0x201f c
+is_sign _ c = false
+
+abbrev pub IsSignAt : Remark → List ℕ → ℕ → Type 0
+IsSignAt r text at = (at < length text) × (is_sign r (slice_index text at) ≡ true)
+
+abbrev pub IsTypographersQuote : List ℕ → ℕ → Type 0
+IsTypographersQuote text at = IsSignAt remark.TypographersQuote text at
+
+-- the brackets of a template
+abbrev pub IsTemplate : List ℕ → ℕ → Type 0
+IsTemplate text at = (IsCharacter 123 text at × (at + 1 < length text))
+    × ((slice_index text (at + 1) ≡ 123) ⊎ (slice_index text (at + 1) ≡ 37))
+
+-- a bracket closes from an index on
+abbrev pub IsClosedAt : List ℕ → ℕ → ℕ → Type 0
+IsClosedAt text end at = ((end ≤ at) × (at < length text)) × (is_right_bracket (slice_index text at) ≡ true)
+
+-- some bracket closes there
+abbrev pub IsClosed : List ℕ → ℕ → Type 0
+IsClosed text end = (at : ℕ) × IsClosedAt text end at
+
 -- ## What help says
 
 -- the place of help: an index with this property
 abbrev pub IsAtSome : List ℕ → Marker → (ℕ → Type 0) → Type 0
 IsAtSome text place P = (i : ℕ) × P i × (place ≡ place_of_index text i)
 
+-- what is at the index that a remark tells of, for a fault before another
+abbrev pub IsIndexOfHelp : Remark → List ℕ → ℕ → ℕ → Type 0
+IsIndexOfHelp remark.ConflictMarker text end at = IsConflictBefore text end at
+IsIndexOfHelp remark.NoColon text end at =
+    (start : ℕ) × BeginsContent text end start × IsBehindDashes text start at
+IsIndexOfHelp remark.ValueColumn text end at =
+    BeginsContent text end at × ((colon : ℕ) × IsColonBefore text at colon)
+IsIndexOfHelp remark.BlockScalarColumn text end at =
+    BeginsContent text end at × ((sign : ℕ) × IsBlockScalarBefore text at sign)
+IsIndexOfHelp remark.NoBlankBehindDash text end at = BeginsContent text end at × IsTight 45 text at
+IsIndexOfHelp remark.NoBlankBehindColon text end at = IsTight 58 text at
+IsIndexOfHelp remark.TooFarRight text end at = BeginsLine text end at
+IsIndexOfHelp remark.Template text end at = IsTemplate text at
+IsIndexOfHelp remark.QuotesEnd text end at = IsQuote text end at
+IsIndexOfHelp remark.Apostrophe text end at = IsCharacter 39 text at
+IsIndexOfHelp remark.JsonText text end at = IsCharacter 34 text at
+IsIndexOfHelp remark.Escape text end at = IsBadEscape text end at
+IsIndexOfHelp remark.Tab text end at = IsTab text at
+IsIndexOfHelp remark.AllowedTab text end at = IsTab text at
+IsIndexOfHelp remark.AllowedFirstTab text end at = IsTab text at
+IsIndexOfHelp remark.AllowedColonBehindTag text end at = IsCharacter 58 text at
+IsIndexOfHelp r text end at = IsSignAt r text at
+
 -- the innermost collection begins here
 abbrev pub IsInnermost : OpenStarts → Marker → Type 0
 IsInnermost o place = (s : Start) × (innermost o.starts ≡ Some s) × (place ≡ s.span.start)
 
--- where a remark is told, of a fault at this place
-abbrev pub IsPlaceOfHelp : Remark → List ℕ → OpenStarts → Marker → Marker → Type 0
-IsPlaceOfHelp remark.ConflictMarker text o fault place =
-    IsAtSome text place (IsConflictBefore text (place_index text fault.index))
-IsPlaceOfHelp remark.NoColon text o fault place =
-    IsAtSome text place (BeginsContent text (place_index text fault.index))
-IsPlaceOfHelp remark.LineGoesOn text o fault place =
-    IsAtSome text place (BeginsContent text (place_index text fault.index))
-IsPlaceOfHelp remark.Escape text o fault place = IsAtSome text place (IsBadEscape text (place_index text fault.index))
-IsPlaceOfHelp remark.QuotesEnd text o fault place = IsAtSome text place (IsQuote text (place_index text fault.index))
-IsPlaceOfHelp remark.MappingColumn text o fault place = IsInnermost o place
-IsPlaceOfHelp remark.SequenceColumn text o fault place = IsInnermost o place
-IsPlaceOfHelp _ text o fault place = place ≡ fault
+-- the same, with a dash where a remark tells of one
+abbrev pub IsPlaceOfCollection : Remark → List ℕ → OpenStarts → Marker → Type 0
+IsPlaceOfCollection remark.KeyBeginsWithDash text o place =
+    IsInnermost o place × IsTight 45 text (place_index text place.index)
+IsPlaceOfCollection r text o place = IsInnermost o place
 
--- A sentence of help: that of the message, or one on a conflict that is near, and its place.
+-- what is so where a remark is told at the fault
+abbrev pub IsAtFault : Remark → List ℕ → OpenStarts → Marker → Type 0
+IsAtFault remark.Mixed text o fault = (s : Start) × (innermost o.starts ≡ Some s) × (s.span.start.col ≡ fault.col)
+IsAtFault remark.BracketColumn text o fault = IsClosed text (place_index text fault.index)
+IsAtFault remark.MissingComma text o fault =
+    (is_some (opened_note text o fault) ≡ true) × IsClosed text (place_index text fault.index)
+IsAtFault remark.AllowedColon text o fault = IsCharacter 58 text (place_index text fault.index)
+IsAtFault remark.AllowedDash text o fault = IsCharacter 45 text (place_index text fault.index)
+IsAtFault remark.AllowedQuestionMark text o fault =
+    (place_index text fault.index ≡ length text) × IsCharacter 63 text (length text - 1)
+IsAtFault _ text o fault = Unit {0}
+
+-- where a remark is told, of a fault at this place
+pub record IsPlaceOfHelp (r : Remark) (text : List ℕ) (o : OpenStarts) (fault place : Marker) : Type 0 where
+  pub collection : is_of_collection r ≡ true → IsPlaceOfCollection r text o place
+  pub at_fault : is_of_collection r ≡ false → is_at_fault r ≡ true → (place ≡ fault) × IsAtFault r text o fault
+  pub index : is_of_collection r ≡ false → is_at_fault r ≡ false
+      → IsAtSome text place (IsIndexOfHelp r text (place_index text fault.index))
+
+-- A sentence of help: one of the message, or one on a conflict that is near, and its place.
 pub record Helps (text : List ℕ) (o : OpenStarts) (fault : Marker) (message : List ℕ) (n : Note) : Type 0 where
-  pub after_colon : Bool
-  pub says : (n.remark ≡ remark.ConflictMarker) ⊎ (remark_on after_colon message ≡ Some n.remark)
+  pub says : (n.remark ≡ remark.ConflictMarker)
+      ⊎ ((k : ℕ) × (slice_get (remarks_on message) k ≡ Some n.remark))
   pub place : IsPlaceOfHelp n.remark text o fault n.place

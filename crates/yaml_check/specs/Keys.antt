@@ -10,8 +10,8 @@ use Rattle.saphyr_parser.specs.Words.Span.{Span}
 use Rattle.saphyr_parser.specs.Events.{ResolvedTag, Happening, Alias, Scalar, SequenceStart, SequenceEnd, MappingStart, MappingEnd}
 use Rattle.yaml_check.specs.declared.keys.Next.{Next}
 use Rattle.yaml_check.specs.declared.keys.Next.TheVariants as next
-use Rattle.yaml_check.specs.declared.finding.Finding.{Finding}
-use Rattle.yaml_check.specs.declared.finding.Warning.TheVariants as warning
+use Rattle.yaml_check.specs.declared.warning.PlacedWarning.{PlacedWarning}
+use Rattle.yaml_check.specs.declared.warning.Warning.TheVariants as warning
 
 -- the text of a scalar and the name of its tag, empty where it has none
 abbrev pub Key : Type 0
@@ -104,7 +104,7 @@ keys_behind MappingEnd span k = keys_outside k
 keys_behind _ span k = k
 
 -- what is told of an event
-abbrev pub key_warning : KeysOpen → Happening → Span → Option Finding
+abbrev pub key_warning : KeysOpen → Happening → Span → Option PlacedWarning
 key_warning k (Scalar text style id tag) span =
     option_map (λ first. record { span = span; warning = warning.DuplicateKey first })
     (equal_key_place (key_of text tag) k.here)

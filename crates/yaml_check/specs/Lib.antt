@@ -4,13 +4,16 @@ pub mod CheckerSeen
 pub mod Checks
 pub mod Contents
 pub mod Counting
+pub mod Found
 pub mod Helps
 pub mod Json
 pub mod Keys
 pub mod KeysSeen
+pub mod Mended
 pub mod OpenSeen
 pub mod Opened
 pub mod Places
+pub mod Remarks
 pub mod Reports
 pub mod Rules
 pub mod Shown

@@ -6,9 +6,9 @@ use Rattle.saphyr_parser.specs.Events.{Happening, SequenceStart, SequenceEnd, Ma
 use Rattle.yaml_check.specs.declared.open.Shape.{Shape}
 use Rattle.yaml_check.specs.declared.open.Shape.TheVariants as shape
 use Rattle.yaml_check.specs.declared.open.Start.{Start}
-use Rattle.yaml_check.specs.declared.finding.Note.{Note}
-use Rattle.yaml_check.specs.declared.finding.Remark.{Remark}
-use Rattle.yaml_check.specs.declared.finding.Remark.TheVariants as remark
+use Rattle.yaml_check.specs.declared.note.Note.{Note}
+use Rattle.yaml_check.specs.declared.note.Remark.{Remark}
+use Rattle.yaml_check.specs.declared.note.Remark.TheVariants as remark
 use Rattle.yaml_check.specs.Places.{is_space_or_tab, place_of_index}
 use Rattle.yaml_check.specs.Shown.{is_end_of_line, place_index}
 

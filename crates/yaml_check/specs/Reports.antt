@@ -1,19 +1,17 @@
 -- What is printed of what was found.
-use Rattle.std.specs.Prelude.{◌≡◌, ℕ, zero, suc, ◌-◌, List, [], ◌∷◌, ◌++◌, length, take, slice_get, codes, Bool, true, false, not, nat_eq, Option, None, Some, MatchOption}
+use Rattle.std.specs.Prelude.{◌≡◌, ℕ, List, [], ◌∷◌, ◌++◌, unwrap_or, codes, Bool, true, false, not, nat_eq, Option, None, Some}
 use Rattle.std.specs.Str.{chars}
-use Rattle.saphyr_parser.specs.Words.Marker.{Marker}
-use Rattle.saphyr_scalar.specs.declared.scalar.fault.ScanError.{ScanError}
 use Rattle.yaml_check.specs.declared.finding.Finding.{Finding}
 use Rattle.yaml_check.specs.declared.finding.Findings.{Findings}
-use Rattle.yaml_check.specs.declared.finding.Note.{Note}
-use Rattle.yaml_check.specs.declared.told.Severity.TheVariants as severity
+use Rattle.yaml_check.specs.declared.finding.Notes.{Notes}
 use Rattle.yaml_check.specs.declared.told.Format.{Format}
 use Rattle.yaml_check.specs.declared.told.Format.TheVariants as format
 use Rattle.yaml_check.specs.declared.view.View.{View}
+use Rattle.yaml_check.specs.Found.{IsKnown, message_of, notes_on, rule_of_problem, severity_of, words_of}
 use Rattle.yaml_check.specs.Json as json
 use Rattle.yaml_check.specs.Shown.{place_index, shown_text}
 use Rattle.yaml_check.specs.Texts.{name_and_place}
-use Rattle.yaml_check.specs.Told.{ToldSeen, severity_word, told_fault, told_more, told_note, told_warning}
+use Rattle.yaml_check.specs.Told.{ToldSeen, severity_word}
 use Rattle.yaml_check.specs.Views.{IsView, excerpt}
 
 -- the name of a file, as it is printed
@@ -38,46 +36,38 @@ AddsTold format.Text true name text t old new = AddsLines name text t old new
 AddsTold format.Text false name text t old new = new ≡ old ++ told_line name t
 AddsTold format.Json shows name text t old new = new ≡ old ++ json.object name t
 
--- the warnings are told one after the other
-abbrev pub AddsWarnings : Format → List ℕ → List ℕ → List Finding → List ℕ → List ℕ → Type 0
-AddsWarnings form name text [] old new = new ≡ old
-AddsWarnings form name text (w ∷ ws) old new =
-    (middle : List ℕ) × AddsTold form true name text (told_warning w) old middle
-    × AddsWarnings form name text ws middle new
+-- a finding is told, under the name of its rule and with its message
+pub record AddsFinding (form : Format) (shows : Bool) (name text : List ℕ) (found : Findings) (f : Finding)
+    (old new : List ℕ) : Type 0 where
+  pub t : ToldSeen
+  pub span : t.span ≡ f.span
+  pub severity : t.severity ≡ severity_of f.problem
+  pub rule : IsKnown (rule_of_problem f.problem) t.rule
+  pub message : IsKnown (message_of (words_of found.fault) f.problem) t.message
+  pub told : AddsTold form shows name text t old new
 
--- so many of them at most, and how many more there are
-abbrev pub AddsMost : Format → List ℕ → List ℕ → ℕ → List Finding → List ℕ → List ℕ → Type 0
-AddsMost form name text most ws old new = MatchOption (slice_get ws most) (AddsWarnings form name text ws old new)
-    (λ w. (middle : List ℕ) × AddsWarnings form name text (take most ws) old middle
-    × AddsTold form true name text (told_more w (length ws - most)) middle new)
+-- a note is told behind something else; the line of its place isn't shown again
+abbrev pub AddsNote : Format → List ℕ → List ℕ → Findings → Finding → Option Finding → List ℕ → List ℕ → Type 0
+AddsNote form name text found before None old new = new ≡ old
+AddsNote form name text found before (Some n) old new =
+    AddsFinding form (not (nat_eq n.span.start.index before.span.start.index)) name text found n old new
 
--- a note is told; of the fault's place the line isn't shown again
-abbrev pub AddsNote : Format → List ℕ → List ℕ → Marker → Option Note → List ℕ → List ℕ → Type 0
-AddsNote form name text fault None old new = new ≡ old
-AddsNote form name text fault (Some n) old new =
-    AddsTold form (not (nat_eq n.place.index fault.index)) name text (told_note n) old new
+-- a finding is told, and the notes on it
+pub record AddsWithNotes (form : Format) (name text : List ℕ) (found : Findings) (f : Finding) (old new : List ℕ) :
+    Type 0 where
+  pub notes : Notes
+  pub are : notes ≡ notes_on found.notes f.problem
+  pub one : List ℕ
+  pub two : List ℕ
+  pub told : AddsFinding form true name text found f old one
+  pub first : AddsNote form name text found f notes.first one two
+  pub second : AddsNote form name text found (unwrap_or notes.first f) notes.second two new
 
--- a fault, with the notes on it
-abbrev pub AddsFault : Format → List ℕ → List ℕ → Option ScanError → Option Note → Option Note → List ℕ → List ℕ
-    → Type 0
-AddsFault form name text None opened help old new = new ≡ old
-AddsFault form name text (Some e) opened help old new =
-    (one : List ℕ) × (two : List ℕ) × AddsTold form true name text (told_fault e) old one
-    × AddsNote form name text e.mark opened one two × AddsNote form name text e.mark help two new
+-- findings are told one after the other
+abbrev pub AddsAll : Format → List ℕ → List ℕ → Findings → List Finding → List ℕ → List ℕ → Type 0
+AddsAll form name text found [] old new = new ≡ old
+AddsAll form name text found (f ∷ fs) old new =
+    (middle : List ℕ) × AddsWithNotes form name text found f old middle × AddsAll form name text found fs middle new
 
--- an error is told, at some place and under the name of some rule
-abbrev pub AddsError : Format → List ℕ → List ℕ → List ℕ → List ℕ → Type 0
-AddsError form name text old new =
-    (t : ToldSeen) × (t.severity ≡ severity.Error) × AddsTold form true name text t old new
-
--- so many errors are told, one after the other
-abbrev pub AddsErrors : Format → List ℕ → List ℕ → ℕ → List ℕ → List ℕ → Type 0
-AddsErrors form name text zero old new = new ≡ old
-AddsErrors form name text (suc n) old new =
-    (middle : List ℕ) × AddsErrors form name text n old middle × AddsError form name text middle new
-
--- the warnings in their order, so many at most, and the fault after them
-abbrev pub IsReport : Format → ℕ → List ℕ → List ℕ → Findings → List ℕ → Type 0
-IsReport form most name text found bytes =
-    (middle : List ℕ) × AddsMost form name text most found.warnings.items [] middle
-    × AddsFault form name text found.fault found.opened found.help middle bytes
+abbrev pub IsReport : Format → List ℕ → List ℕ → Findings → List ℕ → Type 0
+IsReport form name text found bytes = AddsAll form name text found found.list.items [] bytes

@@ -6,8 +6,8 @@ use Rattle.std.specs.BTreeMap.{insert_entry, is_at}
 use Rattle.saphyr_parser.specs.Words.Span.{Span}
 use Rattle.saphyr_parser.specs.Events.{Happening, Alias, Scalar, SequenceStart, SequenceEnd, MappingStart, MappingEnd}
 use Rattle.yaml_check.specs.declared.sizes.Size.{Size}
-use Rattle.yaml_check.specs.declared.finding.Finding.{Finding}
-use Rattle.yaml_check.specs.declared.finding.Warning.TheVariants as warning
+use Rattle.yaml_check.specs.declared.warning.PlacedWarning.{PlacedWarning}
+use Rattle.yaml_check.specs.declared.warning.Warning.TheVariants as warning
 
 -- how many nodes an alias may stand for without a warning
 abbrev pub wide : ℕ
@@ -79,15 +79,15 @@ sizes_behind (MappingStart id tag) s = sizes_inside id s
 sizes_behind MappingEnd s = sizes_outside s
 sizes_behind _ s = s
 
-abbrev pub wide_if : ℕ → Span → Option Finding
+abbrev pub wide_if : ℕ → Span → Option PlacedWarning
 wide_if n span = if nat_le n wide then None else Some (record { span = span; warning = warning.WideAlias wide })
 
 -- what is told of an alias, by the size of its node
-abbrev pub size_warning : Option ℕ → Span → Option Finding
+abbrev pub size_warning : Option ℕ → Span → Option PlacedWarning
 size_warning None span = Some (record { span = span; warning = warning.AliasInItself })
 size_warning (Some n) span = wide_if n span
 
 -- what is told of an event
-abbrev pub alias_warning : SizesOpen → Happening → Span → Option Finding
+abbrev pub alias_warning : SizesOpen → Happening → Span → Option PlacedWarning
 alias_warning s (Alias id) span = size_warning (ended_size id s) span
 alias_warning _ _ _ = None

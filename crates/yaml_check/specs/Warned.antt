@@ -3,9 +3,9 @@ use Rattle.std.specs.Prelude.{ℕ, ◌==◌, ◌&&◌, List, [], ◌∷◌, ◌+
 use Rattle.saphyr_parser.specs.Words.Span.{Span}
 use Rattle.saphyr_parser.specs.Events.{Happening}
 use Rattle.yaml_check.specs.declared.checking.Limits.{Limits}
-use Rattle.yaml_check.specs.declared.finding.Finding.{Finding}
-use Rattle.yaml_check.specs.declared.finding.Warning.{Warning}
-use Rattle.yaml_check.specs.declared.finding.Warning.TheVariants as warning
+use Rattle.yaml_check.specs.declared.warning.PlacedWarning.{PlacedWarning}
+use Rattle.yaml_check.specs.declared.warning.Warning.{Warning}
+use Rattle.yaml_check.specs.declared.warning.Warning.TheVariants as warning
 use Rattle.yaml_check.specs.declared.rules.Rule.{Rule}
 use Rattle.yaml_check.specs.declared.rules.Rule.TheVariants as rule
 use Rattle.yaml_check.specs.declared.rules.RuleSet.{RuleSet}
@@ -25,11 +25,11 @@ rule_of (warning.TooDeep most) = rule.MaxDepth
 rule_of (warning.TooManyNodes most) = rule.MaxNodes
 
 -- a warning if there is one and its rule is on
-abbrev pub told_if : Bool → Finding → List Finding
+abbrev pub told_if : Bool → PlacedWarning → List PlacedWarning
 told_if true f = f ∷ []
 told_if false f = []
 
-abbrev pub told_by : RuleSet → Option Finding → List Finding
+abbrev pub told_by : RuleSet → Option PlacedWarning → List PlacedWarning
 told_by on None = []
 told_by on (Some f) = told_if (is_on on (rule_of f.warning)) f
 
@@ -62,18 +62,18 @@ seen_behind what span s = record {
   sizes = sizes_behind what s.sizes;
 }
 
-abbrev pub depth_warning : Seen → Happening → Span → Option Finding
+abbrev pub depth_warning : Seen → Happening → Span → Option PlacedWarning
 depth_warning s what span = if is_collection what && (open_collections s.sizes == s.limits.depth)
     then Some (record { span = span; warning = warning.TooDeep s.limits.depth }) else None
 
 -- what is told of an event
-abbrev pub warnings_at : Happening → Span → Seen → List Finding
+abbrev pub warnings_at : Happening → Span → Seen → List PlacedWarning
 warnings_at what span s = told_by s.on (content_warning s.begun what)
     ++ (told_by s.on (key_warning s.keys what span)
     ++ (told_by s.on (alias_warning s.sizes what span) ++ (told_by s.on (depth_warning s what span)
     ++ told_by s.on (node_warning s.limits.nodes s.left what span))))
 
 -- what is told of events
-abbrev pub warnings_on : List (Happening × Span) → Seen → List Finding
+abbrev pub warnings_on : List (Happening × Span) → Seen → List PlacedWarning
 warnings_on [] s = []
 warnings_on (e ∷ es) s = warnings_at e.0 e.1 s ++ warnings_on es (seen_behind e.0 e.1 s)

@@ -3,7 +3,7 @@ ghost use Rattle.std.specs.Prelude.{◌≡◌, ◌<◌, ◌≤◌, length, IfSom
 ghost use Rattle.yaml_check.specs.Opened as spec;
 ghost use Rattle.yaml_check.specs.OpenSeen.{open_of};
 
-use crate::finding::{Note, Remark};
+use crate::note::{Note, Remark};
 use crate::open::{Open, Shape, Start};
 use crate::places::{is_space_or_tab, place_of_index};
 use crate::view::is_end_of_line;
@@ -53,13 +53,13 @@ fn is_passed(c: char) -> bool
     is_space_or_tab(c) || is_end_of_line(c) || c == '-' || c == '?'
 }
 
-fn is_left_bracket(c: char) -> bool
+pub(crate) fn is_left_bracket(c: char) -> bool
     ensures { result ≡ spec.is_left_bracket c }
 {
     c == '[' || c == '{'
 }
 
-fn is_right_bracket(c: char) -> bool
+pub(crate) fn is_right_bracket(c: char) -> bool
     ensures { result ≡ spec.is_right_bracket c }
 {
     c == ']' || c == '}'

@@ -1,24 +1,32 @@
 //! A linter on the events of a text. Each rule takes all events in turn, with their places.
-ghost use Rattle.std.specs.Prelude.{◌≡◌, [], ◌++◌, IfOk, OnOk};
+ghost use Rattle.std.specs.Prelude.{◌≡◌, [], ◌∷◌, ◌++◌, Some, None, map, IfOk, OnOk, string_bytes};
 ghost use Rattle.std.specs.Str.{chars};
 ghost use Rattle.saphyr_parser.specs.Cursor.{to_come};
 ghost use Rattle.saphyr_parser.specs.Runs.{answer_of_text};
 ghost use Rattle.saphyr_parser.specs.Views.Events.{happening};
-ghost use Rattle.yaml_check.specs.Checked.{EndsAs, IsHelp, NamesFault, NamesNotes, NamesWarnings, OnceEnded, fault_found, opened_on};
+ghost use Rattle.yaml_check.specs.Checked.{EndsAs, IsFoundIn, NamesFault, NamesFindings, OnceEnded, fault_found};
+ghost use Rattle.yaml_check.specs.Found as found;
+ghost use Rattle.yaml_check.specs.Found.{AreDepartures, AreFindings, IsAccepted, IsByPlace, IsRefused, IsToldOf};
 ghost use Rattle.yaml_check.specs.OpenSeen.{open_of};
+ghost use Rattle.yaml_check.specs.declared.finding.Verdict.TheVariants.{Wrong};
 ghost use Rattle.yaml_check.specs.Opened as opened;
 ghost use Rattle.yaml_check.specs.Warned as warned;
 
+use crate::arguments::Options;
 use crate::brackets::opened_note;
 use crate::content::Content;
 use crate::counting::Count;
-use crate::finding::{Finding, Findings, Note, Warning};
+use crate::finding::{Finding, Findings, Notes, Problem, Verdict};
 use crate::help::help_on;
 use crate::keys::Keys;
+use crate::mended::{FaultTold, tell_fault};
 use crate::open::Open;
+use crate::places::place_of_index;
 use crate::rules::RuleSet;
 use crate::sizes::Sizes;
+use crate::standard::departures;
 use crate::view::characters;
+use crate::warning::{PlacedWarning, Warning};
 use saphyr_parser::{Event, Fault, Input, Parser, ScanError, Span};
 use std::alloc::{AllocError, Global};
 use std::mem::replace;
@@ -41,67 +49,231 @@ struct Checker {
     keys: Keys,
     sizes: Sizes,
     open: Open,
-    warnings: Vec<Finding>,
+    warnings: Vec<PlacedWarning>,
 }
 
-/// The warnings of these rules on a text, and the parser's fault if it refuses the text.
-pub fn check_text(
-    alloc: Global,
-    text: &str,
-    rules: RuleSet,
-    limits: Limits,
-) -> Result<Findings, AllocError>
+/// What is found in a text: the warnings of the rules that are on, the parser's fault if it refuses the text, and
+/// otherwise where the text is not YAML 1.2.2, if that is asked for.
+pub fn check_text(alloc: Global, text: &str, options: Options) -> Result<Findings, AllocError>
     ensures fault { IfOk result (NamesFault (answer_of_text text.now)) }
-    ensures warnings { IfOk result (NamesWarnings rules limits (answer_of_text text.now)) }
-    ensures notes { IfOk result (NamesNotes (chars text.now) (answer_of_text text.now)) }
+    ensures findings { IfOk result (NamesFindings options text.now) }
 {
     let Checked {
         warnings,
         open,
         fault,
-    } = check_events(alloc, Parser::new_from_str(alloc, text), rules, limits)?;
-    let notes = notes_on(alloc, text, &open, &fault);
-    drop(open);
-    match notes {
-        Ok((opened, help)) => Ok(Findings {
-            warnings,
-            fault,
-            opened,
-            help,
-        }),
+    } = check_events(alloc, Parser::new_from_str(alloc, text), options)?;
+    let found = findings(alloc, text, &warnings, &open, fault, options);
+    drop((warnings, open));
+    found
+}
+
+/// What is found in a text, by the warnings on its events and the fault that ends them.
+fn findings(
+    alloc: Global,
+    text: &str,
+    warnings: &[PlacedWarning],
+    collections: &Open,
+    fault: Option<ScanError>,
+    options: Options,
+) -> Result<Findings, AllocError>
+    ensures fault { IfOk result (λ found. found.fault ≡ fault) }
+    ensures told { IfOk result (AreFindings options (chars text.now) warnings.now
+        (open_of collections.now) (fault_found fault)) }
+{
+    match fault {
+        Some(error) => refused(alloc, text, warnings, collections, error, options),
+        None => accepted(alloc, text, warnings, options),
+    }
+}
+
+/// What is found in bytes. Those that are not UTF-8 are one error, at the first that is wrong.
+pub fn check_bytes(alloc: Global, bytes: &[u8], options: Options) -> Result<Findings, AllocError>
+    ensures { IfOk result (IsFoundIn options bytes.now) }
+{
+    match str::from_utf8(bytes) {
+        Ok(text) => check_text(alloc, text, options),
+        Err(_) => not_utf8(alloc, bytes),
+    }
+}
+
+/// What is found in bytes that are not UTF-8.
+pub(crate) fn not_utf8(alloc: Global, bytes: &[u8]) -> Result<Findings, AllocError>
+    ensures { IfOk result (λ found. found.verdict ≡ Wrong) }
+{
+    let text = characters(alloc, text_before(bytes))?;
+    let place = place_of_index(&text, text.len());
+    drop(text);
+    let problem = match bytes {
+        [0xfe, 0xff, ..] | [0xff, 0xfe, ..] => Problem::Utf16,
+        _ => Problem::NotUtf8,
+    };
+    let list = by_place(alloc, &[], 0, &[Finding::at(place, problem)])?;
+    Ok(Findings {
+        verdict: Verdict::Wrong,
+        list,
+        notes: Notes::NONE,
+        fault: None,
+    })
+}
+
+/// The text before the first byte that is not UTF-8.
+pub(crate) fn text_before(bytes: &[u8]) -> &str {
+    match str::from_utf8(bytes) {
+        Ok(text) => text,
         Err(error) => {
-            drop((warnings, fault));
-            Err(error)
+            let front = bytes.get(..error.valid_up_to()).unwrap_or(&[]);
+            str::from_utf8(front).unwrap_or("")
         }
     }
 }
 
-/// What is said beside a fault, if there is one: the bracket that is open, and help.
-fn notes_on(
+/// What is found in a text with these warnings, where the parser refuses it.
+fn refused(
+    alloc: Global,
+    text: &str,
+    warnings: &[PlacedWarning],
+    collections: &Open,
+    error: ScanError,
+    options: Options,
+) -> Result<Findings, AllocError>
+    ensures fault { IfOk result (λ found. found.fault ≡ Some error) }
+    ensures told { IfOk result (IsRefused options (chars text.now) warnings.now
+        (open_of collections.now) error.mark (string_bytes error.info)) }
+{
+    let told = told_of(alloc, text, collections, &error);
+    match told {
+        Ok(told) => match by_place(alloc, warnings, options.max_findings, &[told.error]) {
+            Ok(list) => Ok(Findings {
+                verdict: Verdict::Wrong,
+                list,
+                notes: told.notes,
+                fault: Some(error),
+            }),
+            Err(full) => {
+                drop(error);
+                Err(full)
+            }
+        },
+        Err(full) => {
+            drop(error);
+            Err(full)
+        }
+    }
+}
+
+/// How a fault is told.
+fn told_of(
     alloc: Global,
     text: &str,
     collections: &Open,
-    fault: &Option<ScanError>,
-) -> Result<(Option<Note>, Option<Note>), AllocError>
-    ensures opened { IfOk result (λ notes. notes.0
-        ≡ opened_on (chars text.now) (open_of collections.now) (fault_found fault.now)) }
-    ensures help { IfOk result (λ notes.
-        IsHelp (chars text.now) (open_of collections.now) (fault_found fault.now) notes.1) }
+    error: &ScanError,
+) -> Result<FaultTold, AllocError>
+    ensures { IfOk result (IsToldOf (chars text.now) (open_of collections.now) error.now.mark
+        (string_bytes error.now.info)) }
 {
-    let Some(error) = fault else {
-        return Ok((None, None));
-    };
     let text = characters(alloc, text)?;
     let opened = opened_note(&text, collections, error.mark);
     let help = help_on(&text, collections, error);
     drop(text);
-    Ok((opened, help))
+    Ok(tell_fault(error.mark, opened, help))
+}
+
+/// What is found in a text with these warnings, where the parser reads it.
+fn accepted(
+    alloc: Global,
+    text: &str,
+    warnings: &[PlacedWarning],
+    options: Options,
+) -> Result<Findings, AllocError>
+    ensures fault { IfOk result (λ found. found.fault ≡ None) }
+    ensures told { IfOk result (IsAccepted options (chars text.now) warnings.now) }
+{
+    let departed = asked_departures(alloc, text, options)?;
+    let verdict = verdict_of(warnings, &departed);
+    let list = by_place(alloc, warnings, options.max_findings, &departed);
+    drop(departed);
+    Ok(Findings {
+        verdict,
+        list: list?,
+        notes: Notes::NONE,
+        fault: None,
+    })
+}
+
+/// Where a text is not YAML 1.2.2, if that is asked for.
+fn asked_departures(alloc: Global, text: &str, options: Options) -> Result<Vec<Finding>, AllocError>
+    ensures { IfOk result (λ departed.
+        AreDepartures options (chars text.now) departed.items) }
+{
+    if !options.standard {
+        return Ok(Vec::new(alloc));
+    }
+    departures(alloc, text, options.max_findings)
+}
+
+/// What warnings and other findings say of a text that the parser reads.
+fn verdict_of(warnings: &[PlacedWarning], departed: &[Finding]) -> Verdict
+    ensures { result ≡ found.verdict_of warnings.now departed.now }
+{
+    match (warnings, departed) {
+        ([], []) => Verdict::Right,
+        (_, []) => Verdict::Warned,
+        _ => Verdict::Wrong,
+    }
+}
+
+/// The warnings, so many at most, and other findings, in the order of their places.
+fn by_place(
+    alloc: Global,
+    warnings: &[PlacedWarning],
+    most: usize,
+    others: &[Finding],
+) -> Result<Vec<Finding>, AllocError>
+    ensures { IfOk result (λ list.
+        IsByPlace (found.most_warned most warnings.now ++ others.now) list.items) }
+{
+    let mut list = first_warnings(alloc, warnings, most)?;
+    list.extend_from_slice(others)?;
+    list.sort_by_key(|finding| finding.span.start.index)?;
+    Ok(list)
+}
+
+/// So many warnings at most, and how many more there are.
+fn first_warnings(
+    alloc: Global,
+    warnings: &[PlacedWarning],
+    most: usize,
+) -> Result<Vec<Finding>, AllocError>
+    ensures { IfOk result (λ list. list.items ≡ found.most_warned most warnings.now) }
+{
+    match warnings.get(most) {
+        None => all_warnings(alloc, warnings),
+        Some(next) => {
+            let mut list = all_warnings(alloc, &warnings[..most])?;
+            list.push(Finding {
+                span: next.span,
+                problem: Problem::More(warnings.len() - most),
+            })?;
+            Ok(list)
+        }
+    }
+}
+
+fn all_warnings(alloc: Global, warnings: &[PlacedWarning]) -> Result<Vec<Finding>, AllocError>
+    ensures { IfOk result (λ list. list.items ≡ map found.warned warnings.now) }
+{
+    let mut list = Vec::new(alloc);
+    for warning in warnings {
+        list.push(Finding::of_warning(*warning))?;
+    }
+    Ok(list)
 }
 
 /// What the rules found in events, and what is open behind them.
 #[derive(Drop)]
 struct Checked {
-    warnings: Vec<Finding>,
+    warnings: Vec<PlacedWarning>,
     open: Open,
     fault: Option<ScanError>,
 }
@@ -110,17 +282,16 @@ struct Checked {
 fn check_events<T: Input + Drop>(
     alloc: Global,
     parser: Parser<'_, T>,
-    rules: RuleSet,
-    limits: Limits,
+    options: Options,
 ) -> Result<Checked, AllocError>
     ensures fault { IfOk result (λ checked.
         fault_found checked.fault ≡ (to_come parser.entry).fault) }
     ensures warnings { IfOk result (λ checked. checked.warnings.items
-        ≡ warned.warnings_on (to_come parser.entry).events (warned.nothing_seen rules limits)) }
+        ≡ warned.warnings_on (to_come parser.entry).events (warned.nothing_seen options.rules options.limits)) }
     ensures open { IfOk result (λ checked. open_of checked.open
         ≡ opened.open_on (to_come parser.entry).events opened.nothing_open) }
 {
-    let mut checker = Checker::new(alloc, rules, limits);
+    let mut checker = Checker::new(alloc, options.rules, options.limits);
     let ended = checker.take_all(parser);
     let warnings = replace(&mut checker.warnings, Vec::new(alloc));
     let open = replace(&mut checker.open, Open::new(alloc));
@@ -131,10 +302,10 @@ fn check_events<T: Input + Drop>(
             open,
             fault: None,
         }),
-        Err(Fault::Scan(error)) => Ok(Checked {
+        Err(Fault::Scan(refusal)) => Ok(Checked {
             warnings,
             open,
-            fault: Some(error),
+            fault: Some(refusal),
         }),
         Err(other) => {
             drop((other, warnings, open));
@@ -204,21 +375,21 @@ impl Checker {
     }
 
     /// Warns of a collection if as many as allowed are already open around it.
-    fn too_deep(&self, event: &Event, span: Span) -> Option<Finding>
+    fn too_deep(&self, event: &Event, span: Span) -> Option<PlacedWarning>
         ensures { result ≡ warned.depth_warning (seen_of self.now) (happening event.now) span }
     {
         let begins = matches!(event, Event::SequenceStart(..) | Event::MappingStart(..));
         if !begins || self.sizes.depth() != self.depth {
             return None;
         }
-        Some(Finding {
+        Some(PlacedWarning {
             span,
             warning: Warning::TooDeep(self.depth),
         })
     }
 
     /// Keeps a warning, if there is one and its rule is on.
-    fn warn(&mut self, told: Option<Finding>) -> Result<(), AllocError>
+    fn warn(&mut self, told: Option<PlacedWarning>) -> Result<(), AllocError>
         ensures told { OnOk result (self.new.warnings.items
             ≡ self.old.warnings.items ++ warned.told_by self.old.rules told) }
         ensures behind { seen_of self.new ≡ seen_of self.old }

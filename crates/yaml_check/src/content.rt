@@ -3,7 +3,7 @@ ghost use Rattle.std.specs.Prelude.{◌≡◌};
 ghost use Rattle.saphyr_parser.specs.Views.Events.{happening};
 ghost use Rattle.yaml_check.specs.Contents as spec;
 
-use crate::finding::{Finding, Warning};
+use crate::warning::{PlacedWarning, Warning};
 use saphyr_parser::{Event, ScalarStyle, Span};
 
 /// Looks for documents without content.
@@ -21,7 +21,7 @@ impl Content {
     }
 
     /// Takes an event with its span, and warns of a root that is left out.
-    pub(crate) fn take(&mut self, event: &Event, span: Span) -> Option<Finding>
+    pub(crate) fn take(&mut self, event: &Event, span: Span) -> Option<PlacedWarning>
         ensures told { result ≡ spec.content_warning self.old.begun (happening event.now) }
         ensures behind { self.new.begun ≡ spec.begun_behind (happening event.now) span }
     {
@@ -33,7 +33,7 @@ impl Content {
         if !is_empty_node(event) {
             return None;
         }
-        begun.map(|span| Finding {
+        begun.map(|span| PlacedWarning {
             span,
             warning: Warning::EmptyDocument,
         })

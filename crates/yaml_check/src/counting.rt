@@ -3,7 +3,7 @@ ghost use Rattle.std.specs.Prelude.{◌≡◌};
 ghost use Rattle.saphyr_parser.specs.Views.Events.{happening};
 ghost use Rattle.yaml_check.specs.Counting as spec;
 
-use crate::finding::{Finding, Warning};
+use crate::warning::{PlacedWarning, Warning};
 use saphyr_parser::{Event, Span};
 
 /// Looks for the first node over the limit.
@@ -27,7 +27,7 @@ impl Count {
     }
 
     /// Takes an event with its span, and warns of the first node over the limit.
-    pub(crate) fn take(&mut self, event: &Event, span: Span) -> Option<Finding>
+    pub(crate) fn take(&mut self, event: &Event, span: Span) -> Option<PlacedWarning>
         ensures told { result
             ≡ spec.node_warning self.old.most self.old.left (happening event.now) span }
         ensures behind { self.new.left ≡ spec.left_behind (happening event.now) self.old.left }
@@ -41,7 +41,7 @@ impl Count {
         if left > 0 {
             return None;
         }
-        Some(Finding {
+        Some(PlacedWarning {
             span,
             warning: Warning::TooManyNodes(self.most),
         })

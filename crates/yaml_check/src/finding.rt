@@ -1,194 +1,207 @@
-//! What was found in a text: the parser's fault, and warnings.
-ghost use Rattle.std.specs.Prelude.{◌≡◌, ◌↔◌, IsTrue};
-ghost use Rattle.yaml_check.specs.Checks.{IsClean, IsVerdict};
-ghost use Rattle.yaml_check.specs.Warned.{rule_of};
+//! What is found in a text: errors and warnings, each with its place, its rule and a message.
+ghost use Rattle.std.specs.Prelude.{◌≡◌, ◌≢◌, false, IfOk, IsTrue, string_bytes};
+ghost use Rattle.yaml_check.specs.Found as spec;
+ghost use Rattle.yaml_check.specs.Told.{severity_word};
+ghost use Rattle.yaml_check.specs.declared.finding.Verdict.TheVariants.{Right};
 
-use crate::rules::Rule;
+use crate::note::{Note, Remark};
+use crate::warning::{PlacedWarning, Warning};
 use saphyr_parser::{Marker, ScanError, Span};
-use std::fmt;
-
-/// What may be wrong with a text that the parser accepts.
-#[derive(Clone, Copy, Debug)]
-pub enum Warning {
-    /// Its mapping has an equal key before, at this place.
-    DuplicateKey(Marker),
-    /// The node that the alias stands for contains it.
-    AliasInItself,
-    /// The alias stands for more nodes than this, including those that other aliases stand for.
-    WideAlias(usize),
-    EmptyDocument,
-    /// More collections than this are open at once.
-    TooDeep(usize),
-    TooManyNodes(usize),
-}
-
-impl Warning {
-    /// The rule that gives it.
-    #[must_use]
-    pub fn rule(self) -> Rule
-        ensures { result ≡ rule_of self }
-    {
-        match self {
-            Warning::DuplicateKey(_) => Rule::DuplicateKey,
-            Warning::AliasInItself => Rule::AliasInItself,
-            Warning::WideAlias(_) => Rule::WideAlias,
-            Warning::EmptyDocument => Rule::EmptyDocument,
-            Warning::TooDeep(_) => Rule::MaxDepth,
-            Warning::TooManyNodes(_) => Rule::MaxNodes,
-        }
-    }
-}
-
-/// A warning, and what it is on.
-#[derive(Clone, Copy, Debug)]
-pub struct Finding {
-    pub span: Span,
-    pub warning: Warning,
-}
-
-/// What is said beside a fault.
-#[derive(Clone, Copy, Debug)]
-pub enum Remark {
-    /// The sequence that begins here with a bracket is open.
-    SequenceOpen,
-    MappingOpen,
-    /// A collection without brackets is open, and what is refused is not in it.
-    SequenceColumn,
-    MappingColumn,
-    /// The line has no colon that makes it a key.
-    NoColon,
-    /// The text of the line goes on up to a colon on the next.
-    LineGoesOn,
-    ColonInText,
-    /// No text without quotes begins with the character.
-    FirstCharacter,
-    QuotesOpen,
-    /// What is refused comes behind the quotes that begin here.
-    QuotesEnd,
-    Escape,
-    Tab,
-    /// A sequence begins on the line of its key.
-    SequenceLine,
-    /// A closing bracket is not indented.
-    BracketColumn,
-    UnknownAlias,
-    ConflictMarker,
-}
-
-/// A remark and its place.
-#[derive(Clone, Copy, Debug)]
-pub struct Note {
-    pub place: Marker,
-    pub remark: Remark,
-}
+use std::alloc::{AllocError, Global};
 
 /// What was found in a file, in short.
-#[derive(Clone, Copy)]
+#[derive(Clone, Copy, Debug)]
 pub enum Verdict {
     Right,
-    /// It has warnings, and no fault.
+    /// It has warnings, and no error.
     Warned,
-    /// It has a fault, or is no text.
+    /// It has an error.
     Wrong,
 }
 
-/// What was found in a text, in the order of its events. The fault ends them.
+impl Verdict {
+    #[must_use]
+    pub fn is_right(self) -> bool
+        ensures yes { IsTrue result → self ≡ Right }
+        ensures no { result ≡ false → self ≢ Right }
+    {
+        matches!(self, Verdict::Right)
+    }
+}
+
+/// How bad a finding is.
+#[derive(Clone, Copy, Debug)]
+pub enum Severity {
+    Error,
+    Warning,
+    /// It says more of an error, or that warnings are left out.
+    Note,
+}
+
+impl Severity {
+    #[must_use]
+    pub fn word(self) -> &'static str
+        ensures { result.now ≡ severity_word self }
+    {
+        match self {
+            Severity::Error => "error",
+            Severity::Warning => "warning",
+            Severity::Note => "note",
+        }
+    }
+}
+
+/// What a finding is about.
+#[derive(Clone, Copy, Debug)]
+pub enum Problem {
+    /// The parser refuses the text here, and its fault has the words.
+    Fault,
+    /// The parser refuses the text, and a person mends it here.
+    Mistake(Remark),
+    /// On an error: the parser refuses the text here.
+    Stop,
+    /// On an error: what else is known.
+    Remark(Remark),
+    Warning(Warning),
+    /// So many more warnings begin here, and are left out.
+    More(usize),
+    /// The parser reads the text, and it is not YAML 1.2.2.
+    Departure(yaml_standard::Rule),
+    NotUtf8,
+    Utf16,
+}
+
+impl Problem {
+    #[must_use]
+    pub fn severity(self) -> Severity
+        ensures { result ≡ spec.severity_of self }
+    {
+        match self {
+            Problem::Fault
+            | Problem::Mistake(_)
+            | Problem::Departure(_)
+            | Problem::NotUtf8
+            | Problem::Utf16 => Severity::Error,
+            Problem::Warning(_) => Severity::Warning,
+            Problem::Stop | Problem::Remark(_) | Problem::More(_) => Severity::Note,
+        }
+    }
+
+    /// The name of its rule: of the parser's faults, and of what is said of them, it is `syntax`.
+    #[must_use]
+    pub fn rule(self) -> &'static str
+        ensures { spec.IsKnown (spec.rule_of_problem self) result.now }
+    {
+        match self {
+            Problem::Fault | Problem::Mistake(_) | Problem::Stop | Problem::Remark(_) => "syntax",
+            Problem::Warning(warning) => warning.rule().name(),
+            Problem::More(_) => "max-findings",
+            Problem::Departure(rule) => rule.name(),
+            Problem::NotUtf8 | Problem::Utf16 => "encoding",
+        }
+    }
+
+    /// What it says, where the parser's fault has these words.
+    fn message(self, alloc: Global, words: &str) -> Result<String, AllocError>
+        ensures { IfOk result (λ text.
+            spec.IsKnown (spec.message_of words.now self) (string_bytes text)) }
+    {
+        match self {
+            Problem::Fault => String::from_str(alloc, words),
+            Problem::Mistake(remark) | Problem::Remark(remark) => {
+                String::from_str(alloc, remark.text())
+            }
+            Problem::Stop => format!(in alloc; "the parser stops here: {words}"),
+            Problem::Warning(warning) => format!(in alloc; "{warning}"),
+            Problem::More(count) => format!(in alloc; "{count} more warnings begin here"),
+            Problem::Departure(rule) => String::from_str(alloc, rule.sentence()),
+            Problem::NotUtf8 => String::from_str(alloc, "the text is not UTF-8 from here on"),
+            Problem::Utf16 => String::from_str(alloc, "the text is UTF-16, and not UTF-8"),
+        }
+    }
+}
+
+/// One thing that is found in a text, and what it is on. That of a warning is an event; another has no width.
+#[derive(Clone, Copy, Debug)]
+pub struct Finding {
+    pub span: Span,
+    pub problem: Problem,
+}
+
+impl Finding {
+    /// A problem at a place.
+    pub(crate) fn at(place: Marker, problem: Problem) -> Finding
+        ensures { result ≡ spec.at_place place problem }
+    {
+        Finding {
+            span: Span::empty(place),
+            problem,
+        }
+    }
+
+    pub(crate) fn of_warning(warning: PlacedWarning) -> Finding
+        ensures { result ≡ spec.warned warning }
+    {
+        Finding {
+            span: warning.span,
+            problem: Problem::Warning(warning.warning),
+        }
+    }
+
+    pub(crate) fn of_note(note: Note) -> Finding
+        ensures { result ≡ spec.noted note }
+    {
+        Finding::at(note.place, Problem::Remark(note.remark))
+    }
+}
+
+/// What is said beside an error.
+#[derive(Clone, Copy, Debug)]
+pub struct Notes {
+    pub first: Option<Finding>,
+    pub second: Option<Finding>,
+}
+
+impl Notes {
+    pub(crate) const NONE: Notes = Notes {
+        first: None,
+        second: None,
+    };
+}
+
+/// What is found in a text.
 #[derive(Drop)]
 pub struct Findings {
-    pub warnings: Vec<Finding>,
+    pub verdict: Verdict,
+    /// Errors and warnings, in the order of their places.
+    pub list: Vec<Finding>,
+    /// On the error of a text that the parser refuses.
+    pub notes: Notes,
+    /// The parser's fault, which ends the events.
     pub fault: Option<ScanError>,
-    /// The bracket that is open where the fault comes.
-    pub opened: Option<Note>,
-    /// Help on the fault.
-    pub help: Option<Note>,
 }
 
 impl Findings {
-    /// Whether nothing was found.
+    /// The message of a finding or a note.
+    pub fn message(&self, alloc: Global, finding: Finding) -> Result<String, AllocError>
+        ensures { IfOk result (λ text. spec.IsKnown
+            (spec.message_of (spec.words_of self.now.fault) finding.problem) (string_bytes text)) }
+    {
+        let words = match &self.fault {
+            Some(error) => error.info.as_str(),
+            None => "",
+        };
+        finding.problem.message(alloc, words)
+    }
+
+    /// What is said beside a finding: there are notes on the parser's fault alone.
     #[must_use]
-    pub fn is_empty(&self) -> bool
-        ensures { IsTrue result ↔ IsClean self.now }
+    pub fn notes_on(&self, finding: Finding) -> Notes
+        ensures { result ≡ spec.notes_on self.now.notes finding.problem }
     {
-        self.warnings.is_empty() && self.fault.is_none()
-    }
-
-    /// What they say of the text.
-    #[must_use]
-    pub fn verdict(&self) -> Verdict
-        ensures { IsVerdict result self.now }
-    {
-        if self.fault.is_some() {
-            Verdict::Wrong
-        } else if self.warnings.is_empty() {
-            Verdict::Right
-        } else {
-            Verdict::Warned
-        }
-    }
-}
-
-impl fmt::Display for Warning {
-    ghost use Rattle.std.specs.Prelude.{Some};
-    ghost use Rattle.yaml_check.specs.Texts.{warning_text};
-
-    ghost output = { λ warning. Some (warning_text warning) };
-
-    fn fmt<W: fmt::Write>(&self, f: &mut fmt::Formatter<W>) -> fmt::Result {
-        match self {
-            Warning::DuplicateKey(first) => write!(f, "duplicate key; first at {first}"),
-            Warning::AliasInItself => write!(f, "this alias is inside the node that it repeats"),
-            Warning::WideAlias(most) => write!(f, "this alias stands for more than {most} nodes"),
-            Warning::EmptyDocument => write!(f, "this document has no content"),
-            Warning::TooDeep(most) => write!(f, "more than {most} collections are open here"),
-            Warning::TooManyNodes(most) => write!(f, "the text has more than {most} nodes"),
-        }
-    }
-}
-
-impl fmt::Display for Remark {
-    ghost use Rattle.std.specs.Prelude.{Some};
-    ghost use Rattle.yaml_check.specs.Texts.{remark_text};
-
-    ghost output = { λ remark. Some (remark_text remark) };
-
-    fn fmt<W: fmt::Write>(&self, f: &mut fmt::Formatter<W>) -> fmt::Result {
-        f.write_str(self.text())
-    }
-}
-
-impl Remark {
-    ghost use Rattle.yaml_check.specs.Texts.{remark_text};
-
-    /// What it says.
-    pub(crate) fn text(self) -> &'static str
-        ensures { result.now ≡ remark_text self }
-    {
-        match self {
-            Remark::SequenceOpen => "the sequence that begins here is not closed yet",
-            Remark::MappingOpen => "the mapping that begins here is not closed yet",
-            Remark::SequenceColumn => "the dashes of this sequence are in this column",
-            Remark::MappingColumn => "the keys of this mapping begin in this column",
-            Remark::NoColon => "a ':' with a blank behind it is missing in this line",
-            Remark::LineGoesOn => {
-                "this goes on in the next line: is a ':' missing, or that line indented too far?"
-            }
-            Remark::ColonInText => "a text with ': ' in it needs quotes",
-            Remark::FirstCharacter => "a text that begins with this character needs quotes",
-            Remark::QuotesOpen => {
-                "these quotes are not closed, or a line in them is not indented"
-            }
-            Remark::QuotesEnd => {
-                "the quotes from here on end before that: is a comma, a colon or an escape missing?"
-            }
-            Remark::Escape =>
-                "this is no character's escape; in single quotes a backslash stands for itself",
-            Remark::Tab => "indent with spaces: a tab is no indentation",
-            Remark::SequenceLine => "a sequence begins on a line of its own, below its key",
-            Remark::BracketColumn => "indent each line between brackets, and the closing one",
-            Remark::UnknownAlias => {
-                "no anchor has this name; a text that begins with * needs quotes"
-            }
-            Remark::ConflictMarker => "this is the marker of a conflict between versions",
+        match finding.problem {
+            Problem::Fault | Problem::Mistake(_) => self.notes,
+            _ => Notes::NONE,
         }
     }
 }

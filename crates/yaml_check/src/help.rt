@@ -1,15 +1,24 @@
 //! A sentence of help on a fault, at the place where people mend it.
-ghost use Rattle.std.specs.Prelude.{◌≡◌, ◌≤◌, ◌<◌, length, string_bytes, IfSome, IsTrue, true, slice_index};
+ghost use Rattle.std.specs.Prelude.{◌≡◌, ◌≤◌, ◌<◌, length, string_bytes, IfSome, IsTrue};
 ghost use Rattle.yaml_check.specs.Helps as spec;
 ghost use Rattle.yaml_check.specs.OpenSeen.{open_of};
 
+use crate::brackets::opened_note;
 use crate::escapes::bad_escape;
-use crate::finding::{Note, Remark};
-use crate::lines::{conflict_marker, has_colon, line_before, quote_before};
-use crate::open::Open;
-use crate::places::place_of_index;
+use crate::lines::{
+    behind_dashes, block_scalar_above, colon_above, conflict_marker, content, has_colon, has_key,
+    line_before, line_end, text_line,
+};
+use crate::note::{Note, Remark};
+use crate::open::{Open, Shape};
+use crate::places::{line_start, place_of_index};
+use crate::remarks::remarks_on;
+use crate::signs::{
+    allowed_tab, apostrophe, closing_bracket, colon_behind_tag, colon_without_blank,
+    is_allowed_line, is_colon_below, is_dash_in_text, is_dash_without_blank, json_quote,
+    lacks_comma, quote_before, sign_between, tab_near, template_before, typographers_quote,
+};
 use saphyr_parser::{Marker, ScanError};
-use saphyr_scalar::FaultText;
 
 /// Help on a fault, if there is any.
 pub(crate) fn help_on(text: &[char], collections: &Open, error: &ScanError) -> Option<Note>
@@ -23,9 +32,14 @@ pub(crate) fn help_on(text: &[char], collections: &Open, error: &ScanError) -> O
             remark: Remark::ConflictMarker,
         });
     }
-    let remark = remark_on(error.info.as_str(), has_colon(text, end))?;
-    let place = place_of_help(remark, text, collections, error.mark)?;
-    Some(Note { place, remark })
+    let remarks = remarks_on(error.info.as_str());
+    for k in 0..remarks.len() {
+        let remark = remarks[k];
+        if let Some(place) = place_of_help(remark, text, collections, error.mark) {
+            return Some(Note { place, remark });
+        }
+    }
+    None
 }
 
 /// Where a remark on a fault is told, if there is what it speaks of.
@@ -33,108 +47,117 @@ fn place_of_help(remark: Remark, text: &[char], collections: &Open, fault: Marke
     ensures { IfSome result (spec.IsPlaceOfHelp remark text.now (open_of collections.now) fault) }
 {
     let end = fault.index.min(text.len());
+    if remark.is_of_collection() {
+        return place_of_collection(remark, text, collections);
+    }
+    if remark.is_at_fault() {
+        let is_so = is_so_at_fault(remark, text, collections, fault);
+        return if is_so { Some(fault) } else { None };
+    }
+    let at = index_of_help(remark, text, collections, end)?;
+    Some(place_of_index(text, at))
+}
+
+/// Where the innermost collection begins, if a remark tells of it.
+fn place_of_collection(remark: Remark, text: &[char], collections: &Open) -> Option<Marker>
+    ensures { IfSome result (spec.IsPlaceOfCollection remark text.now (open_of collections.now)) }
+{
+    let place = collections.innermost()?.span.start;
     match remark {
-        Remark::MappingColumn | Remark::SequenceColumn => {
-            let start = collections.innermost()?;
-            Some(start.span.start)
-        }
-        Remark::NoColon | Remark::LineGoesOn => {
-            let at = line_before(text, end)?;
-            Some(place_of_index(text, at))
-        }
-        Remark::Escape => {
-            let at = bad_escape(text, end)?;
-            Some(place_of_index(text, at))
-        }
-        Remark::QuotesEnd => {
-            let at = quote_before(text, end)?;
-            Some(place_of_index(text, at))
-        }
-        Remark::ColonInText
-        | Remark::FirstCharacter
-        | Remark::QuotesOpen
-        | Remark::Tab
-        | Remark::SequenceLine
-        | Remark::BracketColumn
-        | Remark::UnknownAlias => Some(fault),
-        Remark::SequenceOpen | Remark::MappingOpen | Remark::ConflictMarker => None,
+        Remark::MappingColumn | Remark::SequenceColumn => Some(place),
+        Remark::KeyBeginsWithDash if is_dash_without_blank(text, place.index.min(text.len())) =>
+            Some(place),
+        _ => None,
     }
 }
 
-/// The help for a fault with this message, where a colon comes before it on its line or not.
-fn remark_on(message: &str, after_colon: bool) -> Option<Remark>
-    ensures { result ≡ spec.remark_on after_colon message.now }
+/// Whether a remark is right at a fault.
+fn is_so_at_fault(remark: Remark, text: &[char], collections: &Open, fault: Marker) -> bool
+    ensures { IsTrue result → spec.IsAtFault remark text.now (open_of collections.now) fault }
 {
-    if is_on_quotes(message) {
-        Some(Remark::QuotesOpen)
-    } else if is_on_escape(message) {
-        Some(Remark::Escape)
-    } else if is_on_tab(message) {
-        Some(Remark::Tab)
-    } else if message == FaultText::ValueNotAllowed.words() {
-        Some(if after_colon {
-            Remark::ColonInText
-        } else {
-            Remark::LineGoesOn
-        })
-    } else if message == FaultText::ContentAfterQuotes.words() {
-        Some(Remark::QuotesEnd)
-    } else {
-        remark_on_structure(message)
+    let end = fault.index.min(text.len());
+    match remark {
+        Remark::ColonInText => has_colon(text, end),
+        Remark::Mixed => match collections.innermost() {
+            Some(start) => start.span.start.col == fault.col && is_mixed(start.shape, text, end),
+            None => false,
+        },
+        Remark::BracketColumn => closing_bracket(text, end).is_some(),
+        Remark::MissingComma => {
+            opened_note(text, collections, fault).is_some() && lacks_comma(text, end)
+        }
+        Remark::AllowedColon => is_colon_below(text, end),
+        Remark::AllowedDash => is_dash_in_text(text, end),
+        Remark::AllowedLine => is_allowed_line(text, end),
+        Remark::AllowedQuestionMark => end == text.len() && end > 0 && text[end - 1] == '?',
+        _ => true,
     }
 }
 
-/// The same for faults of what comes where.
-fn remark_on_structure(message: &str) -> Option<Remark>
-    ensures { result ≡ spec.remark_on_structure message.now }
+/// Whether an entry is among keys, or something else among entries.
+fn is_mixed(shape: Shape, text: &[char], end: usize) -> bool
+    requires { end ≤ length text.now }
 {
-    if message == FaultText::KeyWithoutColon.words() {
-        Some(Remark::NoColon)
-    } else if message == FaultText::SequenceEntryNotAllowed.words() {
-        Some(Remark::SequenceLine)
-    } else if message == FaultText::BlockMappingKeyExpected.words() {
-        Some(Remark::MappingColumn)
-    } else if message == FaultText::SequenceEntryExpected.words() {
-        Some(Remark::SequenceColumn)
-    } else if message == FaultText::UnknownAnchor.words() {
-        Some(Remark::UnknownAlias)
-    } else if is_on_first_character(message) {
-        Some(Remark::FirstCharacter)
-    } else if message == FaultText::InvalidIndentation.words() {
-        Some(Remark::BracketColumn)
+    match shape {
+        Shape::Sequence => true,
+        Shape::Mapping => end < text.len() && text[end] == '-',
+    }
+}
+
+/// The index of what a remark on a fault tells of.
+fn index_of_help(remark: Remark, text: &[char], collections: &Open, end: usize) -> Option<usize>
+    requires { end ≤ length text.now }
+    ensures within { IfSome result (λ at. at ≤ length text.now) }
+    ensures is { IfSome result (spec.IsIndexOfHelp remark text.now end) }
+{
+    match remark {
+        Remark::Tab => tab_near(text, end),
+        Remark::AllowedTab => allowed_tab(text, end),
+        Remark::AllowedFirstTab => match collections.innermost() {
+            Some(_) => None,
+            None => tab_near(text, end),
+        },
+        Remark::AllowedColonBehindTag => colon_behind_tag(text, end),
+        Remark::Escape => bad_escape(text, end),
+        Remark::QuotesEnd => quote_before(text, end),
+        Remark::Apostrophe => apostrophe(text, end),
+        Remark::JsonText => json_quote(text, end),
+        Remark::Template => template_before(text, end),
+        Remark::TypographersQuote => typographers_quote(text, end),
+        Remark::TooFarRight => key_too_far(text, end),
+        _ => index_on_line(remark, text, end),
+    }
+}
+
+/// The same on the line of a text before the fault.
+fn index_on_line(remark: Remark, text: &[char], end: usize) -> Option<usize>
+    requires { end ≤ length text.now }
+    ensures within { IfSome result (λ at. at ≤ length text.now) }
+    ensures is { IfSome result (spec.IsIndexOfHelp remark text.now end) }
+{
+    let at = text_line(text, end)?;
+    match remark {
+        Remark::NoBreakSpace | Remark::IdeographicSpace | Remark::OtherSpace | Remark::ZeroWidth =>
+            sign_between(remark, text, line_start(text, at), line_end(text, at)),
+        Remark::NoBlankBehindDash if is_dash_without_blank(text, at) => Some(at),
+        Remark::NoBlankBehindColon => colon_without_blank(text, behind_dashes(text, at)),
+        Remark::BlockScalarColumn if block_scalar_above(text, at).is_some() => Some(at),
+        Remark::ValueColumn if colon_above(text, at).is_some() => Some(at),
+        Remark::NoColon => Some(behind_dashes(text, at)),
+        _ => None,
+    }
+}
+
+/// Where the line of a fault begins, if the line before is a key with its value.
+fn key_too_far(text: &[char], end: usize) -> Option<usize>
+    requires { end ≤ length text.now }
+    ensures within { IfSome result (λ at. at ≤ length text.now) }
+    ensures begins { IfSome result (spec.BeginsLine text.now end) }
+{
+    let before = line_before(text, end)?;
+    if has_key(text, before) {
+        content(text, line_start(text, end), line_end(text, end))
     } else {
         None
     }
-}
-
-fn is_on_first_character(message: &str) -> bool
-    ensures { result ≡ spec.is_on_first_character message.now }
-{
-    message == "unexpected character: `@'"
-        || message == "unexpected character: ``'"
-        || message == "unexpected character: `%'"
-}
-
-fn is_on_quotes(message: &str) -> bool
-    ensures { result ≡ spec.is_on_quotes message.now }
-{
-    message == FaultText::QuotedIndentation.words()
-        || message == FaultText::EndInsideQuotes.words()
-        || message == FaultText::DocumentIndicatorInsideQuotes.words()
-}
-
-fn is_on_escape(message: &str) -> bool
-    ensures { result ≡ spec.is_on_escape message.now }
-{
-    message == FaultText::UnknownEscape.words()
-        || message == FaultText::HexadecimalDigitExpected.words()
-        || message == FaultText::EscapedCodePoint.words()
-}
-
-fn is_on_tab(message: &str) -> bool
-    ensures { result ≡ spec.is_on_tab message.now }
-{
-    message == FaultText::TabInBlockIndentation.words()
-        || message == FaultText::TabAsIndentation.words()
-        || message == FaultText::TabNotAllowed.words()
 }

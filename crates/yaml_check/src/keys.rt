@@ -3,7 +3,7 @@ ghost use Rattle.std.specs.Prelude.{◌≡◌, None, IfOk, OnOk, option_map};
 ghost use Rattle.saphyr_parser.specs.Views.Events.{happening, resolved_tag};
 ghost use Rattle.yaml_check.specs.Keys as spec;
 
-use crate::finding::{Finding, Warning};
+use crate::warning::{PlacedWarning, Warning};
 use saphyr_parser::{Event, Marker, Span, Tag};
 use std::alloc::{AllocError, Global};
 use std::collections::BTreeMap;
@@ -94,7 +94,11 @@ impl Keys {
     }
 
     /// Takes an event with its span, and warns of a key that its mapping had before.
-    pub(crate) fn take(&mut self, event: &Event, span: Span) -> Result<Option<Finding>, AllocError>
+    pub(crate) fn take(
+        &mut self,
+        event: &Event,
+        span: Span,
+    ) -> Result<Option<PlacedWarning>, AllocError>
         ensures told { IfOk result (λ told.
             told ≡ spec.key_warning (seen.keys_of self.old) (happening event.now) span) }
         ensures behind { OnOk result (seen.keys_of self.new
@@ -103,7 +107,7 @@ impl Keys {
         match event {
             Event::Scalar(text, _, _, tag) => {
                 let first = self.take_scalar(text.as_str(), tag, span.start)?;
-                Ok(first.map(|first| Finding {
+                Ok(first.map(|first| PlacedWarning {
                     span,
                     warning: Warning::DuplicateKey(first),
                 }))
@@ -148,7 +152,7 @@ impl Keys {
     }
 
     /// A collection begins, and the next node in it is this.
-    fn open(&mut self, next: Next) -> Result<Option<Finding>, AllocError>
+    fn open(&mut self, next: Next) -> Result<Option<PlacedWarning>, AllocError>
         ensures none { IfOk result (λ told. told ≡ None) }
         ensures behind { OnOk result (seen.keys_of self.new
             ≡ spec.keys_inside next (seen.keys_of self.old)) }

@@ -1,4 +1,4 @@
-//! What is on the line of a fault, and on the line before.
+//! What is on the line of a fault, and on the lines before.
 ghost use Rattle.std.specs.Prelude.{◌≡◌, ◌<◌, ◌≤◌, length, slice_index, IfSome, IsTrue};
 ghost use Rattle.yaml_check.specs.Helps as spec;
 
@@ -54,7 +54,8 @@ fn is_marker_character(c: char) -> bool
 /// Where the last line before that of a place begins which has more than blanks and a comment.
 pub(crate) fn line_before(text: &[char], end: usize) -> Option<usize>
     requires { end ≤ length text.now }
-    ensures { IfSome result (spec.BeginsContent text.now end) }
+    ensures before { IfSome result (λ at. at < end) }
+    ensures begins { IfSome result (spec.BeginsContent text.now end) }
 {
     let mut end = line_start(text, end);
     while end > 0 {
@@ -69,7 +70,7 @@ pub(crate) fn line_before(text: &[char], end: usize) -> Option<usize>
 }
 
 /// Where the content of a line begins, if it has more than blanks and a comment.
-fn content(text: &[char], start: usize, end: usize) -> Option<usize>
+pub(crate) fn content(text: &[char], start: usize, end: usize) -> Option<usize>
     requires { end ≤ length text.now }
     ensures { IfSome result (spec.IsLineContent text.now start end) }
 {
@@ -86,44 +87,150 @@ fn content(text: &[char], start: usize, end: usize) -> Option<usize>
     None
 }
 
-/// Whether a colon comes before a place on its line.
-pub(crate) fn has_colon(text: &[char], end: usize) -> bool
+/// The line before that of a place, or one further up of which it may be the rest: a line without a key goes up to the
+/// leftmost of the lines without one above it.
+pub(crate) fn text_line(text: &[char], end: usize) -> Option<usize>
     requires { end ≤ length text.now }
+    ensures before { IfSome result (λ at. at < end) }
+    ensures begins { IfSome result (spec.BeginsContent text.now end) }
 {
-    text[line_start(text, end)..end].contains(&':')
+    let mut found = line_before(text, end)?;
+    let mut at = found;
+    while !has_key(text, at) {
+        if column(text, at) < column(text, found) {
+            found = at;
+        }
+        let Some(above) = line_before(text, at) else {
+            break;
+        };
+        at = above;
+    }
+    Some(found)
 }
 
-/// The opening quote of the quoted text that ends before a place, but for blanks.
-pub(crate) fn quote_before(text: &[char], end: usize) -> Option<usize>
-    requires { end ≤ length text.now }
-    ensures { IfSome result (spec.IsQuote text.now end) }
+/// The last line above that of a place which is not further right.
+fn line_above(text: &[char], at: usize) -> Option<usize>
+    requires { at ≤ length text.now }
+    ensures before { IfSome result (λ above. above < at) }
+    ensures begins { IfSome result (spec.BeginsContent text.now at) }
 {
-    let mut close = end;
-    while close > 0 && is_space_or_tab(text[close - 1]) {
-        close -= 1;
+    let mut above = line_before(text, at)?;
+    while column(text, above) > column(text, at) {
+        above = line_before(text, above)?;
     }
-    if close == 0 {
+    Some(above)
+}
+
+/// The column of the character at an index.
+pub(crate) fn column(text: &[char], at: usize) -> usize
+    requires { at ≤ length text.now }
+{
+    at - line_start(text, at)
+}
+
+/// Where the line of a place ends.
+pub(crate) fn line_end(text: &[char], at: usize) -> usize
+    requires { at ≤ length text.now }
+    ensures within { result ≤ length text.now }
+    ensures behind { at ≤ result }
+{
+    for end in at..text.len() {
+        if is_end_of_line(text[end]) {
+            return end;
+        }
+    }
+    text.len()
+}
+
+/// Whether a character is followed by no other, a blank or a break.
+pub(crate) fn is_blank_behind(text: &[char], at: usize) -> bool
+    requires { at < length text.now }
+    ensures { result ≡ spec.is_blank_behind text.now at }
+{
+    at + 1 >= text.len() || is_space_or_tab(text[at + 1]) || is_end_of_line(text[at + 1])
+}
+
+/// Whether a colon that makes a key comes on the line of a place, from there on.
+pub(crate) fn has_key(text: &[char], start: usize) -> bool
+    requires { start ≤ length text.now }
+{
+    for at in start..line_end(text, start) {
+        if text[at] == ':' && is_blank_behind(text, at) {
+            return true;
+        }
+    }
+    false
+}
+
+/// What comes behind the dashes of entries that begin at a place.
+pub(crate) fn behind_dashes(text: &[char], start: usize) -> usize
+    requires { start < length text.now }
+    ensures { spec.IsBehindDashes text.now start result }
+{
+    for at in start..text.len() {
+        let is_entry = text[at] == '-' && is_blank_behind(text, at);
+        if !is_entry && !is_space_or_tab(text[at]) {
+            return at;
+        }
+    }
+    start
+}
+
+/// The colon that ends the line above, if a place is in the column of that line.
+pub(crate) fn colon_above(text: &[char], at: usize) -> Option<usize>
+    requires { at ≤ length text.now }
+    ensures { IfSome result (spec.IsColonBefore text.now at) }
+{
+    let above = line_above(text, at)?;
+    if column(text, above) != column(text, at) || line_before(text, at) != Some(above) {
         return None;
     }
-    let quote = text[close - 1];
-    if quote == '"' || quote == '\'' {
-        opening_quote(text, close - 1, quote)
+    let last = last_character(text, above, false)?;
+    if last < at && text[last] == ':' {
+        Some(last)
     } else {
         None
     }
 }
 
-/// The last such quote before a place that no backslash precedes.
-fn opening_quote(text: &[char], close: usize, quote: char) -> Option<usize>
-    requires { close ≤ length text.now }
-    ensures { IfSome result (spec.IsQuoteBefore text.now close quote) }
+/// The sign of the block scalar above, if a place is left of its lines.
+pub(crate) fn block_scalar_above(text: &[char], at: usize) -> Option<usize>
+    requires { at ≤ length text.now }
+    ensures { IfSome result (spec.IsBlockScalarBefore text.now at) }
 {
-    let mut at = close;
-    while at > 0 {
-        at -= 1;
-        if text[at] == quote && (at == 0 || text[at - 1] != '\\') {
-            return Some(at);
+    let above = line_above(text, at)?;
+    if line_before(text, at) == Some(above) {
+        return None;
+    }
+    let last = last_character(text, above, true)?;
+    let is_header = last > above && is_space_or_tab(text[last - 1]);
+    if is_header && last < at && (text[last] == '|' || text[last] == '>') {
+        Some(last)
+    } else {
+        None
+    }
+}
+
+/// The last character of a line that is no blank, and in a block scalar's header no indicator.
+fn last_character(text: &[char], start: usize, is_header: bool) -> Option<usize>
+    requires { start ≤ length text.now }
+    ensures { IfSome result (λ at. at < length text.now) }
+{
+    let mut end = line_end(text, start);
+    while end > start {
+        end -= 1;
+        let c = text[end];
+        let is_indicator = c == '-' || c == '+' || c.is_ascii_digit();
+        if !is_space_or_tab(c) && !(is_header && is_indicator) {
+            return Some(end);
         }
     }
     None
+}
+
+/// Whether a colon comes before a place on its line.
+pub(crate) fn has_colon(text: &[char], end: usize) -> bool
+    requires { end ≤ length text.now }
+{
+    text[line_start(text, end)..end].contains(&':')
 }

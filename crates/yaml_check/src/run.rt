@@ -6,9 +6,9 @@ ghost use Rattle.yaml_check.specs.Statuses.{AllPass, OneUnchecked};
 ghost use Rattle.yaml_check.specs.Checks.{Checks, IsWrong, Judges, JudgesBytes, WritesLines, WritesTold, events_asked, told_unless_quiet};
 
 use crate::arguments::Options;
-use crate::checking::check_text;
+use crate::checking::{check_text, not_utf8, text_before};
 use crate::finding::Verdict;
-use crate::telling::{Error, report, report_errors};
+use crate::telling::report;
 use saphyr_parser::{DumpFault, Fault, Parser, dump};
 use std::alloc::{AllocError, Global};
 use std::io;
@@ -81,7 +81,7 @@ pub fn check_source<R: Read, W: Write>(
 }
 
 /// All bytes of a source.
-pub(crate) fn read_source<R: Read>(alloc: Global, source: &mut R) -> io::Result<Vec<u8>>
+fn read_source<R: Read>(alloc: Global, source: &mut R) -> io::Result<Vec<u8>>
     ensures { IfOk result (λ bytes.
         ReadsAll (R.remaining source.old) (R.remaining source.new) bytes.items) }
 {
@@ -96,7 +96,7 @@ pub(crate) fn read_source<R: Read>(alloc: Global, source: &mut R) -> io::Result<
 }
 
 /// Checks bytes, and writes what is found.
-pub(crate) fn judge_bytes<W: Write>(
+fn judge_bytes<W: Write>(
     alloc: Global,
     name: &str,
     bytes: &[u8],
@@ -108,48 +108,32 @@ pub(crate) fn judge_bytes<W: Write>(
 {
     match str::from_utf8(bytes) {
         Ok(text) => judge(alloc, name, text, options, out),
-        Err(error) => {
-            let front = bytes.get(..error.valid_up_to()).unwrap_or(&[]);
-            tell_not_utf8(alloc, name, front, begins_as_utf16(bytes), options, out)
-        }
+        Err(_) => tell_not_utf8(alloc, name, bytes, options, out),
     }
 }
 
-/// Tells of bytes that are not UTF-8. The bytes before the wrong one are a text.
+/// Tells of bytes that are not UTF-8, with the line of the text before the wrong one.
 fn tell_not_utf8<W: Write>(
     alloc: Global,
     name: &str,
-    front: &[u8],
-    is_utf16: bool,
+    bytes: &[u8],
     options: Options,
     out: &mut W,
 ) -> Result<Verdict, CheckFault>
     ensures { IsWrong result }
 {
-    let front = str::from_utf8(front).unwrap_or("");
-    let message = if is_utf16 {
-        "the text is UTF-16, and not UTF-8"
-    } else {
-        "the text is not UTF-8 from here on"
-    };
-    let error = Error {
-        place: None,
-        rule: "encoding",
-        message,
-    };
-    let told = report_errors(alloc, name, front, &[error], options.format)?;
+    let found = not_utf8(alloc, bytes)?;
+    let reported = report(alloc, name, text_before(bytes), &found, options.format);
+    drop(found);
+    let told = reported?;
     let written = write_unless_quiet(out, told.as_str(), options);
     drop(told);
     written?;
     Ok(Verdict::Wrong)
 }
 
-/// Whether bytes begin with the byte order mark of UTF-16.
-fn begins_as_utf16(bytes: &[u8]) -> bool {
-    matches!(bytes, [0xfe, 0xff, ..] | [0xff, 0xfe, ..])
-}
-
 /// Checks a text. Writes its events, if they are asked for, and what is found.
+#[tactic(auto, using(crate::proofs::Judging::is_right))]
 fn judge<W: Write>(
     alloc: Global,
     name: &str,
@@ -159,14 +143,14 @@ fn judge<W: Write>(
 ) -> Result<Verdict, CheckFault>
     ensures { Judges result name.now options text.now (W.contents out.old) (W.contents out.new) }
 {
-    let found = check_text(alloc, text, options.rules, options.limits)?;
-    if found.is_empty() {
+    let found = check_text(alloc, text, options)?;
+    let verdict = found.verdict;
+    if verdict.is_right() {
         drop(found);
         write_events(alloc, text, options, out)?;
         return Ok(Verdict::Right);
     }
-    let verdict = found.verdict();
-    let reported = report(alloc, name, text, &found, options);
+    let reported = report(alloc, name, text, &found, options.format);
     drop(found);
     let told = reported?;
     match write_events(alloc, text, options, out) {
@@ -184,11 +168,7 @@ fn judge<W: Write>(
 }
 
 /// Writes what is found, unless the options forbid it.
-pub(crate) fn write_unless_quiet<W: Write>(
-    out: &mut W,
-    told: &str,
-    options: Options,
-) -> Result<(), CheckFault>
+fn write_unless_quiet<W: Write>(out: &mut W, told: &str, options: Options) -> Result<(), CheckFault>
     ensures { WritesTold result (told_unless_quiet options told.now) (W.contents out.old)
         (W.contents out.new) }
 {

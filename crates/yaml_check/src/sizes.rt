@@ -3,7 +3,7 @@ ghost use Rattle.std.specs.Prelude.{◌≡◌, None, IfOk, OnOk};
 ghost use Rattle.saphyr_parser.specs.Views.Events.{happening};
 ghost use Rattle.yaml_check.specs.Sizes as spec;
 
-use crate::finding::{Finding, Warning};
+use crate::warning::{PlacedWarning, Warning};
 use saphyr_parser::{Event, Span};
 use std::alloc::{AllocError, Global};
 use std::collections::BTreeMap;
@@ -55,7 +55,11 @@ impl Sizes {
     }
 
     /// Takes an event with its span, and warns of an alias that stands for many nodes.
-    pub(crate) fn take(&mut self, event: &Event, span: Span) -> Result<Option<Finding>, AllocError>
+    pub(crate) fn take(
+        &mut self,
+        event: &Event,
+        span: Span,
+    ) -> Result<Option<PlacedWarning>, AllocError>
         ensures told { IfOk result (λ told.
             told ≡ spec.alias_warning (seen.sizes_of self.old) (happening event.now) span) }
         ensures behind { OnOk result (seen.sizes_of self.new
@@ -71,7 +75,7 @@ impl Sizes {
     }
 
     /// Takes an alias. An alias inside the node that it stands for is infinite.
-    fn take_alias(&mut self, id: usize, span: Span) -> Option<Finding>
+    fn take_alias(&mut self, id: usize, span: Span) -> Option<PlacedWarning>
         ensures told { result
             ≡ spec.size_warning (spec.ended_size id (seen.sizes_of self.old)) span }
         ensures behind { seen.sizes_of self.new ≡ spec.with_more_nodes
@@ -84,7 +88,7 @@ impl Sizes {
     }
 
     /// Counts a node that has ended and stands for this many.
-    fn end_node(&mut self, id: usize, nodes: usize) -> Result<Option<Finding>, AllocError>
+    fn end_node(&mut self, id: usize, nodes: usize) -> Result<Option<PlacedWarning>, AllocError>
         ensures none { IfOk result (λ told. told ≡ None) }
         ensures behind { OnOk result (seen.sizes_of self.new
             ≡ spec.with_ended_node id nodes (seen.sizes_of self.old)) }
@@ -97,7 +101,7 @@ impl Sizes {
     }
 
     /// A collection with this anchor begins.
-    fn open(&mut self, anchor: usize) -> Result<Option<Finding>, AllocError>
+    fn open(&mut self, anchor: usize) -> Result<Option<PlacedWarning>, AllocError>
         ensures none { IfOk result (λ told. told ≡ None) }
         ensures behind { OnOk result (seen.sizes_of self.new
             ≡ spec.sizes_inside anchor (seen.sizes_of self.old)) }
@@ -108,7 +112,7 @@ impl Sizes {
     }
 
     /// The innermost collection ends.
-    fn close(&mut self) -> Result<Option<Finding>, AllocError>
+    fn close(&mut self) -> Result<Option<PlacedWarning>, AllocError>
         ensures none { IfOk result (λ told. told ≡ None) }
         ensures behind { OnOk result (seen.sizes_of self.new
             ≡ spec.sizes_outside (seen.sizes_of self.old)) }
@@ -123,7 +127,7 @@ impl Sizes {
 }
 
 /// Warns of an alias by the size of its node, which has none before it ends.
-fn size_warning(ended: Option<usize>, span: Span) -> Option<Finding>
+fn size_warning(ended: Option<usize>, span: Span) -> Option<PlacedWarning>
     ensures { result ≡ spec.size_warning ended span }
 {
     let warning = match ended {
@@ -131,5 +135,5 @@ fn size_warning(ended: Option<usize>, span: Span) -> Option<Finding>
         Some(nodes) if nodes > WIDE => Warning::WideAlias(WIDE),
         Some(_) => return None,
     };
-    Some(Finding { span, warning })
+    Some(PlacedWarning { span, warning })
 }

@@ -1,19 +1,16 @@
 //! The findings as they are told: for people with the place, the message, the line and a caret, for programs as JSON.
-ghost use Rattle.std.specs.Prelude.{◌≡◌, ◌++◌, [], length, true, IfOk, OnOk, string_bytes};
+ghost use Rattle.std.specs.Prelude.{◌≡◌, ◌++◌, true, IfOk, OnOk, string_bytes};
 ghost use Rattle.std.specs.Str.{chars};
 ghost use Rattle.yaml_check.specs.Shown.{shown_text};
 ghost use Rattle.yaml_check.specs.Texts.{name_and_place};
-ghost use Rattle.yaml_check.specs.Told.{more_text, told_more, told_warning};
 ghost use Rattle.yaml_check.specs.ToldSeen.{told_of};
-ghost use Rattle.yaml_check.specs.Reports.{AddsError, AddsErrors, AddsFault, AddsNote, AddsMost, AddsTold, AddsWarnings, IsReport, name_in, told_line};
+ghost use Rattle.yaml_check.specs.Reports.{AddsAll, AddsFinding, AddsNote, AddsTold, AddsWithNotes, IsReport, name_in, told_line};
 
-use crate::arguments::Options;
-use crate::finding::{Finding, Findings, Note};
+use crate::finding::{Finding, Findings};
 use crate::json::{push_escaped, push_object};
-use crate::places::place_of_index;
-use crate::told::{Format, Severity, Source, Told};
+use crate::told::{Format, Source, Told};
 use crate::view::{View, characters, push_visible};
-use saphyr_parser::{Marker, Span};
+use saphyr_parser::Marker;
 use std::alloc::{AllocError, Global};
 
 /// A text as it is shown, on one line: what breaks a line, steers a terminal or can't be seen is an escape.
@@ -33,19 +30,19 @@ pub fn visible(alloc: Global, text: &str) -> Result<String, AllocError>
     }
 }
 
-/// What is printed for the findings in a text of this name: the warnings, and the fault after them.
+/// What is printed for the findings in a text of this name.
 pub fn report(
     alloc: Global,
     name: &str,
     text: &str,
     found: &Findings,
-    options: Options,
+    format: Format,
 ) -> Result<String, AllocError>
-    ensures { IfOk result (λ told. IsReport options.format options.max_findings
-        (name_in options.format name.now) (chars text.now) found.now (string_bytes told)) }
+    ensures { IfOk result (λ told. IsReport format (name_in format name.now) (chars text.now)
+        found.now (string_bytes told)) }
 {
-    let name = printed_name(alloc, name, options.format)?;
-    let told = report_as(alloc, name.as_str(), text, found, options);
+    let name = printed_name(alloc, name, format)?;
+    let told = report_as(alloc, name.as_str(), text, found, format);
     drop(name);
     told
 }
@@ -75,30 +72,19 @@ fn report_as(
     name: &str,
     text: &str,
     found: &Findings,
-    options: Options,
+    format: Format,
 ) -> Result<String, AllocError>
-    ensures { IfOk result (λ told. IsReport options.format options.max_findings name.now
-        (chars text.now) found.now (string_bytes told)) }
+    ensures { IfOk result (λ told. IsReport format name.now (chars text.now) found.now
+        (string_bytes told)) }
 {
     let text = characters(alloc, text)?;
     let mut out = String::new(alloc);
     let source = Source {
-        format: options.format,
+        format,
         name,
         text: &text,
     };
-    let warned = tell_some(
-        alloc,
-        &mut out,
-        &source,
-        &found.warnings,
-        options.max_findings,
-    );
-    if let Err(fault) = warned {
-        drop((text, out));
-        return Err(fault);
-    }
-    let told = tell_fault(alloc, &mut out, &source, found);
+    let told = tell_all(alloc, &mut out, &source, found, &found.list);
     drop(text);
     match told {
         Ok(()) => Ok(out),
@@ -109,142 +95,82 @@ fn report_as(
     }
 }
 
-/// Tells so many warnings at most, and how many more there are.
-fn tell_some(
-    alloc: Global,
-    out: &mut String,
-    source: &Source,
-    warnings: &[Finding],
-    most: usize,
-) -> Result<(), AllocError>
-    ensures { OnOk result (AddsMost source.now.format source.now.name.now source.now.text.now
-        most warnings.now (string_bytes out.old) (string_bytes out.new)) }
-{
-    match warnings.get(most) {
-        None => tell_warnings(alloc, out, source, warnings),
-        Some(next) => {
-            tell_warnings(alloc, out, source, &warnings[..most])?;
-            tell_more(alloc, out, source, *next, warnings.len() - most)
-        }
-    }
-}
-
-/// Tells warnings, one after the other.
-fn tell_warnings(
-    alloc: Global,
-    out: &mut String,
-    source: &Source,
-    warnings: &[Finding],
-) -> Result<(), AllocError>
-    ensures { OnOk result (AddsWarnings source.now.format source.now.name.now source.now.text.now
-        warnings.now (string_bytes out.old) (string_bytes out.new)) }
-{
-    for finding in warnings {
-        tell_warning(alloc, out, source, *finding)?;
-    }
-    Ok(())
-}
-
-/// Tells one warning.
-fn tell_warning(
-    alloc: Global,
-    out: &mut String,
-    source: &Source,
-    finding: Finding,
-) -> Result<(), AllocError>
-    ensures { OnOk result (AddsTold source.now.format true source.now.name.now
-        source.now.text.now (told_warning finding) (string_bytes out.old) (string_bytes out.new)) }
-{
-    let warning = finding.warning;
-    let message = format!(in alloc; "{warning}")?;
-    let told = Told {
-        span: finding.span,
-        severity: Severity::Warning,
-        rule: warning.rule().name(),
-        message: message.as_str(),
-    };
-    let done = tell(alloc, out, source, &told, true);
-    drop(message);
-    done
-}
-
-/// Tells that so many more warnings begin with this one.
-fn tell_more(
-    alloc: Global,
-    out: &mut String,
-    source: &Source,
-    next: Finding,
-    count: usize,
-) -> Result<(), AllocError>
-    ensures { OnOk result (AddsTold source.now.format true source.now.name.now
-        source.now.text.now (told_more next count) (string_bytes out.old)
-        (string_bytes out.new)) }
-{
-    let message = text_of_more(alloc, count)?;
-    let told = Told {
-        span: next.span,
-        severity: Severity::Note,
-        rule: "max-findings",
-        message: message.as_str(),
-    };
-    let done = tell(alloc, out, source, &told, true);
-    drop(message);
-    done
-}
-
-/// The message for so many more warnings.
-fn text_of_more(alloc: Global, count: usize) -> Result<String, AllocError>
-    ensures { IfOk result (λ text. string_bytes text ≡ more_text count) }
-{
-    format!(in alloc; "{count} more warnings begin here")
-}
-
-/// Tells the fault and the notes on it, if there is one.
-fn tell_fault(
+/// Tells findings with their notes, one after the other.
+fn tell_all(
     alloc: Global,
     out: &mut String,
     source: &Source,
     found: &Findings,
+    list: &[Finding],
 ) -> Result<(), AllocError>
-    ensures { OnOk result (AddsFault source.now.format source.now.name.now source.now.text.now
-        found.now.fault found.now.opened found.now.help (string_bytes out.old)
-        (string_bytes out.new)) }
+    ensures { OnOk result (AddsAll source.now.format source.now.name.now source.now.text.now
+        found.now list.now (string_bytes out.old) (string_bytes out.new)) }
 {
-    let Some(error) = &found.fault else {
-        return Ok(());
-    };
-    let told = Told {
-        span: Span::empty(error.mark),
-        severity: Severity::Error,
-        rule: "syntax",
-        message: error.info.as_str(),
-    };
-    tell(alloc, out, source, &told, true)?;
-    tell_note(alloc, out, source, error.mark, found.opened)?;
-    tell_note(alloc, out, source, error.mark, found.help)
+    for finding in list {
+        tell_with_notes(alloc, out, source, found, *finding)?;
+    }
+    Ok(())
 }
 
-/// Tells a note on a fault at this place, if there is one.
+/// Tells a finding and the notes on it. The line of a note is left out where what was told before is at its place.
+fn tell_with_notes(
+    alloc: Global,
+    out: &mut String,
+    source: &Source,
+    found: &Findings,
+    finding: Finding,
+) -> Result<(), AllocError>
+    ensures { OnOk result (AddsWithNotes source.now.format source.now.name.now
+        source.now.text.now found.now finding (string_bytes out.old) (string_bytes out.new)) }
+{
+    let notes = found.notes_on(finding);
+    tell_finding(alloc, out, source, found, finding, true)?;
+    tell_note(alloc, out, source, found, finding, notes.first)?;
+    let before = notes.first.unwrap_or(finding);
+    tell_note(alloc, out, source, found, before, notes.second)
+}
+
+/// Tells a note behind something else, if there is one.
 fn tell_note(
     alloc: Global,
     out: &mut String,
     source: &Source,
-    fault: Marker,
-    note: Option<Note>,
+    found: &Findings,
+    before: Finding,
+    note: Option<Finding>,
 ) -> Result<(), AllocError>
     ensures { OnOk result (AddsNote source.now.format source.now.name.now source.now.text.now
-        fault note (string_bytes out.old) (string_bytes out.new)) }
+        found.now before note (string_bytes out.old) (string_bytes out.new)) }
 {
     let Some(note) = note else {
         return Ok(());
     };
+    let shows = note.span.start.index != before.span.start.index;
+    tell_finding(alloc, out, source, found, note, shows)
+}
+
+/// Tells one finding, where people read it with its line or without.
+fn tell_finding(
+    alloc: Global,
+    out: &mut String,
+    source: &Source,
+    found: &Findings,
+    finding: Finding,
+    shows: bool,
+) -> Result<(), AllocError>
+    ensures { OnOk result (AddsFinding source.now.format shows source.now.name.now
+        source.now.text.now found.now finding (string_bytes out.old) (string_bytes out.new)) }
+{
+    let message = found.message(alloc, finding)?;
     let told = Told {
-        span: Span::empty(note.place),
-        severity: Severity::Note,
-        rule: "syntax",
-        message: note.remark.text(),
+        span: finding.span,
+        severity: finding.problem.severity(),
+        rule: finding.problem.rule(),
+        message: message.as_str(),
     };
-    tell(alloc, out, source, &told, note.place.index != fault.index)
+    let done = tell(alloc, out, source, &told, shows);
+    drop(message);
+    done
 }
 
 /// Tells one thing, where people read it with its line or without.
@@ -286,94 +212,4 @@ fn push_place(out: &mut String, name: &str, place: Marker) -> Result<(), AllocEr
         ≡ string_bytes out.old ++ name_and_place name.now place) }
 {
     write!(out, "{name}:{place}: ")
-}
-
-/// An error beside the parser's. Without a place it is at the text's end.
-#[derive(Clone, Copy)]
-pub(crate) struct Error<'a> {
-    pub(crate) place: Option<Marker>,
-    pub(crate) rule: &'a str,
-    pub(crate) message: &'a str,
-}
-
-/// What is printed for errors in a text of this name, one after the other.
-pub(crate) fn report_errors(
-    alloc: Global,
-    name: &str,
-    text: &str,
-    errors: &[Error<'_>],
-    format: Format,
-) -> Result<String, AllocError>
-    ensures { IfOk result (λ told. AddsErrors format (name_in format name.now) (chars text.now)
-        (length errors.now) [] (string_bytes told)) }
-{
-    let name = printed_name(alloc, name, format)?;
-    let told = report_errors_as(alloc, name.as_str(), text, errors, format);
-    drop(name);
-    told
-}
-
-/// The report of errors in a file whose name is as it is printed.
-fn report_errors_as(
-    alloc: Global,
-    name: &str,
-    text: &str,
-    errors: &[Error<'_>],
-    format: Format,
-) -> Result<String, AllocError>
-    ensures { IfOk result (λ told. AddsErrors format name.now (chars text.now)
-        (length errors.now) [] (string_bytes told)) }
-{
-    let text = characters(alloc, text)?;
-    let mut out = String::new(alloc);
-    let source = Source {
-        format,
-        name,
-        text: &text,
-    };
-    let done = tell_errors(alloc, &mut out, &source, errors);
-    drop(text);
-    match done {
-        Ok(()) => Ok(out),
-        Err(fault) => {
-            drop(out);
-            Err(fault)
-        }
-    }
-}
-
-/// Tells errors, one after the other.
-fn tell_errors(
-    alloc: Global,
-    out: &mut String,
-    source: &Source,
-    errors: &[Error<'_>],
-) -> Result<(), AllocError>
-    ensures { OnOk result (AddsErrors source.now.format source.now.name.now source.now.text.now
-        (length errors.now) (string_bytes out.old) (string_bytes out.new)) }
-{
-    for error in errors {
-        tell_error(alloc, out, source, *error)?;
-    }
-    Ok(())
-}
-
-/// Tells one error.
-fn tell_error(
-    alloc: Global,
-    out: &mut String,
-    source: &Source,
-    error: Error<'_>,
-) -> Result<(), AllocError>
-    ensures { OnOk result (AddsError source.now.format source.now.name.now source.now.text.now
-        (string_bytes out.old) (string_bytes out.new)) }
-{
-    let end = place_of_index(source.text, source.text.len());
-    let told = Told {
-        span: Span::empty(error.place.unwrap_or(end)),
-        severity: Severity::Error,
-        rule: error.rule,
-        message: error.message,
-    };
-    tell(alloc, out, source, &told, true)
 }

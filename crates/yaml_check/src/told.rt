@@ -1,7 +1,5 @@
-//! What is told of a file: errors, warnings and notes.
-ghost use Rattle.std.specs.Prelude.{◌≡◌};
-ghost use Rattle.yaml_check.specs.Told.{severity_word};
-
+//! What is printed of a file: errors, warnings and notes.
+use crate::finding::Severity;
 use saphyr_parser::Span;
 
 /// The form of what is told.
@@ -11,25 +9,6 @@ pub enum Format {
     Text,
     /// Objects of JSON, one a line.
     Json,
-}
-
-#[derive(Clone, Copy, Debug)]
-pub(crate) enum Severity {
-    Error,
-    Warning,
-    Note,
-}
-
-impl Severity {
-    pub(crate) fn word(self) -> &'static str
-        ensures { result.now ≡ severity_word self }
-    {
-        match self {
-            Severity::Error => "error",
-            Severity::Warning => "warning",
-            Severity::Note => "note",
-        }
-    }
 }
 
 /// One thing that is told.

@@ -95,11 +95,12 @@ const PRINTED: &[(&str, &str)] = &[
         "f:1:26: warning: the text has more than 9 nodes\n[1, 2, 3, 4, 5, 6, 7, 8, 9]\n\
         \u{20}                        ^\nwarned",
     ),
-    // Faults. What is found before the fault comes first.
+    // Faults. The error is where a person mends the text, if that is known, and findings come by their places.
     (
         "[a:[]]",
-        "f:1:3: error: ':' may not precede any of `[{` in flow mapping\n[a:[]]\n  ^\n\
-        f:1:1: note: the sequence that begins here is not closed yet\n[a:[]]\n^\nwrong",
+        "f:1:1: error: the sequence that begins here is not closed yet\n[a:[]]\n^\n\
+        f:1:3: note: the parser stops here: ':' may not precede any of `[{` in flow mapping\n[a:[]]\n\
+        \u{20} ^\nwrong",
     ),
     (
         "a: 1\na: *b\n",
@@ -110,26 +111,32 @@ const PRINTED: &[(&str, &str)] = &[
     // A bracket is not closed: an outermost one, and one before a closing brace.
     (
         "[1, 2\nhost: y",
-        "f:2:5: error: illegal placement of ':' indicator\nhost: y\n    ^\n\
-        f:1:1: note: the sequence that begins here is not closed yet\n[1, 2\n^\nwrong",
+        "f:1:1: error: the sequence that begins here is not closed yet\n[1, 2\n^\n\
+        f:2:5: note: the parser stops here: illegal placement of ':' indicator\nhost: y\n    ^\nwrong",
+    ),
+    (
+        "[{a: 1, a: 2},\nhost: y",
+        "f:1:1: error: the sequence that begins here is not closed yet\n[{a: 1, a: 2},\n^\n\
+        f:2:5: note: the parser stops here: illegal placement of ':' indicator\nhost: y\n    ^\n\
+        f:1:9: warning: duplicate key; first at 1:3\n[{a: 1, a: 2},\n        ^\nwrong",
     ),
     (
         "{a: [b,\nc\n}",
-        "f:3:1: error: while parsing a flow sequence, expected ',' or ']'\n}\n^\n\
-        f:1:5: note: the sequence that begins here is not closed yet\n{a: [b,\n    ^\nwrong",
+        "f:1:5: error: the sequence that begins here is not closed yet\n{a: [b,\n    ^\n\
+        f:3:1: note: the parser stops here: while parsing a flow sequence, expected ',' or ']'\n}\n^\nwrong",
     ),
     // Wide characters take two columns, and a tab the two of its escape.
     (
         "名: [*b]",
         "f:1:5: error: while parsing node, found unknown anchor\n名: [*b]\n     ^\n\
-        f:1:4: note: the sequence that begins here is not closed yet\n名: [*b]\n    ^\n\
-        f:1:5: note: no anchor has this name; a text that begins with * needs quotes\nwrong",
+        f:1:5: note: no anchor has this name; a text that begins with * needs quotes\n\
+        f:1:4: note: the sequence that begins here is not closed yet\n名: [*b]\n    ^\nwrong",
     ),
     (
         "x: [ \t*b]",
         "f:1:7: error: while parsing node, found unknown anchor\nx: [ \\t*b]\n       ^\n\
-        f:1:4: note: the sequence that begins here is not closed yet\nx: [ \\t*b]\n   ^\n\
-        f:1:7: note: no anchor has this name; a text that begins with * needs quotes\nwrong",
+        f:1:7: note: no anchor has this name; a text that begins with * needs quotes\n\
+        f:1:4: note: the sequence that begins here is not closed yet\nx: [ \\t*b]\n   ^\nwrong",
     ),
     // A long line is cut. Here 200 characters are on each side of the alias.
     (
@@ -145,10 +152,11 @@ const PRINTED: &[(&str, &str)] = &[
         xxxxxxxxxxxxxx\", *b, \"xxxxxxxxxxxxxxxxxxxxxxxxxxxxxxxxxxxxxxxxxxxxxxxxxxxxxxxxxxxxxxxxxxxxxxxx...\n\
         \u{20}                                                           \
         \u{20}                                                           ^\n\
+        f:1:206: note: no anchor has this name; a text that begins with * needs quotes\n\
         f:1:1: note: the sequence that begins here is not closed yet\n\
         [\"xxxxxxxxxxxxxxxxxxxxxxxxxxxxxxxxxxxxxxxxxxxxxxxxxxxxxxxxxxxxxxxxxxxxxxxxxxxxxxxxxxxxxxxxxxxxxxxxx\
         xxxxxxxxxxxxxxxxxxxxxxxxxxxxxxxxxxxxxxxxxxxxxxxxxxxxxxxxxxxxxxxxxxxxxxxxxxxxxxxxxxxxxxxxxxxxxxxxxx...\n\
-        ^\nf:1:206: note: no anchor has this name; a text that begins with * needs quotes\nwrong",
+        ^\nwrong",
     ),
 ];
 
@@ -221,11 +229,11 @@ fn findings_as_json(rt: HostRuntime) {
         \"rule\":\"duplicate-key\",\"severity\":\"warning\",\
         \"message\":\"duplicate key; first at 1:2\"}\nwarned";
     assert!(rt; prints(rt.alloc(), b"{a: 1, a: 2}", json, warned));
-    let wrong = "{\"file\":\"f\",\"line\":1,\"column\":2,\"end\":{\"line\":1,\"column\":2},\
+    let wrong = "{\"file\":\"f\",\"line\":1,\"column\":1,\"end\":{\"line\":1,\"column\":1},\
         \"rule\":\"syntax\",\"severity\":\"error\",\
-        \"message\":\"\\\"-\\\" is only valid inside a block\"}\n\
-        {\"file\":\"f\",\"line\":1,\"column\":1,\"end\":{\"line\":1,\"column\":1},\
+        \"message\":\"the sequence that begins here is not closed yet\"}\n\
+        {\"file\":\"f\",\"line\":1,\"column\":2,\"end\":{\"line\":1,\"column\":2},\
         \"rule\":\"syntax\",\"severity\":\"note\",\
-        \"message\":\"the sequence that begins here is not closed yet\"}\nwrong";
+        \"message\":\"the parser stops here: \\\"-\\\" is only valid inside a block\"}\nwrong";
     assert!(rt; prints(rt.alloc(), b"[- a]", json, wrong));
 }

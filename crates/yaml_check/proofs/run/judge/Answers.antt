@@ -1,6 +1,5 @@
-use Rattle.std.proofs.Common.{◌≡◌, true}
-use Rattle.yaml_check.specs.Checks.{IsClean}
 use Rattle.yaml_check.proofs.Judging.{lines_cut, passes_fault, passes_want, told_cut, told_verdict}
+use Rattle.std.proofs.Common.{refl}
 use Rattle.yaml_check.proofs.run.judge.Goals as goal
 
 pub returns-in_err-found : goal.returns-in_err-found
@@ -21,22 +20,17 @@ pub returns-in_err-written-in-Ok : goal.returns-in_err-written-in-Ok
 returns-in_err-written-in-Ok g c =
     passes_fault _ _ _ _ _ _ _ c.from_residual-in_err-written-in-Ok.ensures.1
     (told_cut _ c.args.name.now c.args.options c.args.text.now c.as_str.result.now _ _ _ c.in_ok-found.found
-    c.in_ok-found.ensures.fault c.in_ok-found.ensures.warnings
-    c.in_ok-found.ensures.notes (rw c.as_str.ensures.value c.in_ok-told.ensures)
-    c.in-Ok.ensures c.in_err-written-in-Ok.ensures)
+    (record { fault = c.in_ok-found.ensures.fault; findings = c.in_ok-found.ensures.findings })
+    (rw c.as_str.ensures.value c.in_ok-told.ensures) c.in-Ok.ensures c.in_err-written-in-Ok.ensures)
 
 pub returns-in_ok-written-in-Ok : goal.returns-in_ok-written-in-Ok
-returns-in_ok-written-in-Ok g c = told_verdict c.verdict-verdict.result _ _ _ _ _ (record {
+returns-in_ok-written-in-Ok g c = told_verdict _ _ _ _ _ _ (record {
   found = c.in_ok-found.found;
-  verdict = c.verdict-verdict.ensures;
-  names = c.in_ok-found.ensures.fault;
-  warns = c.in_ok-found.ensures.warnings;
-  notes = c.in_ok-found.ensures.notes;
+  is_found = record { fault = c.in_ok-found.ensures.fault; findings = c.in_ok-found.ensures.findings };
+  verdict = refl;
   told = c.as_str.result.now;
   report = rw c.as_str.ensures.value c.in_ok-told.ensures;
   middle = g.W.Write.contents c.write_events-2.new.out;
   events = c.in-Ok.ensures;
   written = c.in_ok-written-in-Ok.ensures;
-}) (λ (clean : IsClean c.in_ok-found.found).
-    let said : c.is_empty.result ≡ true = c.is_empty.ensures.1 clean in let empty = c.if-is_empty.false in
-    absurd (cc))
+}) (c.is_right.ensures.no c.if-is_right.false)

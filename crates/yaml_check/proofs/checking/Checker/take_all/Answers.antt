@@ -5,7 +5,7 @@ use Rattle.saphyr_parser.specs.Types.Fault.{Fault}
 use Rattle.saphyr_parser.specs.Words.Span.{Span}
 use Rattle.saphyr_parser.specs.Answer.{Answer, with_first_event}
 use Rattle.saphyr_parser.specs.Cursor.{HandsOutNext, event_of}
-use Rattle.yaml_check.specs.declared.finding.Finding.{Finding}
+use Rattle.yaml_check.specs.declared.warning.PlacedWarning.{PlacedWarning}
 use Rattle.yaml_check.specs.Opened.{OpenStarts, opened_behind, open_on}
 use Rattle.yaml_check.specs.Warned.{Seen, seen_behind, warnings_at, warnings_on}
 use Rattle.yaml_check.proofs.checking.Checker.take_all.Goals as goal
@@ -15,7 +15,7 @@ first_of : (r : Result (Event × Span) Fault) (e : Event × Span) (old new : Ans
 first_of r e old new is handed =
     subst (λ (q : Result (Event × Span) Fault). HandsOutNext (Some q) old new) is handed
 
-keeps_told : (e : Event × Span) (old new : Answer) (before after all : List Finding) (s t : Seen)
+keeps_told : (e : Event × Span) (old new : Answer) (before after all : List PlacedWarning) (s t : Seen)
     → old ≡ with_first_event (event_of e) new → before ++ warnings_on old.events s ≡ all
     → t ≡ seen_behind (event_of e).0 e.1 s → after ≡ before ++ warnings_at (event_of e).0 e.1 s
     → after ++ warnings_on new.events t ≡ all

@@ -1,0 +1,64 @@
+//! What may be wrong with a text that the parser accepts.
+ghost use Rattle.std.specs.Prelude.{◌≡◌};
+ghost use Rattle.yaml_check.specs.Warned.{rule_of};
+
+use crate::rules::Rule;
+use saphyr_parser::{Marker, Span};
+use std::fmt;
+
+/// What may be wrong with a text that the parser accepts.
+#[derive(Clone, Copy, Debug)]
+pub enum Warning {
+    /// Its mapping has an equal key before, at this place.
+    DuplicateKey(Marker),
+    /// The node that the alias stands for contains it.
+    AliasInItself,
+    /// The alias stands for more nodes than this, including those that other aliases stand for.
+    WideAlias(usize),
+    EmptyDocument,
+    /// More collections than this are open at once.
+    TooDeep(usize),
+    TooManyNodes(usize),
+}
+
+impl Warning {
+    /// The rule that gives it.
+    #[must_use]
+    pub fn rule(self) -> Rule
+        ensures { result ≡ rule_of self }
+    {
+        match self {
+            Warning::DuplicateKey(_) => Rule::DuplicateKey,
+            Warning::AliasInItself => Rule::AliasInItself,
+            Warning::WideAlias(_) => Rule::WideAlias,
+            Warning::EmptyDocument => Rule::EmptyDocument,
+            Warning::TooDeep(_) => Rule::MaxDepth,
+            Warning::TooManyNodes(_) => Rule::MaxNodes,
+        }
+    }
+}
+
+/// A warning, and what it is on.
+#[derive(Clone, Copy, Debug)]
+pub struct PlacedWarning {
+    pub span: Span,
+    pub warning: Warning,
+}
+
+impl fmt::Display for Warning {
+    ghost use Rattle.std.specs.Prelude.{Some};
+    ghost use Rattle.yaml_check.specs.Texts.{warning_text};
+
+    ghost output = { λ warning. Some (warning_text warning) };
+
+    fn fmt<W: fmt::Write>(&self, f: &mut fmt::Formatter<W>) -> fmt::Result {
+        match self {
+            Warning::DuplicateKey(first) => write!(f, "duplicate key; first at {first}"),
+            Warning::AliasInItself => write!(f, "this alias is inside the node that it repeats"),
+            Warning::WideAlias(most) => write!(f, "this alias stands for more than {most} nodes"),
+            Warning::EmptyDocument => write!(f, "this document has no content"),
+            Warning::TooDeep(most) => write!(f, "more than {most} collections are open here"),
+            Warning::TooManyNodes(most) => write!(f, "the text has more than {most} nodes"),
+        }
+    }
+}
