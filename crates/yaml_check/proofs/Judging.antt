@@ -1,5 +1,5 @@
 -- A verdict on bytes, from that on their text; a verdict on what was read; and what was written up to a failure.
-use Rattle.std.proofs.Common.{◌≡◌, ℕ, zero, suc, ◌<◌, List, [], ◌++◌, length, Option, Some, None, ◌∷◌, Result, Ok, Err, refl, sym, ap, inl, inr, subst, ◌∙◌, append-nil, append_assoc}
+use Rattle.std.proofs.Common.{◌≡◌, ℕ, ◌<◌, List, [], ◌++◌, length, Option, Some, None, ◌∷◌, Result, Ok, Err, refl, sym, ap, inl, inr, subst, ◌∙◌, append-nil, append_assoc}
 use Rattle.std.specs.Prelude.{Bool, true, false, not, IsErrAnd, if◌then◌else◌}
 use Rattle.std.specs.Str.{chars, IsUtf8}
 use Rattle.std.specs.Io.KnownBytes.{Appends, Keeps}
@@ -28,7 +28,7 @@ use Rattle.yaml_check.specs.Checked.{IsFound, NamesFindings}
 use Rattle.yaml_check.specs.Found.{AreFindings, verdict_of}
 use Rattle.yaml_check.specs.Opened.{OpenStarts}
 use Rattle.yaml_check.specs.Reports.{IsReport, name_in}
-use Rattle.yaml_check.specs.Checks.{Checks, IsCutShort, IsReported, IsRight, IsWrong, Judges, JudgesBytes, WritesLines, WritesTold, events_asked, told_unless_quiet}
+use Rattle.yaml_check.specs.Checks.{Checks, IsCutShort, IsReported, IsRight, Judges, JudgesBytes, WritesLines, WritesTold, events_asked, told_unless_quiet}
 use Rattle.yaml_standard.specs.Verdicts.{IsStandard}
 
 pub judges_text : (r : Result Verdict CheckFault) (name : List ℕ) (options : Options) (text bytes : List ℕ)

@@ -1,5 +1,5 @@
 -- What is found in a text: each finding by itself, what is told of a fault, and all of them by their places.
-use Rattle.std.specs.Prelude.{◌≡◌, ℕ, ◌-◌, Bool, true, false, if◌then◌else◌, nat_eq, List, [], ◌∷◌, ◌++◌, length, take, map, slice_get, All, Option, None, Some, option_map, codes, string_bytes, IsPermutation}
+use Rattle.std.specs.Prelude.{◌≡◌, ℕ, ◌-◌, true, false, if◌then◌else◌, nat_eq, List, [], ◌∷◌, ◌++◌, length, take, map, slice_get, All, Option, None, Some, option_map, codes, string_bytes, IsPermutation}
 use Rattle.std.specs.Fmt.{decimal}
 use Rattle.std.specs.List.Sorted.{IsNonDecreasingBy}
 use Rattle.saphyr_parser.specs.Words.Marker.{Marker}
