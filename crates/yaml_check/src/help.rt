@@ -89,7 +89,12 @@ fn is_so_at_fault(remark: Remark, text: &[char], collections: &Open, fault: Mark
         Remark::AllowedColon => is_colon_below(text, end),
         Remark::AllowedDash => is_dash_in_text(text, end),
         Remark::AllowedLine => is_allowed_line(text, end),
-        Remark::AllowedQuestionMark => end == text.len() && end > 0 && text[end - 1] == '?',
+        Remark::AllowedQuestionMark => {
+            opened_note(text, collections, fault).is_none()
+                && end == text.len()
+                && end > 0
+                && text[end - 1] == '?'
+        }
         _ => true,
     }
 }

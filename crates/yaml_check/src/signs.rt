@@ -155,13 +155,13 @@ pub(crate) fn colon_without_blank(text: &[char], start: usize) -> Option<usize>
     requires { start ≤ length text.now }
     ensures { IfSome result (spec.IsTight 58 text.now) }
 {
-    let is_digit_first = start < text.len() && text[start].is_ascii_digit();
+    let is_value = begins_value(text, start);
     let mut is_word = true;
     for at in start..line_end(text, start) {
         let c = text[at];
         if c == ':' {
             let is_path = at + 1 < text.len() && is_part_of_path(text[at + 1]);
-            return if is_blank_behind(text, at) || is_path || is_digit_first {
+            return if is_blank_behind(text, at) || is_path || is_value {
                 None
             } else {
                 Some(at)
@@ -173,6 +173,12 @@ pub(crate) fn colon_without_blank(text: &[char], start: usize) -> Option<usize>
         is_word = is_word && !is_space_or_tab(c);
     }
     None
+}
+
+/// Whether a digit or a quote is at a place: more likely a value begins there than a key.
+fn begins_value(text: &[char], start: usize) -> bool {
+    start < text.len()
+        && (text[start].is_ascii_digit() || text[start] == '"' || text[start] == '\'')
 }
 
 /// Whether a character behind a colon shows that it is a part of an address, a path or a name.
