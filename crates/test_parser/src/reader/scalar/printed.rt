@@ -78,8 +78,12 @@ fn makes_and_prints_an_error(rt: HostRuntime) {
 
 // Whether the error of a misplaced bracket there is this.
 fn is_misplaced(alloc: Global, mark: Marker, info: &str) -> bool {
-    let text = FaultText::MisplacedBracket;
-    match error_of_refusal(alloc, Refusal { text, mark }) {
+    let refusal = Refusal {
+        text: FaultText::MisplacedBracket,
+        mark,
+        may_change: false,
+    };
+    match error_of_refusal(alloc, refusal) {
         Ok(error) => is_error(&error, info, mark),
         Err(_) => false,
     }
