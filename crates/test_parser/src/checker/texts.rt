@@ -117,7 +117,7 @@ const PRINTED: &[(&str, &str)] = &[
     (
         "[{a: 1, a: 2},\nhost: y",
         "f:1:1: error: the sequence that begins here is not closed yet\n[{a: 1, a: 2},\n^\n\
-        f:2:5: note: the parser stops here: illegal placement of ':' indicator\nhost: y\n    ^\n\
+        f:3:1: note: the parser stops here: while parsing a flow mapping, did not find expected ',' or '}'\n\n^\n\
         f:1:9: warning: duplicate key; first at 1:3\n[{a: 1, a: 2},\n        ^\nwrong",
     ),
     (
