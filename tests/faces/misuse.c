@@ -390,7 +390,7 @@ static size_t add_again(saphyr_parser *parser, const char *piece, size_t most, i
 static void keeps_to_what_may_wait(void) {
     static const struct {
         const char *begins, *goes_on;
-    } waits[] = {{"[", "a, "},       {"\"", "a"},    {"# ", "a"},          {"- [", "a,\n"},
+    } waits[] = {{"[", "a, "},       {"\"", "a"},    {"# ", "a"},          {"- [", "a,\n  "},
                  {"? |\n", " a\n"}, {"a", "\n a"}, {"%YAML 1.2\n", "%A\n"}, {"%A\n", "# c\n"}};
     static const char *const flows[] = {"- a\n", "a: b\n", "--- [a]\n", "'a':\n - b\n", "- |\n a\n", "- \n",
                                         "--- {a: b}\n", "\xef\xbb\xbf--- a\n", "a:\n  # c\n", "---\n...\n",
