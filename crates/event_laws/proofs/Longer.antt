@@ -66,6 +66,8 @@ longer_behind : (z : More) (o : Option Refusal) (x a : Marker) (d : ℕ) (k : Ki
     → Behind (λ r q. (x ≡ a) × Rest z o r q) (Over z o) (λ r q. (c : ℕ) → c ≤ d → Rest z o r q) k r q
 longer_behind z o x a d u0 r q u1 i y p = grind arith
 
+-- What the walk of all steps (`steps_alike`) compares here: one machine, and one whose tokens go on behind a
+-- document's end. Places and settings are the same, and the rest of the tokens is longer (`Rest`).
 abbrev with_longer : More → Option Refusal → Beside
 with_longer z o =
     record {

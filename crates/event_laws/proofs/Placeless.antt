@@ -30,6 +30,8 @@ Same (Err f) q = (g : Refusal) × (q ≡ Err g)
 
 -- ## Each step
 
+-- What the walk of all steps (`steps_alike`) compares here: a machine, and one of the same tokens without places. Its
+-- places are all the start of a text, and a refusal may be any.
 abbrev without_places : Beside
 without_places =
     record {

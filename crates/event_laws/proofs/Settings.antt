@@ -11,6 +11,8 @@ use Rattle.event_laws.proofs.Maps.{becomes, emits_so, stay, leaves}
 
 -- ## All steps
 
+-- What the walk of all steps (`steps_alike`) compares here: two machines that differ in whether prefixes of tags are
+-- kept, and in nothing else.
 abbrev with_set : Bool → Beside
 with_set b =
     record {

@@ -44,6 +44,7 @@ pub record Walk : Type 1 where
   pub over : (low : Marker) (d c : ℕ) (r : Option Refusal) (t : Piece) (ts : List Piece) → is_end t.kind ≡ true
       → c ≤ 10 + d → Ahead low d r (t ∷ ts) → Rests state.End c r ts
 
+-- A promise on one machine, as one on a machine and itself. So one walk of all steps shows both kinds of promise.
 abbrev pub beside_itself : Walk → Beside
 beside_itself w =
     record {

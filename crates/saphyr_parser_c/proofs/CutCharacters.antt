@@ -77,6 +77,9 @@ least_follows = (omega arith, omega arith)
 least_may_follow : (x : ℕ) → MayFollow x (second_byte_min x)
 least_may_follow x = may_follow x (second_byte_min x) (omega arith) (grind (arith, nat_tests))
 
+-- Bytes that begin no character, and have no error yet, can be completed. There are at most three (`no_fourth`). The
+-- first byte tells how many bytes the character has, and those that are lacking may be the least that may follow. A
+-- case where none is lacking can't be, since then they would begin a character.
 completable : (rest : List ℕ) → HasNoFront rest → utf8_error_len rest ≡ None → IsUtf8SoFar rest
 completable [] none is = ([], ([], (refl, refl)))
 completable (x ∷ []) none is =

@@ -87,6 +87,8 @@ record TakesText (style : BlockStyle) (mark indent : ℕ) (before after : List �
   is : IsBlockScalarText style value indent (mark ∷ front) after
   cut : before ≡ front ++ after
 
+-- The parts of a block scalar make up its spelling. The header's end and the lines' end are found in the text
+-- (`header_end`, `all_end`), and the text behind the mark is cut there.
 text_taken : (style : BlockStyle) (mark indent i n d : ℕ) (is_given : Bool) (chomping : Chomping) (ls : List Line)
     (a body x : List ℕ) → IsHeader d chomping body (mark ∷ a) → slice_index body 0 ≢ 9
     → IsIndentation indent i d is_given → IsBody i is_given x ls body ⊎ IsEmptyBody indent i n x ls body

@@ -101,6 +101,8 @@ colon_first at adjacent value p q e off v =
     subst (λ (x : List ℕ). IsColonAndValue false value (IsNodeIn at value) at.indent (x ++ q)) (sym e)
     (subst (λ (x : Bool). IsColonAndValue x value (IsNodeIn at value) at.indent (codes ":" ++ q)) off v)
 
+-- A pair whose colon was found is a pair of the grammar. In brackets and in braces there are two spellings each: with
+-- a key, or with a colon first and the key left out.
 keyed : (in_brackets : Bool) (at : Flow) (adjacent : Bool) (value : Node) (p q : List ℕ)
     → IsColonOrKey true at.indent in_brackets adjacent p
     → IsColonAndValue adjacent value (IsNodeIn at value) at.indent (codes ":" ++ q)

@@ -276,6 +276,8 @@ indentation_is_space i col x h = (grind (arith, nat_tests), grind (arith, nat_te
 mutual
   unfolding between line
 
+  -- Between lines and on a line, at once, since each goes on with the other. The cases are those of the reader: a
+  -- space of the indentation, a CR before its LF, a line's end, content, and where the scalar ends.
   pub between_read : (st : BlockStyle) (c : Chomping) (i : ℕ) (more : Bool) (k : ℕ) (b : Bool) (m : Marker)
       (xs : List ℕ) → m.col ≤ i → BetweenRead st c i more k m.col xs (between st i (Some more) k b m xs)
   between_read st c i more k b m [] within = stop_spaces st c i more k b m [] within

@@ -118,6 +118,10 @@ tail_right c d s o allowed h b f small = grind (arith, stays_no_node)
 abbrev Marked : (List ℕ → Type 0) → State → State → Type 0
 Marked After s t = (After t.core.cursor.rest → Documented s t) × (t.core.cursor ≡ pass 3 s.core.cursor)
 
+-- The token of `---` or `...`, which `marking` tells apart. First the content ends (`content_walked`), so what is
+-- shown of the marker is shown of the state that is left. There the marker still stands, its three characters end no
+-- line, and its token is put behind those of the content. What has to follow it is left open (`After`), since a line
+-- may end in more than one way behind it.
 pub marker_walked : (stands : List ℕ → Bool) (text : List ℕ) (kind : Kind) (After : List ℕ → Type 0)
     → Marking stands text kind After → IsNoEnd kind → (s : State) → s.core.cursor.mark.col ≡ 0
     → stands s.core.cursor.rest ≡ true

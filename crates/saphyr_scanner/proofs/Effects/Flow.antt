@@ -216,6 +216,9 @@ bracket_read x kind c u b f o =
 
 -- ## `[` and `{`
 
+-- What `[` and `{` do. A candidate is saved first (`saving`), then one level is entered, unless too many are open,
+-- and last the separation behind the bracket is passed. The two steps of the claim follow that: the token is put
+-- (`entered`), and the rest only moves the place (`further`).
 pub start_does : (i : ℕ) (kind : Kind) (x : Context) → Bracket i kind → BeginsPiece kind → Counts (λ n. n + 1) kind
     → EntersAll kind x → is_block x ≡ false → (n : ℕ) (c : Core) → slice_index c.cursor.rest 0 ≡ i
     → Walked (Premises c) (Doing (Some n) c) c.cursor (flow.opening_steps x kind n c)

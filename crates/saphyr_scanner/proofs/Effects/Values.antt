@@ -337,6 +337,9 @@ either_does b c d x None e t = alone_does b c d x t e
 pair_flows : (x : Context) → begins_pair x ≡ true → is_block (behind_colon x) ≡ false
 pair_flows x e = grind arith
 
+-- What a colon does. The setting turns to what is behind a colon, a tab may be refused there, and then it depends on
+-- the candidate: behind a key its tokens are filled in, else the colon stands alone (`either_does`). The turned
+-- setting encloses what the one before does (`lesser`), so what is shown of it holds of the colon's own.
 pub value_does : (c : Core) → slice_index c.cursor.rest 0 ≡ colon → IsParted c
     → Walked (Premises c) (Doing None c) c.cursor (value.value_steps c)
 unfolding value.value_steps

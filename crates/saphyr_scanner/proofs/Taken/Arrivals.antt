@@ -106,6 +106,9 @@ dropped_near opened from q c b h l =
       begins = b;
     }))
 
+-- Behind the gap before a token all that was taken is taken still, and a candidate that is too far is dropped.
+-- Indexes and lines stay small (`line_small`), since all places are the text's. The gap changes only the place and
+-- whether a key is allowed, so the tokens are those from before (`taken_further`).
 gapped : (text : List ℕ) → length text < 2 ^ 63 → (opened : Setting) (from : Cursor) (q : Queue) (c : Core)
     → LaterThan (start_cursor text) from → Taken opened from c q → Live opened.enclosures c q
     → Given (Near opened from q) (pass_gap c >>= drop_far_key)

@@ -155,6 +155,8 @@ pub no_length : (xs : List ℕ) → (length xs == 0) ≡ true → xs ≡ []
 no_length [] e = refl
 no_length (c ∷ cs) e = absurd (let h : length (c ∷ cs) ≡ 0 = eqb-true (length (c ∷ cs)) 0 e in omega (arith, h))
 
+-- The token of the stream's end. What is open in the block is ended first (`unroll_taken`), and a key that is
+-- required is refused. The token has no text and stands at the text's end, or on the line behind it (`end_place`).
 pub end_fetched : (opened : Setting) (from : Cursor) (s : State) → TakenState opened from s
     → Given (λ (t : State). Fetched opened from t.core t.queue) (document.state_behind_end s)
 unfolding document.state_behind_end document.end_at

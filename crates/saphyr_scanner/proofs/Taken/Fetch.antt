@@ -74,6 +74,9 @@ after_step_fetched : (opened : Setting) (from : Cursor) (q : Queue) (r : StepRes
 after_step_fetched opened from q (Ok x) h = h
 after_step_fetched opened from q (Err e) h = tt
 
+-- One fetch at a place where no gap is left. The cases are those of `fetch_here`, in its order: the text's end, a
+-- byte order mark, a directive, the two markers, a line too far left, and then a step by the first two characters.
+-- Each gives the tokens that it adds (`Fetched`) and that it went on (`both_given`).
 here_read : TextLaws → (text : List ℕ) → length text < 2 ^ 63 → (opened : Setting) (from : Cursor) (s : State)
     → LaterThan (start_cursor text) from → s.core.ended ≡ false → s.core.started ≡ true → Arrived opened from s
     → Given (Read opened from) (fetch_here s)
@@ -184,6 +187,8 @@ pub record Ready (opened : Setting) (from : Cursor) (t : State) : Type 0 where
   pub settled : t.core.ended ≡ true → t.core.required ≡ false
   pub fresh : IsFresh t
 
+-- What was read may be handed out once a candidate that is too far is dropped. If it is required, that is a fault.
+-- Else the tokens are as they were (`forgotten_taken`), and of the candidates only the others are left.
 pub settled_ready : (opened : Setting) (from : Cursor) (s : State) → Read opened from s
     → Given (Ready opened from) (without_far_key s)
 unfolding drop_far_key

@@ -248,6 +248,9 @@ comma_stays e h = grind arith
 colon_stays : (e : Enclosure) → IsTrue (is_in_brackets e) → IsTrue (is_in_brackets (place.behind_pair_colon e))
 colon_stays e h = grind arith
 
+-- What one token in brackets does to the innermost pair of them: it opens one more, ends it, or leaves another
+-- enclosure in its place. A start or end of a mapping and a key have two cases each, with a text and without, since a
+-- single pair has tokens without a text.
 top_behind : (kind : Kind) (span : Span) (t : Enclosed) (ts : List Enclosed) → is_quiet kind ≡ true
     → AreBrackets (t ∷ ts) → Top kind span (t ∷ ts)
 top_behind tokens.FlowSequenceStart span t ts q b = record {

@@ -171,6 +171,9 @@ abbrev pub OpensKey : Core → Core → Candidate → Type 0
 OpensKey c d k = ((own_root c ≡ Some k) × (d.required ≡ false))
     ⊎ ((in_block c ≡ false) × KeepsRequired c d × ((r : Candidate) → own_root c ≡ Some r → r.place ≤ k.place))
 
+-- A place of the queue is filled, and all that was indented is indented still. If the key was the one outside
+-- brackets, then all tokens in front of its place are (`front_indented`). Else a required key still waits, in front
+-- of that place, and only what is behind it changes (`longer_front`).
 pub indented_open : (all : Enclosures) (c d : Core) (q r : Queue) (k : Candidate) (front back : List Place)
     (p now : Place) → q.places ≡ front ++ p ∷ back → r.places ≡ front ++ now ∷ back → r.handed ≡ q.handed
     → k.place ≡ q.handed + length front → (AreIndented all (flat front) → AreIndented all (flat r.places))

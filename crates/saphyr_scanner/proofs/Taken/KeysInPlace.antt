@@ -84,6 +84,9 @@ pub record Opened (o : Opening) (t : Piece) (back : List Piece) (g : Begun) (all
   pub indented : AreIndented (with_begun g all) (place_pieces o t ++ back)
   pub behind : all_behind (place_pieces o t ++ back) (with_begun g all) ≡ with_begun last (awaited o t.span.start all)
 
+-- The tokens of a candidate may stand where it does, and those behind it still may. A case for each opening: nothing,
+-- a key, a block mapping and its key, a single pair and its key. The tokens behind it are quiet, so they stand alike
+-- in the setting that awaits a colon (`node_carried`).
 pub opened_in_place : (o : Opening) (t : Piece) (back : List Piece) (g : Begun) (e : Enclosure) (outside : Outside)
     → MayOpen o e → takes_node g ≡ true → (o ≡ opening.BlockMappingAndKey → IsPast g true t.span.start.line)
     → AreQuiet (t ∷ back) → AreInside 0 (t ∷ back) 0

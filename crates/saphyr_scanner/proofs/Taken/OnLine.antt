@@ -83,6 +83,8 @@ record OnLine (k : ℕ) (q : Quote) (t : List ℕ) (items : List Item) (x : List
 pub stands_unbroken : (q : Quote) (c : ℕ) → IsTrue (stands_for_itself q c) → is_break c ≡ false
 stands_unbroken q c h = grind arith
 
+-- By recursion over the spelling, an item after the other. A line break moves the place to the next line, and places
+-- never go back, so where the end is on the first line there is none (`later.kept`).
 quotes_on_line : (k : ℕ) (q : Quote) (t : List ℕ) (items : List Item) (x : List ℕ) (is : IsText q t items x)
     (m : Marker) → OnLine k q t items x is m
 quotes_on_line k _ _ _ _ (closed q x h) m = record {

@@ -130,6 +130,9 @@ calm_awaited : (o : Opening) (m : Marker) (e : Enclosure) (outside : Outside) (l
     → calm (with_begun last (awaited o m (free e outside))) ≡ awaited o m (free e outside)
 calm_awaited o m e outside last h = grind arith
 
+-- A candidate's place is filled in the middle of the queue. The queue is cut in three: the tokens in front, which
+-- don't change; the candidate's own, of which `opened_in_place` says all; and those behind it. Then the parts are put
+-- together again (`each_append`, `behind_append`).
 place_in_place : (e : Enclosure) (outside : Outside) (all : Enclosures) (o : Opening) (front : List Place)
     (t : Piece) (back : List Place) → MayOpen o e
     → (o ≡ opening.BlockMappingAndKey → IsPast (all_behind (flat front) all).begun true t.span.start.line)

@@ -213,6 +213,9 @@ abbrev pub column_of : Opening → ℕ → Collections → Collections
 column_of opening.BlockMappingAndKey column opened = with_column column opened
 column_of _ column opened = opened
 
+-- The tokens of an opening are taken from the text where their candidate stands. They have no text, so they begin and
+-- end there, and the other tokens are as they were. But behind a block mapping's start all later ones have to be
+-- right of its column, which holds since they are on its line (`quiet_tokens`).
 opening_tokens : (opened : Collections) (o : Opening) (t : Piece) (back : List Piece) (s u : Cursor) → Begins t
     → (opens_block o ≡ true → AreQuiet (t ∷ back))
     → (opens_block o ≡ true → EndsOnLine t.span.start u)

@@ -139,6 +139,8 @@ block style value span s t l f h =
       goes_on = inr (inr (l, inr f));
     }
 
+-- Where each kind of token begins and ends, and that the text goes on behind it. A row for each kind: it has no text,
+-- is one character, is on one line, or is a scalar, and for each of these there is a lemma above.
 token_takes : (i : Surroundings) (kind : Kind) (span : Span) (s t : Cursor) → IsToken i kind span s t
     → Takes i kind span s t
 token_takes i tokens.StreamStart span s t h = nothing span s t (λ e. ((λ x. refl), λ b. rw e refl)) h.1

@@ -104,6 +104,9 @@ record Left (text : List ℕ) (opened : Setting) (from : Cursor) (c : Core) (p :
   later : From text between
   ready : Ready (setting_behind (place_pieces p.opening p.piece) opened) between (holding c ps (n + 1))
 
+-- The first place of the queue is handed out, with the tokens in front of it. All that holds of the whole queue is
+-- cut behind these tokens (`tokens_part`, `each_parts`, `bare_parts`), and what is left begins at the place between.
+-- A candidate never waits at the place that is handed out (`waits_elsewhere`).
 one_left : (text : List ℕ) (opened : Setting) (from : Cursor) (c : Core) (p : Place) (ps : List Place) (n : ℕ)
     → From text from → Ready opened from (holding c (p ∷ ps) n)
     → needs_token (holding c (p ∷ ps) n) ≡ false → Left text opened from c p ps n
@@ -228,6 +231,7 @@ run_follows laws text small limit (suc fuel) opened from s l f h m = handed_foll
 abbrev outset : Setting
 outset = record { collections = no_collections; enclosures = not_enclosed; front = OtherFront }
 
+-- At the start of a text nothing was taken, nothing is open, and nothing waits.
 start_read : (text : List ℕ) → Read outset (start_cursor text) (start text)
 start_read text = record {
   fetched = record {

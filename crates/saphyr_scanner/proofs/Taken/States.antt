@@ -138,6 +138,9 @@ block_calm : (style : BlockStyle) (value : List ℕ) (span : Span) (all : Enclos
     → calm (enclosures_behind (tokens.Scalar (scalar.style_of style) value) span all) ≡ with_begun place.Nothing all
 block_calm style value span all = grind arith
 
+-- A block scalar's token. The reader's two promises give its spelling and the places that it passes. It is read
+-- outside brackets alone, so no level is around (`outermost`). A candidate that it leaves behind is too far, as the
+-- scalar goes over a line's end (`far_of`), or else the text is at its end.
 pub block_fetched : TextLaws → (text : List ℕ) → length text < 2 ^ 63
     → (opened : Setting) (from : Cursor) (q : Queue) (style : BlockStyle) (c d : Core)
     → LaterThan (start_cursor text) from

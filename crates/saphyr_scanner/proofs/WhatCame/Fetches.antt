@@ -70,6 +70,9 @@ module _ (more : List ℕ) where
     abbrev z : ℕ
     z = slice_index (r ++ more) 1
 
+    -- A step of a text and the same step of a longer one. The rows are those of `step`, in its order: where the first
+    -- character tells the kind, both texts choose alike, and the lemma of that kind says the rest. Where the second
+    -- character is asked too, the choice is alike unless the text is open behind the first.
     step_came : Came steps more r (step x y n c) (step (slice_index (r ++ more) 0) z n (longer_core more c))
     unfolding step
     step_came = same_step (λ known. ap (λ d. step d z n (longer_core more c)) (first_known more r (some r known)))

@@ -305,6 +305,9 @@ lines_read st c indent i n d is_given _ start b m x _ others ind h (inr (spaces_
 lines_read st c indent i n d is_given _ start b m x _ others ind h (inr (spaces_alone j some low over))
     (inr (e, dark)) = absurd (some_spaces j some e)
 
+-- A block scalar that is spelled so is read. The header is read first (`header_read`), then the empty lines before
+-- the content, then the lines (`lines_read`). The reader's own promise on what it took (`values_of_lines`) tells
+-- which piece of the text that is.
 pub each_read : (st : BlockStyle) (c : Chomping) (indent i n : ℕ) (ls : List Line) (s : Cursor) (body others : List ℕ)
     → IsBlockScalar indent i n c ls s.rest body others → IsTaken st indent i n c ls s body others
 unfolding behind_header

@@ -40,6 +40,7 @@ pub spaces_passed : (i : ℕ) (given : Bool) (limit : Option ℕ) (before : Empt
 spaces_passed i given limit before b k m l col within =
     cc (append-nil (spaces k), stopped i k given limit [] before b m l (omega arith) (λ e. cc) refl)
 
+-- Empty lines are passed, by recursion over them. What is counted and the widest of them go along.
 pub empty_passed : (i n : ℕ) (given : Bool) (limit : Option ℕ) (x others : List ℕ) (before : EmptyLinesRead) (b : Bool)
     (m : Marker) (ls : List Line) (t : List ℕ) → IsLimit i given limit → m.col ≡ 0 → before.widest ≤ i
     → IsBehind i n x others → AreEmptyLines i x ls t → Passed i n others before ls (pass_empty_lines limit before b m t)

@@ -85,6 +85,8 @@ all_dropped : (xs : List ℕ) → drop (length xs) xs ≡ []
 all_dropped [] = refl
 all_dropped (x ∷ xs) = all_dropped xs
 
+-- The end of a header is read: blanks, perhaps a comment, and a line feed or the text's end. A case for each of the
+-- four spellings and for no blanks; in each the lengths that the reader computes are those of the spelling's parts.
 pub end_read : (start : Marker) (s : Cursor) (d x : List ℕ) → s.rest ≡ d → IsHeaderEnd d x → slice_index x 0 ≢ 9
     → s.blank_so_far ≡ false → Ended start s x
 end_read start s _ x e (no_comment [] y h) tab dark = header_end_at start s y (cc) (ap (is_bare_comment Yes) e) tab

@@ -98,6 +98,8 @@ led_more st c i n others before w ls r l = record {
   whole = λ e. ap (λ ys. 10 ∷ ys) (l.whole (suc e));
 }
 
+-- The empty lines before the first line with content are passed, by recursion over the body. Behind them stands
+-- content, on the last line or another, and `led_at` joins that to what the reader does from there.
 pub led_on : (st : BlockStyle) (c : Chomping) (i n : ℕ) (given : Bool) (limit : Option ℕ) (x others : List ℕ)
     (before : EmptyLinesRead) (b : Bool) (m : Marker) (ls : List Line) (t : List ℕ) → IsLimit i given limit → m.col ≡ 0
     → before.widest ≤ i → IsBehind i n x others

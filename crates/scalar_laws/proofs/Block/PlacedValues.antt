@@ -172,6 +172,9 @@ last_value st c i ab k b m x cs col h =
     ∙ ap (λ r. lines_behind_text bb (lines_behind_text (x ∷ cs) r)) (line_end_on st i (is_blank x) b p) in
     simp (same, append_assoc, unfinished i (line_cursor b p []) (omega arith) refl, cut_tail c true)
 
+-- What the reader gives of the lines that are left is their content, as folded, and the line breaks at the end. By
+-- recursion over the lines: an empty one is counted, one with content comes behind the breaks that were counted, and
+-- the last may end without a line break.
 pub lines_value_left : (st : BlockStyle) (c : Chomping) (i n : ℕ) (x others : List ℕ) (above : List ℕ) (more : Bool)
     (k : ℕ) (b : Bool) (m : Marker) (ls : List Line) (t : List ℕ) → is_more_indented above ≡ more → m.col ≡ 0
     → AreLines i x ls t → IsBehind i n x others → Value c i (between st i (Some more) k b m t)

@@ -7,6 +7,8 @@ use Rattle.saphyr_scalar.specs.Spelling.Quoted as quotes
 use Rattle.scalar_laws.proofs.Quoted.IndentedLines.{line_indented}
 use Rattle.scalar_laws.proofs.Quoted.WordsRead.{with_gap, mark_content, closed_read, two_quotes_read, escape_read, escaped_break_read, same_at_quote, ReadsBehindBlank, itself_read, broken_read}
 
+-- The items inside quotes are read, by recursion over the spelling. A row for each kind of item; what a reading makes
+-- of the blanks before it is the same in each (`with_gap`).
 inside_read : (indent : ℕ) (start : Marker) (q : Quote) (t : List ℕ) (items : List Item) (x : List ℕ)
     (r : quotes.IsText q t items x) → LinesFit indent q t items x r → (m : Marker)
     → ReadsBehindBlank q indent start m t items x

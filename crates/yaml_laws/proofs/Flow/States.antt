@@ -167,6 +167,8 @@ pub data Fits (around : Around) (x : Context) (m : Marker) (p o : List ℕ) : Ty
 
 -- ## What the readers of scalars, properties and directives promise
 
+-- They are the laws of the crate of scalars, one field for each reader, and `place` says that a place behind a text
+-- is one alone. What is shown of flow nodes takes them as a premise, and cites no proof of a scalar.
 pub record ReaderPromises : Type 0 where
   pub plain : (in_flow : Bool) (indent : ℕ) (s : Cursor) (text x : List ℕ) → s.rest ≡ text ++ x
       → IsPlainText in_flow indent s.mark text x → let end = end_of_text s.mark text in let behind =

@@ -42,6 +42,8 @@ over_feed : (m : Marker) (t : List ℕ) → (cs : List ℕ) × (t ≡ line_feed 
     × AreIn (λ c. not (c == carriage_return)) (drop (break_len t) t)
 over_feed m t (cs, is) clean = grind arith
 
+-- A quoted text that ends the whole text ends right of the column, or at it. By recursion over the spelling: on a
+-- line each character moves to the right, and a later line begins right of the column (`LinesFit`).
 pub text_right : (column : ℕ) (q : Quote) (t : List ℕ) (items : List Item) (x : List ℕ) (spelled : IsText q t items x)
     → LinesFit column q t items x spelled → x ≡ [] → (m : Marker) → Reaches column m t
     → AreIn (λ c. not (c == carriage_return)) t → column ≤ (moved m t).col
