@@ -117,7 +117,8 @@ impl<T: Input> Engine<T> {
 
     // The text is refused at a place. Where it is open, what comes behind what came may change that.
     fn refuse(&mut self, text: FaultText, mark: Marker, may_change: bool) -> Stopped
-        ensures { self.new.stop ≡ Refused (record { text = text; mark = mark; may_change = may_change }) }
+        ensures { self.new.stop ≡ Refused (record
+            { text = text; mark = mark; may_change = may_change }) }
     {
         self.stop = Stop::Refused(Refusal {
             text,
