@@ -5,15 +5,15 @@
 
 The examples of release/examples print the events of a small text: in C99 and C++17 with the archive, in C through
 `pkg-config` and through CMake with the shared library, and in Python; and the crate's example in a cargo project with a
-`[patch]`. Their lines are to be those of `dump_events`. The programs of the release's README, and the one of its page
-on the faces, print what they say. The package for Python is installed in an empty environment of each CPython from 3.8
-on that is found on the PATH or that pyenv has, and run there over all cases (tests/release/python_module.py). The
-release is installed below a folder by its install.sh, and by its package for Debian where there is dpkg; lintian, if it
-is there, finds no error in that. Each file has its sum. The pages are read (release_pages.py). The shared library
-exports the header's calls alone. The version is the same wherever it stands, and so is the address of the repository,
-if one is given. Where there is no compiler of C, the script says so, and tests nothing; what else is missing it says,
-and tests the rest. Without that compiler, cargo, Python's headers or a Python that can make an environment it fails,
-unless the variable SKIP_MISSING is set.
+`[patch]`. Their lines are to be those of `dump_events`. The programs of the release's README, what README and FACES.md
+show in C, Rust and Python, and the commands of FACES.md are built and run. The package for Python is installed in an
+empty environment of each CPython from 3.8 on that is found on the PATH or that pyenv has, and run there over all cases
+(tests/release/python_module.py). The release is installed below a folder by its install.sh, and by its package for
+Debian where there is dpkg; lintian, if it is there, finds no error in that. Each file has its sum. The pages are read
+(release_pages.py). The shared library exports the header's calls alone. The version is the same wherever it stands, and
+so is the address of the repository, if one is given. Where there is no compiler of C, the script says so, and tests
+nothing; what else is missing it says, and tests the rest. Without that compiler, cargo, Python's headers or a Python
+that can make an environment it fails, unless the variable SKIP_MISSING is set.
 """
 import glob
 import hashlib
@@ -28,7 +28,7 @@ import tempfile
 
 from faces import CRATE, libraries, without
 from refused_memory import ROOT, program
-from release_pages import block, files_below, read, wrong_links, wrong_manuals, wrong_words
+from release_pages import block, blocks, files_below, read, wrong_links, wrong_manuals, wrong_words
 
 TEXT = b"name: &it !!str 'parser'\nports: [80, \"443\", *it]\n"
 SCALARS = b"1:1 name\n1:7 parser\n2:1 ports\n2:9 80\n2:13 443\n"
@@ -64,6 +64,29 @@ int main(void) {
     return status || kinds != 12 || saphyr_valid_up_to(NULL, 0) || !*saphyr_status_text(SAPHYR_MORE);
 }
 """
+# What README and FACES.md show in C, of a text, and what that prints; and the same in Rust, where README has no `main`.
+SHOWN = "server: {port: 80}\nk: [?]\n"
+PARTS = """#include <saphyr_parser.h>
+#include <stdio.h>
+int main(void) {
+    static const uint8_t text[] = %s;
+    size_t len = sizeof text - 1, scalars = 0;
+    saphyr_parser parser = {0};
+    saphyr_new(text, len, false, &parser);
+    %s
+    printf("%%zu\\n", scalars);
+    saphyr_free(&parser);
+    return 0;
+}
+"""
+PRINTED = (b"1: 80\n2:5: [126] ns-plain-first: a plain scalar begins with '?' only before a character of its own\n5\n")
+COUNTING = """fn main() -> Result<(), saphyr_parser::ScanError> {
+    let (text, mut scalars) = (%s, 0);
+    %s
+    println!("{scalars}");
+    Ok(())
+}
+"""
 PATCHED = """[package]
 name = "events"
 edition = "2021"
@@ -75,11 +98,8 @@ saphyr-parser = {{ path = "{}" }}
 """
 LISTS = """cmake_minimum_required(VERSION 3.10)
 project(events C)
-find_package(saphyr_parser 0.3 REQUIRED)
-foreach(kind IN ITEMS saphyr_parser static)
-    add_executable(${kind} events.c)
-    target_link_libraries(${kind} saphyr_parser::${kind})
-endforeach()
+add_executable(saphyr_parser events.c)
+add_executable(static events.c)
 """
 # What a Python says of itself: its version, and whether the wheel is for it.
 PROBE = """import platform, sys, sysconfig
@@ -200,6 +220,30 @@ def check_c(release, tools):
             release.check(f"{name} in {standard}", [made, *arguments], wanted)
 
 
+def has_static(release, tools):
+    """Whether the system has the C library as an archive."""
+    write(f"{release.folder}/empty.c", "int main(void) { return 0; }\n")
+    return subprocess.run([tools["cc"], "-static", "empty.c"], cwd=release.folder, capture_output=True).returncode == 0
+
+
+def check_shown(release, tools):
+    """What README and FACES.md show in C, and the commands of FACES.md."""
+    shown = blocks(release.faces, "c") + blocks(f"{ROOT}/README.md", "c")
+    text = json.dumps(SHOWN)
+    write(f"{release.folder}/shown.c", PARTS % (text, "\n".join(f"{{\n{it}}}" for it in shown)))
+    words = ["-std=c99", *STRICT, f"-I{release.at}/include", "shown.c", f"{release.at}/lib/libsaphyr_parser.a"]
+    release.call([tools["cc"], *words, "-o", "shown"])
+    release.check("what pages show in C", [f"{release.folder}/shown"], PRINTED)
+    static = has_static(release, tools)
+    lines = read(release.faces).split("\n## From C\n\n")[1].partition("\n\n")[0].replace("RELEASE", release.at)
+    for number, line in enumerate(lines.replace("FILE", "shown").split("\n")):
+        if "export" in line or "$(" in line and not tools["pkg-config"] or "-static" in line and not static:
+            continue
+        line = re.sub(r"^\s*cc", tools["cc"], line).partition("#")[0]
+        release.call(["sh", "-c", f"PKG_CONFIG_PATH={release.at}/lib/pkgconfig; export PKG_CONFIG_PATH; {line} -o it"])
+        release.check(f"command {number} of FACES.md", [f"{release.folder}/it"], PRINTED)
+
+
 def check_pkg_config(release, tools):
     """The shared library, with the words that pkg-config says, and the archive by `-static`."""
     release.env["PKG_CONFIG_PATH"] = f"{release.at}/lib/pkgconfig"
@@ -207,10 +251,7 @@ def check_pkg_config(release, tools):
     knows = "--shared" in release.call([tools["pkg-config"], "--help"])
     words = [tools["pkg-config"], *["--shared"] * knows, "--cflags", "--libs", "saphyr_parser >= 0.3.3"]
     said = release.call(words).split()
-    write(f"{release.folder}/empty.c", "int main(void) { return 0; }\n")
-    # Not each system has the C library as an archive.
-    static = subprocess.run([tools["cc"], "-static", "empty.c"], cwd=release.folder, capture_output=True).returncode == 0
-    for name, words in (("pkg-config", []), *[("pkg-config with -static", ["-static"])] * static):
+    for name, words in (("pkg-config", []), *[("pkg-config with -static", ["-static"])] * has_static(release, tools)):
         made = f"{release.folder}/{name.replace(' ', '_')}"
         words = [tools["cc"], "-std=c99", *STRICT, *words, f"{release.examples}/events.c", *said, "-o", made]
         release.call(words)
@@ -220,7 +261,9 @@ def check_pkg_config(release, tools):
 def check_cmake(release, tools):
     """Both targets that the file for CMake has."""
     project = f"{release.folder}/cmake"
-    write(f"{project}/CMakeLists.txt", LISTS)
+    find, link = block(release.faces, "cmake").splitlines()
+    links = (link.replace("NAME", it).replace("::saphyr_parser", f"::{it}") for it in ("saphyr_parser", "static"))
+    write(f"{project}/CMakeLists.txt", "\n".join([LISTS, find, *links]))
     shutil.copy(f"{release.examples}/events.c", project)
     release.call([tools["cmake"], "-S", project, "-B", f"{project}/out", f"-DCMAKE_PREFIX_PATH={release.at}"])
     release.call([tools["cmake"], "--build", f"{project}/out"])
@@ -238,8 +281,11 @@ def check_cargo(release, tools):
     named = block(release.readme, "toml").replace("RELEASE", release.at)
     write(f"{project}/Cargo.toml", f'[package]\nname = "first"\nedition = "2021"\n{named}[workspace]\n')
     write(f"{project}/src/main.rs", block(release.readme, "rust"))
+    write(f"{project}/src/bin/trees.rs", block(release.faces, "rust"))
+    write(f"{project}/src/bin/counts.rs", COUNTING % (json.dumps(SHOWN), block(f"{ROOT}/README.md", "rust")))
     release.call(build, project)
-    release.check("the README's in Rust", [f"{project}/out/debug/first"], FIRST)
+    for name, wanted in (("first", FIRST), ("trees", b'1:16: Some("80")\n'), ("counts", b"5\n")):
+        release.check(f"the pages' {name} in Rust", [f"{project}/out/debug/{name}"], wanted)
     for name, crate in (("cargo", release.rust), ("a relative path", alone)):
         project = f"{release.folder}/{name.replace(' ', '_')}_project"
         write(f"{project}/Cargo.toml", PATCHED.format(crate))
@@ -291,6 +337,8 @@ def check_python(release):
 def check_python_programs(release, version, python):
     """The examples, the programs of the pages, and all cases, in a Python that has the package."""
     release.check(f"Python {version}", [python, f"{release.examples}/events.py"])
+    counting = f"import saphyr_parser\ntext = {SHOWN!r}\n{block(f'{ROOT}/README.md', 'python')}print(scalars)"
+    release.check(f"README in Python {version}", [python, "-c", counting], b"5\n")
     for page, first, last in ((release.readme, b"1:9 80\n", b"1:13 443\n"),
                               (release.faces, b"1:1 STREAM_START None\n", b"1:13: x is no number\n")):
         written = release.run([python, "-c", block(page, "python")])
@@ -488,6 +536,7 @@ def main():
         tools = {name: shutil.which(name, path=release.env["PATH"]) for name in ("pkg-config", "cmake", "cargo")}
         tools |= {"cc": compiler, "c++": shutil.which("c++") or shutil.which("clang++")}
         check_c(release, tools)
+        check_shown(release, tools)
         check_installer(release, compiler)
         check_package(release, compiler)
         check_checker(release)

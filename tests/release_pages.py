@@ -25,9 +25,14 @@ def files_below(folder):
     return sorted(os.path.relpath(f"{at}/{it}", folder) for at, _, files in os.walk(folder) for it in files)
 
 
+def blocks(page, language):
+    """The blocks of code in a language on a page."""
+    return [text for name, text in BLOCK.findall(read(page)) if name == language]
+
+
 def block(page, language):
-    """The first block of code in a language on a page."""
-    return next(text for name, text in BLOCK.findall(read(page)) if name == language)
+    """The first of them."""
+    return blocks(page, language)[0]
 
 
 def anchors(page):

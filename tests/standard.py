@@ -8,7 +8,6 @@ PROGRAM is the one that `rt ci` or `rt run` leaves in crates/check_yaml/out. The
 - each text of the table of docs/DEPARTURES.md on what the parser reads though the standard doesn't derive it: it has to
   be refused by the rule of its row, and each two of them that are documents of one text by both rules;
 - texts whose entries break rules: each that is named beside the text has to be told, and no other;
-- what docs/CHECK_YAML.md shows of a text: that is what is printed;
 - if valgrind is there, a deep text that deviates, at two sizes: twice the text takes twice the instructions;
 - 20,000 keys behind a `?` in one another, and as many comments behind the last: standard, in time that is linear;
 - COUNT (2,000) random derivations of derivations.py: each has to be standard;
@@ -33,7 +32,6 @@ import shutil
 import subprocess
 import sys
 import tempfile
-import textwrap
 
 import derivations
 import recognizer
@@ -125,17 +123,6 @@ def checked(program, texts):
     return found
 
 
-def is_shown(program):
-    """Whether docs/CHECK_YAML.md shows what is printed of a text."""
-    with open(f"{TOP}/docs/CHECK_YAML.md", encoding="utf-8") as page:
-        shown = textwrap.dedent(re.search(r"(?m)^    a\.yaml:1:.*\n    (.*)\n.*\^\n", page.read())[0])
-    with tempfile.TemporaryDirectory() as folder:
-        with open(f"{folder}/a.yaml", "w", encoding="utf-8") as file:
-            file.write(shown.split("\n")[1] + "\n")
-        ran = subprocess.run([os.path.abspath(program), "--standard", "a.yaml"], capture_output=True, cwd=folder)
-    return ran.stdout.decode() == shown
-
-
 def instructions(program, count):
     """How many instructions it takes to read on behind a deviation that is as deep as so many collections. Entries in
     brackets, comments and an entry of the innermost collection follow."""
@@ -223,8 +210,6 @@ def main():
         if ", ".join(f"{line} {rule}" for rule, line in found) != rules:
             wrong.append(f"{text!r}: {found} in place of {rules}")
 
-    if not is_shown(given.program):
-        wrong.append("docs/CHECK_YAML.md shows what is not printed")
     if shutil.which("valgrind") and instructions(given.program, 4000) > 2.5 * instructions(given.program, 2000):
         wrong.append("more than twice the instructions for twice the text behind a deviation")
 
