@@ -55,7 +55,7 @@ from recognizer import Grammar, printed as printed_forest
 
 TOP = os.path.dirname(os.path.dirname(os.path.abspath(__file__)))
 PROGRAM, DATA = TOP + "/crates/dump_events/out/dump_events", TOP + "/crates/test_cases/data/"
-PAGE = TOP + "/docs/DEFINITIONS.md"
+PAGE = TOP + "/docs/PROMISES.md"
 ALPHABET = "a:-?#[]{},&!*|>\"'. \n"
 PIECES = ["a", "a ", "a: ", ": ", ":\n", "- ", "-\n", "? ", "\n ", "\n  ", "\n- ", "\n: ", "\n? ", "\na: ", "&a ",
           "&a\n", "!a ", "*a ", "|\n", ">\n", "--- ", "\n...\n", " #", "[a", "{a", ", ", "a\n", '"a"', "'a'", "%TAG ",
@@ -1203,7 +1203,7 @@ def check_open(words):
         if has != [False, True] or not re.search(pattern, text):
             wrong.append(f"{name}: {answer!r} is not an answer of {text!r} for the want of this alone")
         if f"({on_page(text)}" not in said:
-            wrong.append(f"{name}: docs/DEFINITIONS.md has no {on_page(text)}")
+            wrong.append(f"{name}: docs/PROMISES.md has no {on_page(text)}")
     print(*wrong, sep="\n", end="\n" * bool(wrong))
     return bool(wrong)
 

@@ -1,7 +1,10 @@
 #!/usr/bin/env python3
-"""Which definitions a reader must believe, for each promise of a parser: what `docs/DEFINITIONS.md` lists, found anew.
+"""Which definitions a reader must believe, for each promise of a parser, and what each of them says.
 
-    tests/promises.py [--quiet] [--mark] [NAME..]
+    tests/promises.py [--quiet] [NAME..]
+    tests/promises.py --words [NAME..]
+    tests/promises.py --whole [NAME..]
+    tests/promises.py --proofs NAME..
 
 A promise is a clause of one of `FUNCTIONS`: of `Parser::new` (or of `with_limit` and `new_from_iter`, where they say
 more), of the calls of a parser, of those of a `PieceParser`, of `load_documents`, of `load_document`, of `dump`, of
@@ -10,15 +13,17 @@ crate's `specs`, and so is each name in there. What is reached is printed, by cl
 standard that its head names, and the definitions. A `NAME` of a clause or a function, as `taken`, prints this alone,
 and `--quiet` counts only.
 
-An entry of the page begins with its names, their file and section, and which promises rest on them: those of its names,
-or where it has none, of its files. The script fails where an entry says something else, and `--mark` writes it into the
-page.
+`--words` prints a page of what is reached, from the characters up: the comment at the head of each file, its headings,
+and each definition with the promises that rest on it and the comment above it, or, where there is none, the definition
+itself. With `--whole` each has both. `--proofs` prints what proves a function or a law of these names:
+the file of its answers, and the files of proofs to which that leads in its crate, each with its head.
 
 No promise quotes a definition of steps, which stands in a file or folder `Steps`: those say what the code does, and not
 what the standard asks. So the script fails where one is reached, and prints the names that lead there. But a promise
 speaks of what the code computes, and there it stops: at the names of `COMPUTED`, which are the tokens that are scanned,
 the events that come and the place in them. What calls do to that place, the files of `CURSOR` say by the machine's own
-step, and there it stops too.
+step, and there it stops too. It also fails where a file that is reached has no comment at its head, and where the
+table of README has other counts.
 
 What it doesn't tell: definitions of the kit's library, types that the code declares (`specs.declared`), and what an
 input has of its own (`T.rest`). A variable with the name of a definition that its file has or imports counts as this
@@ -27,19 +32,21 @@ definition, so that one too many may be listed, and none is missed.
 import argparse
 import collections
 import functools
+import glob
+import itertools
 import os
 import re
 import sys
 import textwrap
 
 TOP = os.path.dirname(os.path.dirname(os.path.abspath(__file__)))
-PAGE = os.path.join(TOP, "docs", "DEFINITIONS.md")
+README = os.path.join(TOP, "README.md")
 PARSER, LOADER = "crates/saphyr_parser/src/cursor.rt", "crates/yaml_tree/src/loading.rt"
 ONE_LOADER = "crates/yaml_tree/src/document_loading.rt"
 PIECES = "crates/saphyr_pieces/src/parser.rt"
 VALIDATOR = "crates/yaml_standard/src/verdict.rt"
 PRINTING, RUNNING = "crates/saphyr_parser/src/printing.rt", "crates/saphyr_parser/src/printing/run.rt"
-# each with its mark in the page, where that isn't the clause's own name
+# each with the name of its promise, where that isn't the clause's own
 FUNCTIONS = {
     (PARSER, "new"): None, (PARSER, "with_limit"): None, (PARSER, "new_from_iter"): None,
     (PARSER, "next_event"): "calls", (PARSER, "next_event_into"): "calls", (PARSER, "peek"): "calls",
@@ -71,8 +78,8 @@ HEAD = re.compile(r"((?:(?:abbrev|unfoldable|pub|data|record) )+)([^\s:]+)|([^\s
 CONSTRUCTOR = re.compile(r"\s+([^\s:]+) :")
 SECTION = re.compile(r"\(((?:YAML|RFC)[^)]*)\)")
 WORDS = re.compile(r"[^\s(){}\[\];,λ]+")
-# an entry of the page: names, where they stand, and for which promises
-ENTRY = re.compile(r"- \*\*(.+?)\*\* in (.+?)(?:, for \*(.+?)\*)?:$")
+# a row of README's table: a clause of `new_from_iter`, or a function, and how many definitions it rests on
+ROW = re.compile(r"^\| (?:of )?`(\w+)` \| .*? \| (\d+)(?: definitions)? \|", re.M)
 
 Module = collections.namedtuple("Module", "crate name")
 Definition = collections.namedtuple("Definition", "module name")
@@ -98,7 +105,10 @@ class Scope:
 
 
 class Spec(Scope):
-    """A file of definitions: the lines of each, other names that mean it, and the section that the file's head names."""
+    """A file of definitions: the lines of each, other names that mean it, and the section that the file's head names.
+
+    `texts` are the same lines as they are, `words` the comments above each and inside, `headings` what it is below.
+    """
 
     def __init__(self, path):
         with open(path, encoding="utf-8") as file:
@@ -106,33 +116,53 @@ class Spec(Scope):
         super().__init__(lines)
         self.path = os.path.relpath(path, TOP)
         head = next((n for n, line in enumerate(lines) if not line.startswith("--")), len(lines))
-        section = SECTION.search(" ".join(line.lstrip("- ") for line in lines[:head]))
+        self.head = said(lines[:head])
+        section = SECTION.search(self.head)
         self.section = section[1] if section else ""
         self.definitions, self.other_names = {}, {}
-        self.read(line for line in lines if not line.lstrip().startswith(("--", "use ", "pub use ", "pub mod ")))
+        self.texts, self.words, self.headings = {}, collections.defaultdict(list), {}
+        self.read(line for line in lines[head:] if not line.lstrip().startswith(("use ", "pub use ", "pub mod ")))
 
     def read(self, lines):
-        name, is_type, begin = None, False, ""
+        name, is_type, begin, comment, before, heading = None, False, "", [], [], ""
         for line in lines:
+            if line.lstrip().startswith("--"):
+                comment.append(line)
+                continue
+            if comment and comment[0].startswith("-- ## "):
+                heading, comment = said(comment).lstrip("# "), []
+            if comment and not line.strip():
+                before, comment = [*before, said(comment)], []
             if BLOCK.match(line):
                 name, begin = None, "  "
                 continue
             if line[:1].strip():
                 begin = ""
-            head = HEAD.match(line, len(begin)) if line.startswith(begin) else None
+            whole, head = line, HEAD.match(line, len(begin)) if line.startswith(begin) else None
             constructor = CONSTRUCTOR.match(line)
             if head:
                 name, is_type = head[2] or head[3], head[1] is not None and "data" in head[1]
-                self.definitions[name] = []
+                self.definitions[name], self.texts[name] = [], []
+                self.headings[name] = heading
+                self.words[name] += before
+                before = []
                 self.other_names.update(dict.fromkeys(parts_of(name), name))
             elif is_type and constructor:
                 self.other_names.setdefault(constructor[1], name)
                 line = line[constructor.end():]
             if name:
                 self.definitions[name].append(line)
+                self.texts[name].append(whole)
+                self.words[name] += [said(comment)] if comment else []
+            comment = []
 
     def owner(self, name):
         return name if name in self.definitions else self.other_names.get(name)
+
+
+def said(comment):
+    """The words of the lines of a comment."""
+    return " ".join(re.sub(r"^\s*-- ?", "", line) for line in comment)
 
 
 def parts_of(name):
@@ -246,89 +276,133 @@ def show(came):
         print(f"  {spec.path}{section}: {', '.join(sorted(files[module]))}")
 
 
-def look(path, function, asked, reached, is_quiet):
-    """Prints what the clauses of a function reach, and gathers the marks of it; gives the lines on steps among it."""
+def look(path, function, asked, reached, by_clause, is_quiet):
+    """Prints what the clauses of a function reach, and gathers it; gives the lines on steps among it."""
     wrong = []
     clauses, scope = clauses_of(path, function)
     for clause, text in clauses:
         if asked and not asked.intersection((clause, function)):
             continue
         name = f"`{function}`" + (f", clause `{clause}`" if clause else "")
-        came = reached_from(text, scope)
+        came = by_clause[function, clause] = reached_from(text, scope)
         more = [definition for definition in came if function not in SAME_AS_NEW or definition not in reached]
         if not is_quiet:
             print(f"{name}: {len(came)} definitions"
                   + (f", of which {len(more)} not by `new`" if function in SAME_AS_NEW else ""))
             show(more)
-        wrong += [f"{name}: {path_to(step, came)}, of {spec_of(step.module).path}"
+        wrong += [f"a promise reaches a step: {name}: {path_to(step, came)}, of {spec_of(step.module).path}"
                   for step in more if is_step(step) and step not in COMPUTED]
         for definition in came:
             reached.setdefault(definition, set()).add(FUNCTIONS[path, function] or clause)
     return wrong
 
 
-def marks_of(entry, files, reached):
-    """The promises that rest on an entry's definitions. What rests on `yaml` has no mark for `closed`, nor for
-    `standard`."""
-    names = re.findall(r"`([^`]+)`", entry)
-    marks = {mark for definition, marks in reached.items() for mark in marks
-             if spec_of(definition.module).path.endswith(files) and (not names or definition.name in names)}
-    if "yaml" in marks:
-        marks -= {"closed", "standard"}
+def marks_of(marks):
+    """The promises that rest on a definition. What rests on `yaml` has no mark for `closed`, nor for `standard`."""
+    marks = marks - {"closed", "standard"} if "yaml" in marks else marks
     found = [mark for mark in MARKS if mark in marks]
     return "all" if len(found) == len(MARKS) - 2 and "yaml" in found else ", ".join(found)
 
 
-def marked_page(reached):
-    """The page with the marks that were found, and the lines on entries that have others."""
-    lines, other, head = [], [], []
-    with open(PAGE, encoding="utf-8") as file:
-        for number, line in enumerate(file, 1):
-            if line.startswith("- **") or head:
-                head.append(line.strip())
-                if not line.endswith(":\n"):
-                    continue
-            entry = ENTRY.match(" ".join(head)) if head else None
-            files = tuple("/" + name for name in re.findall(r"`([^`]+\.antt)`", entry[2])) if entry else ()
-            if files:
-                has, found = entry[3] or "", marks_of(entry[1], files, reached)
-                if has != found:
-                    other.append(f"docs/DEFINITIONS.md, line {number}: {found or 'none'} in place of {has or 'none'}")
-                marks = f", for *{found}*" if found else ""
-                line = textwrap.fill(f"- **{entry[1]}** in {entry[2]}{marks}:", 120, subsequent_indent="  ",
-                                     break_long_words=False, break_on_hyphens=False) + "\n"
-            elif head:
-                line = "\n  ".join(head) + "\n"
-            head = []
-            lines.append(line)
-    return "".join(lines), other
+@functools.lru_cache(None)
+def used_by(crate):
+    """The crates of crates.txt below one."""
+    with open(os.path.join(TOP, "crates.txt"), encoding="utf-8") as file:
+        lines = dict(line.split(":", 1) for line in file if ":" in line and not line.startswith("#"))
+    names = {name.split()[0]: below.split() for name, below in lines.items()}
+    return {crate}.union(*(used_by(below) for below in names.get(crate, ())))
+
+
+def wrapped(text):
+    return textwrap.fill(text, 120, subsequent_indent="  " * text.startswith("- "), break_on_hyphens=False)
+
+
+def show_definition(spec, name, marks, is_whole):
+    """Prints what the comments say of a definition, and itself if it is asked for, or a number, or has no comment."""
+    words, lines = " / ".join(spec.words[name]), [line for line in spec.texts[name] if line.strip()]
+    value = lines[-1] if re.fullmatch(rf" *{re.escape(name)} = [0-9a-fA-Fx]+", lines[-1]) else ""
+    print(wrapped(f"- **{name}** (*{marks}*): {words}{'; ' * bool(words and value)}{value}".rstrip(": ")))
+    if is_whole or not words and not value:
+        print("\n" + textwrap.indent(textwrap.dedent("\n".join(lines)), " " * 6) + "\n")
+
+
+def show_words(reached, is_whole):
+    """Prints the page: the words of each file, and of each definition that is reached."""
+    modules = {definition.module for definition in reached}
+    for module in sorted(modules, key=lambda it: (len(used_by(it.crate)), it.crate, it.name)):
+        spec, last = spec_of(module), ""
+        print(f"\n## {spec.path}\n\n{wrapped(spec.head)}\n")
+        for name in spec.definitions:
+            if Definition(module, name) in reached:
+                if spec.headings[name] != last:
+                    last = spec.headings[name]
+                    print(f"\n### {last}\n")
+                show_definition(spec, name, marks_of(reached[Definition(module, name)]), is_whole)
+
+
+def proof_at(path):
+    """The words at the head of a file of proofs, and the files of proofs that it uses, but for those of common words."""
+    with open(path, encoding="utf-8") as file:
+        lines = file.read().split("\n")
+    head = said(itertools.takewhile(lambda line: line.startswith("--"), lines))
+    used = (re.match(r"(?:pub )?use Rattle\.(\w+)\.proofs\.([\w.]+?)(?:\.\{| as |$)", line) for line in lines)
+    files = (os.path.join(TOP, "crates", it[1], "proofs", *it[2].split(".")) + ".antt" for it in used if it)
+    return head, [it for it in files if os.path.exists(it) and os.path.basename(it) != "Common.antt"]
+
+
+def show_proofs(name):
+    """Prints what proves a function or a law; gives whether there is a file of its answers."""
+    answers = sorted(glob.glob(f"{TOP}/crates/*/proofs/**/{glob.escape(name)}/Answers.antt", recursive=True))
+    for path in answers:
+        print(f"\n## {os.path.relpath(path, TOP)}\n")
+        crate = os.path.join(TOP, *os.path.relpath(path, TOP).split("/")[:2], "")
+        seen, waiting = {path}, collections.deque([path])
+        while waiting:
+            at = waiting.popleft()
+            head, used = proof_at(at)
+            if at != path:
+                print(wrapped(f"- {os.path.relpath(at, TOP)}: {head}"))
+            # the proofs of other crates are named, and not followed
+            more = [it for it in dict.fromkeys(used) if it not in seen] if at.startswith(crate) else []
+            seen.update(more)
+            waiting.extend(more)
+    return bool(answers)
+
+
+def other_counts(came):
+    """The rows of README's table that have another count than what a clause reaches."""
+    with open(README, encoding="utf-8") as file:
+        rows = dict(ROW.findall(file.read()))
+    counts = {clause or function: len(found) for (function, clause), found in came.items()
+              if function in ("new_from_iter", "validate") and clause != "decided"}
+    return [f"README.md has {rows.get(name)} definitions for {name} in place of {count}"
+            for name, count in counts.items() if rows.get(name) != str(count)]
 
 
 def main():
     arguments = argparse.ArgumentParser(description=__doc__.split("\n", 1)[0])
     arguments.add_argument("--quiet", action="store_true", help="count the definitions only")
-    arguments.add_argument("--mark", action="store_true", help="write into the page what rests on each entry")
+    arguments.add_argument("--words", action="store_true", help="print what each definition says")
+    arguments.add_argument("--whole", action="store_true", help="print these words and the definitions")
+    arguments.add_argument("--proofs", action="store_true", help="print what proves functions and laws")
     arguments.add_argument("names", nargs="*", metavar="NAME", help="the clauses or functions to look at, else all")
     given = arguments.parse_args()
+    if given.proofs:
+        sys.exit(0 if all([show_proofs(name) for name in given.names]) else "there are no answers of such a name")
     names = {name for path, function in FUNCTIONS for name in (function, *dict(clauses_of(path, function)[0]))}
     if not names.issuperset(given.names):
         arguments.error(f"the names are {', '.join(sorted(filter(None, names)))}")
-    reached, wrong = {}, []
+    reached, came, wrong = {}, {}, []
     for path, function in FUNCTIONS:
-        wrong += look(path, function, set(given.names), reached, given.quiet)
-    for line in wrong:
-        print(f"a promise reaches a step: {line}", file=sys.stderr)
-    print(f"{len(reached)} definitions of {len({definition.module for definition in reached})} files must be believed, "
-          f"and {len(wrong)} of them are steps")
-    page, other = ("", []) if given.names else marked_page(reached)
-    if given.mark and other:
-        with open(PAGE, "w", encoding="utf-8") as file:
-            file.write(page)
-        print(f"{len(other)} entries of the page have new marks")
-        other = []
-    for line in other:
-        print(line, file=sys.stderr)
-    sys.exit(1 if wrong or other else 0)
+        wrong += look(path, function, set(given.names), reached, came, given.quiet or given.words or given.whole)
+    if given.words or given.whole:
+        show_words(reached, given.whole)
+    modules = {definition.module for definition in reached}
+    wrong += [f"{spec_of(module).path} has no words at its head" for module in modules if not spec_of(module).head]
+    wrong += [] if given.names else other_counts(came)
+    print(*wrong, sep="\n", end="\n" * bool(wrong), file=sys.stderr)
+    print(f"\n{len(reached)} definitions of {len(modules)} files must be believed" + ", without steps" * (not wrong))
+    sys.exit(1 if wrong else 0)
 
 
 if __name__ == "__main__":

@@ -1,0 +1,91 @@
+#!/usr/bin/env python3
+"""What the pages name is there: names of the code, productions, reasons, and the commands on promises.
+
+    tests/names.py
+
+It fails where
+
+- a name between backticks, as `read_plain` or `IsPlain`, is in no file but pages; pages of `FOREIGN` name what other
+  libraries have too, and `OTHERS` are such names elsewhere;
+- a command `tests/promises.py` fails that a page shows;
+- docs/PRODUCTIONS.md lacks one of the 211 productions, or names a definition that is in none of the files that its row
+  and its chapter name;
+- docs/DEPARTURES.md lacks words by which tests/reasons.py excuses a list that is not the Rust crate's.
+"""
+import os
+import re
+import subprocess
+import sys
+
+import reasons
+
+TOP = os.path.dirname(os.path.dirname(os.path.abspath(__file__)))
+PRODUCTIONS, DEPARTURES = "docs/PRODUCTIONS.md", "docs/DEPARTURES.md"
+FOREIGN = {"CHANGELOG.md", "docs/COMING_FROM.md", "docs/DEPARTURES.md", "docs/NOTES.md"}
+OTHERS = {"HashMap", "safe_load_all", "start_io", "start_lib"}
+CODE, BLOCK = re.compile(r"`([^`\n]+)`"), re.compile(r"^```.*?^```$|^    [^\n]*$", re.M | re.S)
+# a name of the code: with a low line inside, or of several words that begin with capitals
+NAME = re.compile(r"(?<![\w.!-])([a-z]\w*_\w*[a-z0-9]|[A-Z][a-z]+(?:[A-Z][a-z0-9]*)+)(?![\w-])")
+COMMAND = re.compile(r"tests/promises\.py(?: [\w-]+)+")
+
+
+def tracked():
+    """The files that git has, or would have."""
+    words = ["git", "ls-files", "--cached", "--others", "--exclude-standard"]
+    listed = subprocess.run(words, cwd=TOP, capture_output=True, text=True, check=True).stdout.split("\n")
+    return [it for it in dict.fromkeys(listed) if os.path.isfile(os.path.join(TOP, it))]
+
+
+def read(path):
+    with open(os.path.join(TOP, path), encoding="utf-8", errors="replace") as file:
+        return file.read()
+
+
+def wrong_names(page, known):
+    codes = CODE.findall(BLOCK.sub("", read(page)))
+    named = {name for code in codes for name in NAME.findall(code)}
+    return [f"{page}: nothing is called {name}" for name in sorted(named - known - OTHERS)]
+
+
+def wrong_commands(pages):
+    shown = {it for page in pages for it in COMMAND.findall(read(page)) if " NAME" not in it}
+    for command in sorted(shown):
+        ran = subprocess.run(command.split(), cwd=TOP, capture_output=True, check=False)
+        if ran.returncode or not ran.stdout:
+            yield f"a page shows {command}, which fails"
+
+
+def wrong_productions():
+    files = dict(re.findall(r"^\[(\w+)\]: \.\./(\S+)$", read(PRODUCTIONS), re.M))
+    numbers = []
+    for chapter in read(PRODUCTIONS).split("\n## ")[1:]:
+        own = re.findall(r"The chapter's file is \[(\w+)\]", chapter)
+        for line in (line for line in chapter.split("\n") if line.startswith("| [")):
+            production, definition = line[2:].split(" | ", 1)
+            shown = [int(it) for it in re.findall(r"\[(\d+)\]", production)]
+            numbers += range(shown[0], shown[1] + 1) if " to [" in production else shown
+            texts = [read(files[it]) for it in [*own, *re.findall(r"\[([A-Z]\w+)\]", definition)]]
+            names = {name for code in CODE.findall(definition) for name in NAME.findall(code)}
+            yield from (f"{PRODUCTIONS}: no {name} for {production}" for name in sorted(names)
+                        if not any(re.search(rf"\b{name}\b", text) for text in texts))
+    if numbers != list(range(1, 212)):
+        yield f"{PRODUCTIONS}: not 1 to 211, in this order"
+
+
+def lacking_reasons():
+    page = " ".join(read(DEPARTURES).split())
+    return [f"{DEPARTURES} doesn't say: {words}" for words, _ in reasons.REASONS if words not in page]
+
+
+def main():
+    files = tracked()
+    pages = [it for it in files if it.endswith(".md")]
+    known = {word for it in files if not it.endswith(".md") for word in re.findall(r"\w+", read(it))}
+    wrong = [line for page in pages if page not in FOREIGN for line in wrong_names(page, known)]
+    wrong += [*wrong_commands(pages), *wrong_productions(), *lacking_reasons()]
+    print(*wrong, f"names: {len(wrong)} faults", sep="\n")
+    return 1 if wrong else 0
+
+
+if __name__ == "__main__":
+    sys.exit(main())
