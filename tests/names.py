@@ -1,5 +1,5 @@
 #!/usr/bin/env python3
-"""What the pages name is there: names of the code, productions, reasons, and the commands on promises.
+"""What the pages name is there: names of the code, productions, refused texts, reasons, and commands on promises.
 
     tests/names.py
 
@@ -10,6 +10,8 @@ It fails where
 - a command `tests/promises.py` fails that a page shows;
 - docs/PRODUCTIONS.md lacks one of the 211 productions, or names a definition that is in none of the files that its row
   and its chapter name;
+- a text of which docs/DEPARTURES.md says that it gets a fault is no case of test_cases with that fault, or one of E1 to
+  E8 in PRODUCTIONS no case with a fault;
 - docs/DEPARTURES.md lacks words by which tests/reasons.py excuses a list that is not the Rust crate's.
 """
 import os
@@ -18,6 +20,7 @@ import subprocess
 import sys
 
 import reasons
+from refused_memory import DATA, cases_of
 
 TOP = os.path.dirname(os.path.dirname(os.path.abspath(__file__)))
 PRODUCTIONS, DEPARTURES = "docs/PRODUCTIONS.md", "docs/DEPARTURES.md"
@@ -26,6 +29,10 @@ OTHERS = {"HashMap", "safe_load_all", "start_io", "start_lib"}
 CODE, BLOCK = re.compile(r"`([^`\n]+)`"), re.compile(r"^```.*?^```$|^    [^\n]*$", re.M | re.S)
 # a name of the code: with a low line inside, or of several words that begin with capitals
 NAME = re.compile(r"(?<![\w.!-])([a-z]\w*_\w*[a-z0-9]|[A-Z][a-z]+(?:[A-Z][a-z0-9]*)+)(?![\w-])")
+# a text as pages write it, such as `a:` TAB `b`; several of them, and the fault that they get
+ONE = r"(?:`[^`]+`|LF|TAB|space)(?: (?:`[^`]+`|LF|TAB|space))*"
+GETS = re.compile(rf"({ONE}(?:(?:, and|,| and) {ONE})*) gets? (?:``(.+?)``|`([^`]+)`)")
+OF_YAML = re.compile(rf"\bE\d(?: \([^)]*\))?: ({ONE})")
 COMMAND = re.compile(r"tests/promises\.py(?: [\w-]+)+")
 
 
@@ -72,6 +79,24 @@ def wrong_productions():
         yield f"{PRODUCTIONS}: not 1 to 211, in this order"
 
 
+def text_of(written):
+    named, parts = {"LF": "\n", "TAB": "\t", "space": " "}, re.findall(r"`([^`]+)`|(LF|TAB|space)", written)
+    return "".join(named.get(name) or code.replace("\\|", "|") for code, name in parts)
+
+
+def wrong_faults():
+    faults = {case.text: case.fault for file in sorted(os.listdir(DATA)) for case in cases_of(file)}
+    for texts, *words in GETS.findall(re.sub(r"\n *", " ", read(DEPARTURES))):
+        found = [faults[text] for text in map(text_of, re.findall(ONE, texts)) if text in faults]
+        if not found or text_of(re.findall(ONE, texts)[-1]) not in faults:
+            yield f"{DEPARTURES}: no case has the text of {texts}"
+        yield from (f"{DEPARTURES}: a case of {texts} has {fault}" for fault in found
+                    if not (fault or "").startswith(f"{''.join(words)} at "))
+    for written in OF_YAML.findall(read(PRODUCTIONS)):
+        if not faults.get(text_of(written)):
+            yield f"{PRODUCTIONS}: no case with a fault has the text {written}"
+
+
 def lacking_reasons():
     page = " ".join(read(DEPARTURES).split())
     return [f"{DEPARTURES} doesn't say: {words}" for words, _ in reasons.REASONS if words not in page]
@@ -82,7 +107,7 @@ def main():
     pages = [it for it in files if it.endswith(".md")]
     known = {word for it in files if not it.endswith(".md") for word in re.findall(r"\w+", read(it))}
     wrong = [line for page in pages if page not in FOREIGN for line in wrong_names(page, known)]
-    wrong += [*wrong_commands(pages), *wrong_productions(), *lacking_reasons()]
+    wrong += [*wrong_commands(pages), *wrong_productions(), *wrong_faults(), *lacking_reasons()]
     print(*wrong, f"names: {len(wrong)} faults", sep="\n")
     return 1 if wrong else 0
 
