@@ -10,6 +10,7 @@ It fails where
 - a command `tests/promises.py` fails that a page shows;
 - docs/PRODUCTIONS.md lacks one of the 211 productions, or names a definition that is in none of the files that its row
   and its chapter name;
+- a definition that docs/PROMISES.md shows stands in no file of definitions;
 - a text of which docs/DEPARTURES.md says that it gets a fault is no case of test_cases with that fault, or one of E1 to
   E8 in PRODUCTIONS no case with a fault;
 - docs/DEPARTURES.md lacks words by which tests/reasons.py excuses a list that is not the Rust crate's.
@@ -23,7 +24,7 @@ import reasons
 from refused_memory import DATA, cases_of
 
 TOP = os.path.dirname(os.path.dirname(os.path.abspath(__file__)))
-PRODUCTIONS, DEPARTURES = "docs/PRODUCTIONS.md", "docs/DEPARTURES.md"
+PROMISES, PRODUCTIONS, DEPARTURES = "docs/PROMISES.md", "docs/PRODUCTIONS.md", "docs/DEPARTURES.md"
 FOREIGN = {"CHANGELOG.md", "docs/COMING_FROM.md", "docs/DEPARTURES.md", "docs/NOTES.md"}
 OTHERS = {"HashMap", "safe_load_all", "start_io", "start_lib"}
 CODE, BLOCK = re.compile(r"`([^`\n]+)`"), re.compile(r"^```.*?^```$|^    [^\n]*$", re.M | re.S)
@@ -97,6 +98,12 @@ def wrong_faults():
             yield f"{PRODUCTIONS}: no case with a fault has the text {written}"
 
 
+def wrong_definitions(files):
+    specs = [read(it) for it in files if it.endswith(".antt") and "/specs/" in it]
+    shown = re.findall(r"^```antt\n(.*?)^```$", read(PROMISES), re.M | re.S)
+    return [f"{PROMISES}: no definition is {it}" for it in shown if not any(it in text for text in specs)]
+
+
 def lacking_reasons():
     page = " ".join(read(DEPARTURES).split())
     return [f"{DEPARTURES} doesn't say: {words}" for words, _ in reasons.REASONS if words not in page]
@@ -107,7 +114,8 @@ def main():
     pages = [it for it in files if it.endswith(".md")]
     known = {word for it in files if not it.endswith(".md") for word in re.findall(r"\w+", read(it))}
     wrong = [line for page in pages if page not in FOREIGN for line in wrong_names(page, known)]
-    wrong += [*wrong_commands(pages), *wrong_productions(), *wrong_faults(), *lacking_reasons()]
+    wrong += [*wrong_commands(pages), *wrong_productions(), *wrong_definitions(files)]
+    wrong += [*wrong_faults(), *lacking_reasons()]
     print(*wrong, f"names: {len(wrong)} faults", sep="\n")
     return 1 if wrong else 0
 
