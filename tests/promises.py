@@ -15,8 +15,8 @@ and `--quiet` counts only.
 
 `--words` prints a page of what is reached, from the characters up: the comment at the head of each file, its headings,
 and each definition with the promises that rest on it and the comment above it, or, where there is none, the definition
-itself. With `--whole` each has both. `--proofs` prints what proves a function or a law of these names:
-the file of its answers, and the files of proofs to which that leads in its crate, each with its head.
+itself. With `--whole` each has both. `--proofs` prints what proves a function or a law of these names: the file of its
+answers, and the files of proofs to which that leads in its crate, each with its head.
 
 No promise quotes a definition of steps, which stands in a file or folder `Steps`: those say what the code does, and not
 what the standard asks. So the script fails where one is reached, and prints the names that lead there. But a promise
@@ -320,14 +320,17 @@ def wrapped(text):
 def show_definition(spec, name, marks, is_whole):
     """Prints what the comments say of a definition, and itself if it is asked for, or a number, or has no comment."""
     words, lines = " / ".join(spec.words[name]), [line for line in spec.texts[name] if line.strip()]
-    value = lines[-1] if re.fullmatch(rf" *{re.escape(name)} = [0-9a-fA-Fx]+", lines[-1]) else ""
+    value = f"`{lines[-1].strip()}`" if re.fullmatch(rf" *{re.escape(name)} = [0-9a-fA-Fx]+", lines[-1]) else ""
     print(wrapped(f"- **{name}** (*{marks}*): {words}{'; ' * bool(words and value)}{value}".rstrip(": ")))
     if is_whole or not words and not value:
         print("\n" + textwrap.indent(textwrap.dedent("\n".join(lines)), " " * 6) + "\n")
 
 
 def show_words(reached, is_whole):
-    """Prints the page: the words of each file, and of each definition that is reached."""
+    """Prints the page: the words of each file, and of each definition that is reached, with all that rests on it."""
+    marks = {}
+    for path, function in FUNCTIONS:
+        look(path, function, set(), marks, {}, True)
     modules = {definition.module for definition in reached}
     for module in sorted(modules, key=lambda it: (len(used_by(it.crate)), it.crate, it.name)):
         spec, last = spec_of(module), ""
@@ -337,7 +340,7 @@ def show_words(reached, is_whole):
                 if spec.headings[name] != last:
                     last = spec.headings[name]
                     print(f"\n### {last}\n")
-                show_definition(spec, name, marks_of(reached[Definition(module, name)]), is_whole)
+                show_definition(spec, name, marks_of(marks[Definition(module, name)]), is_whole)
 
 
 def proof_at(path):
@@ -401,7 +404,7 @@ def main():
     wrong += [f"{spec_of(module).path} has no words at its head" for module in modules if not spec_of(module).head]
     wrong += [] if given.names else other_counts(came)
     print(*wrong, sep="\n", end="\n" * bool(wrong), file=sys.stderr)
-    print(f"\n{len(reached)} definitions of {len(modules)} files must be believed" + ", without steps" * (not wrong))
+    print(f"{len(reached)} definitions of {len(modules)} files must be believed" + ", without steps" * (not wrong))
     sys.exit(1 if wrong else 0)
 
 
