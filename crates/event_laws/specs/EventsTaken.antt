@@ -37,7 +37,6 @@ BelongsToNone tokens.FlowMappingEnd = ⊥
 BelongsToNone tokens.BlockEnd = ⊥
 BelongsToNone _ = Unit {0}
 
--- an anchor, a tag, or both in either order
 abbrev pub IsAnchorKind : Kind → Type 0
 IsAnchorKind (tokens.Anchor name) = Unit {0}
 IsAnchorKind _ = ⊥
@@ -46,6 +45,7 @@ abbrev pub IsTagKind : Kind → Type 0
 IsTagKind (tokens.Tag handle suffix) = Unit {0}
 IsTagKind _ = ⊥
 
+-- an anchor, a tag, or both in either order
 abbrev pub ArePropertyTokens : List Piece → Type 0
 ArePropertyTokens [] = ⊥
 ArePropertyTokens (p ∷ []) = IsAnchorKind p.kind ⊎ IsTagKind p.kind
@@ -99,7 +99,8 @@ IsDocumentFollowed [] = ⊥
 IsDocumentFollowed (next ∷ others) = MayFollowDocument next.kind
 
 -- The tokens ts are the event's own, after which others come, and it has their span, unless it is an end's. An explicit
--- document's is its `---`. A document's end has none, but only another token tells that it is there.
+-- document's is its `---`. A document's end has none, but only another token tells that it is there. Nothing is asked
+-- of the spans of ends, of nodes that are left out, of bare documents and of the stream.
 abbrev pub IsOf : Happening → Span → List Piece → List Piece → Type 0
 IsOf (DocumentStart true) span ts others =
     (own : Piece) × (own.kind ≡ tokens.DocumentStart) × (own.span ≡ span) × (ts ≡ own ∷ [])
@@ -154,7 +155,8 @@ unplaced_events es = map (λ e. (e, no_span)) es
 -- The answer's events are a beginning of the forest's: all of them where no fault ends them, and with a fault not all.
 -- The tokens begin as the forest's do, and are all of them where there is no fault. Each event has its tokens, and
 -- their span. The tokens of the forest that were not read are those of the events that are missing, ends of collections
--- included: no document has ended in which a collection's end was not read.
+-- included: no document has ended in which a collection's end was not read. But a token need not end its own
+-- collection: in `a:` LF `- k: [b` the mapping of `k` may end by the end of the sequence around it.
 pub record IsBeginningOf (forest : Forest) (keep : Bool) (pieces : List Piece) (a : Answer) : Type 0 where
   pub read : List Piece
   pub unread : List Piece
@@ -177,7 +179,7 @@ abbrev pub Continue : List Happening → Answer → Type 0
 Continue es a = (others : List Happening) × (es ≡ map (λ (e : Happening × Span). e.0) a.events ++ others)
 
 -- Nothing is made up before a fault: whatever tokens come after these, the events of each forest that all of them are
--- the tokens of begin with the answer's.
+-- the tokens of begin with the answer's. Of tokens that begin no forest with events it says nothing.
 abbrev pub BeginsEachForest : Bool → List Piece → Answer → Type 0
 BeginsEachForest keep pieces a =
     (forest : Forest) (others : List Kind) (emitted : List Happening) → Yields forest (kinds pieces ++ others)
@@ -204,5 +206,7 @@ pub record IsTakenBy (forest : Forest) (keep : Bool) (text : List ℕ) (a : Answ
   pub begins_each : BeginsEachForest keep tokens.pieces a
   pub refused_at : HasPlaceIn text a.fault
 
+-- Of every text: the events of some forest are taken from it, or their beginning. Before a fault nothing tells how many
+-- they are, which fault it is, and which tokens it leaves over.
 abbrev pub AreTaken : Bool → List ℕ → Answer → Type 0
 AreTaken keep text a = (forest : Forest) × IsTakenBy forest keep text a

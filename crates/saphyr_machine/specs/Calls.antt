@@ -40,6 +40,7 @@ EndsEvents OutOfMemory a = 0 < count a
 
 -- ## Events that are handed out
 
+-- as `Advances` says, by the event that was read ahead and the fault that is kept
 abbrev pub AdvancesFrom : Option (Happening × Span) → Option Kept → Happening × Span → EventCursor → EventCursor
     → Type 0
 AdvancesFrom (Some next) kept e old new = (next ≡ e) × (new ≡ with_event_handed e.0 e.1 (record old { current = None }))
@@ -70,6 +71,7 @@ IsReportedAs kept fault.InsideDocument = ⊥
 abbrev pub given_fault : Fault → Option Kept
 given_fault f = Some (record { fault = ending_of_fault f; given = true })
 
+-- as `FailsWith` says, by the event that was read ahead and the fault that is kept
 abbrev pub FailsFrom : Option (Happening × Span) → Option Kept → Fault → EventCursor → EventCursor → Type 0
 FailsFrom (Some next) kept f old new = ⊥
 FailsFrom None (Some k) f old new = (k.given ≡ false) × IsReportedAs k.fault f
@@ -104,6 +106,7 @@ EndsTheStream c = (span : Span) → c.finished ≡ Some span → (keep : Bool) �
 
 -- ## Reading ahead
 
+-- what is read ahead: an event of the machine's one step, the fault in its place, or nothing after the stream's end
 abbrev pub ReadsAhead : Option (Happening × Span) → Option Kept → EventCursor → EventCursor → Type 0
 ReadsAhead (Some e) (Some k) old new = ⊥
 ReadsAhead (Some e) None old new =

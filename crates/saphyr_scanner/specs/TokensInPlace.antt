@@ -206,7 +206,8 @@ is_of_flow_node tokens.FlowMappingStart span = has_text span
 is_of_flow_node _ span = false
 
 -- 7.4.2, 8.2.2: A block mapping's colon is on the line where the key began, at most 1,024 characters after. A
--- single pair's is on the key's line, and one in braces anywhere after.
+-- single pair's is on the key's line, and one in braces anywhere after. So is one in an entry that `?` began: of
+-- `[? a` LF `[b]` LF `: c]` these tokens come before the parser refuses it.
 abbrev pub is_near : Enclosure → Marker → Marker → Bool
 is_near Block key colon = nat_le colon.line key.line && nat_le colon.index (key.index + 1024)
 is_near PairKey key colon = nat_le colon.line key.line
@@ -260,7 +261,7 @@ abbrev pub is_covered : Enclosed → Bool
 is_covered e = is_in_key e.key || is_in_brackets e.enclosure
 
 -- 8.2: Outside brackets a token of a flow node begins right of the column of the innermost open block collection,
--- unless it is of an implicit key.
+-- unless it is of an implicit key. Nothing is asked of block scalars (`:` LF `|` LF ` a`), nor inside brackets.
 abbrev pub is_indented : Enclosures → Kind → Span → Bool
 is_indented all kind span =
     not (is_of_flow_node kind span) || (is_covered all.inner || nat_le (least_column_in all.columns) span.start.col)
@@ -304,7 +305,8 @@ abbrev pub begins_bare : EntryFront → Kind → Span → Bool
 begins_bare PropertyFront tokens.FlowMappingStart span = has_text span
 begins_bare _ _ span = true
 
--- no single pair has properties
+-- No single pair has properties. Of properties that come later in an entry nothing is asked: in a forest no pair comes
+-- there.
 abbrev pub AreBare : EntryFront → List Piece → Type 0
 AreBare front [] = Unit {0}
 AreBare front (p ∷ ps) = IsTrue (begins_bare front p.kind p.span) × AreBare (front_behind p.kind front) ps

@@ -61,7 +61,8 @@ IsPlaceOf text m = (s : Cursor) × IsReached (start_cursor text).mark text s.mar
 
 -- ## What is between tokens (6.6, 6.7)
 
--- blanks, breaks and comments. A comment is all of the line after its `#`, up to a NUL or a byte order mark.
+-- blanks, breaks and comments. A comment is all of the line after its `#`, up to a NUL or a byte order mark. Nothing
+-- asks for a blank before it: in `{"":#` LF `}` there is none.
 pub data IsPassedOver : Marker → List ℕ → Marker → List ℕ → Type 0 where
   nothing : (m : Marker) (t : List ℕ) → IsPassedOver m t m t
   blank : (m : Marker) (c : ℕ) (t : List ℕ) (n : Marker) (u : List ℕ) → IsTrue (is_blank c)
@@ -85,11 +86,12 @@ LiesOnLine s m = (tail behind : List ℕ) × IsLineTail tail × (s.rest ≡ tail
 abbrev pub HasNoText : Span → Cursor → Cursor → Type 0
 HasNoText span s t = (span.end ≡ span.start) × IsPlaceOrEnd s span.start × (t ≡ s)
 
--- 8.2: The start of a block collection is right of the column of the collection around it, where the text of the
--- next token begins that has one: neither a blank, a break nor a comment is there.
+-- neither a blank, a break nor a comment: the text of the next token that has one
 abbrev pub begins_text : ℕ → Bool
 begins_text c = not (is_blank_or_break c) && not (c == number_sign)
 
+-- 8.2: the start of a block collection is right of the column of the collection around it, where the text of the next
+-- token begins
 abbrev pub IsBlockStart : ℕ → Span → Cursor → Cursor → Type 0
 IsBlockStart indent span s t = (span.end ≡ span.start) × (span.start ≡ s.mark) × (t ≡ s)
     × IsTrue (begins_text (slice_index s.rest 0)) × (indent ≤ s.mark.col)
@@ -113,7 +115,8 @@ abbrev pub IsContentEnd : Cursor → Type 0
 IsContentEnd s = (s.rest ≡ []) ⊎ ((s.mark.col ≡ 0) × BeginsNoContent s.rest)
 
 -- 8.2: the end of the innermost block collection is where the text goes on left of its column, or where the content
--- ends. Before it neither a blank, a break nor a comment is left.
+-- ends. Before it neither a blank, a break nor a comment is left. Nothing asks that it ends there; but of one that goes
+-- on `IsAtColumn`, `fits` and `is_indented` say what is at its column or left of it.
 abbrev pub IsBlockEnd : ℕ → Span → Cursor → Cursor → Type 0
 IsBlockEnd indent span s t =
     HasNoText span s t × IsTrue (begins_text (slice_index s.rest 0))
@@ -198,7 +201,7 @@ abbrev pub parts_colon : ℕ → Bool
 parts_colon c = is_blank_or_breakz c || is_flow c
 
 -- 7.4.2, 8.2.2: `:`, before which the span is, empty. Outside flow a blank, a break, NUL or the end follows. Inside
--- flow it is parted too, but after a text that ends like JSON.
+-- flow it is parted too, but after a text that ends like JSON, which may be on an earlier line.
 abbrev pub IsColon : Bool → Bool → Span → Cursor → Cursor → Type 0
 IsColon in_flow ends_json span s t =
     TakesCharacter colon s t × (in_flow ≡ false → IsTrue (is_blank_or_breakz (slice_index t.rest 0)))

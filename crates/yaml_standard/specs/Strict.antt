@@ -7,6 +7,7 @@ use Rattle.saphyr_scalar.specs.Spelling.Tag.{AreIn}
 abbrev pub is_allowed : ℕ → Bool
 is_allowed c = (c == tab) || (c == line_feed) || (c == carriage_return) || nat_le 0x20 c
 
--- each character is allowed
+-- Each character is allowed. Outside quotes the standard asks more of them: that they are c-printable, which no clause
+-- says.
 abbrev pub IsStrict : List ℕ → Type 0
 IsStrict t = AreIn is_allowed t

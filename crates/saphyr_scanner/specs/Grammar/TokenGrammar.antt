@@ -101,6 +101,7 @@ YieldsBlockPair key value K V others t =
 -- ## Nodes
 
 abbrev mutual
+  -- a node: its properties, and then the tokens of its content in this context
   pub YieldsNode : Node → Context → List Kind → Type 0
   YieldsNode (Alias name) context t = t ≡ alias_token name ∷ []
   YieldsNode (Scalar p style value) context t =

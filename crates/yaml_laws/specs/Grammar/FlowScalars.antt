@@ -52,6 +52,7 @@ IsFurtherWord in_flow indent t =
     (dashes gap word : List ℕ) × AreMany (IsLoneDash indent) dashes × IsWordGap indent gap × IsWordIn in_flow word
     × (t ≡ dashes ++ (gap ++ word))
 
+-- [131]: A plain scalar: words, with blanks or a break between. None ends with a colon.
 abbrev pub IsPlain : Bool → ℕ → List ℕ → Type 0
 IsPlain in_flow indent t =
     (first others : List ℕ) × IsFirstWord in_flow first × AreMany (IsFurtherWord in_flow indent) others
@@ -79,6 +80,7 @@ IsQuoted quote indent value t =
 
 -- ## A scalar in flow style
 
+-- a scalar of this style and value
 abbrev pub IsFlowScalar : Style → List ℕ → Bool → ℕ → List ℕ → Type 0
 IsFlowScalar Plain value in_flow indent t = IsPlain in_flow indent t × (value ≡ plain_value t)
 IsFlowScalar SingleQuoted value in_flow indent t = IsQuoted Single indent value t

@@ -128,7 +128,7 @@ abbrev pub IsJsonText : Node → List ℕ → Type 0
 IsJsonText node t = (before value after : List ℕ) × IsWhiteSpace before × IsValue node value × IsWhiteSpace after
     × (t ≡ before ++ (value ++ after))
 
--- The forest of a text is one document that is not explicit, with no directives.
+-- The forest of a text is one document that is not explicit, with no directives. Names may be repeated in an object.
 abbrev pub IsJson : Forest → List ℕ → Type 0
 IsJson (document ∷ []) t = (document ≡ bare document.node) × IsJsonText document.node t
 IsJson _ t = ⊥
