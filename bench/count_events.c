@@ -4,9 +4,25 @@
  *     count_events FILE [TIMES [PIECE]]
  *
  * The file is parsed so many times, each with a parser of its own. With PIECE it is not read to memory, and its text
- * comes to the parser in pieces of so many bytes. The status is 1 where the text is refused.
+ * comes to the parser in pieces of so many bytes, or line by line with the word `lines`. The status is 1 where the text
+ * is refused.
  */
 #include "printing.h"
+
+/* A file whose next piece has so many bytes, or is a line if that is 0. */
+struct source {
+    FILE *file;
+    size_t piece, room;
+    char *bytes;
+};
+
+static size_t next_piece(struct source *from) {
+    if (from->piece) {
+        return fread(from->bytes, 1, from->piece, from->file);
+    }
+    ssize_t got = getline(&from->bytes, &from->room, from->file);
+    return got < 0 ? 0 : (size_t)got;
+}
 
 /* Adds the events of a text, and says whether all were there. */
 static bool count(const uint8_t *text, size_t len, size_t *events) {
@@ -21,13 +37,14 @@ static bool count(const uint8_t *text, size_t len, size_t *events) {
 }
 
 /* The same of a file, whose text comes in pieces. */
-static bool count_pieces(FILE *file, uint8_t *bytes, size_t piece, size_t *events) {
+static bool count_pieces(struct source *from, size_t *events) {
     saphyr_parser parser = {0};
     saphyr_event event = {0};
     int32_t status = saphyr_new_pieces(false, 0, 0, &parser);
     while (status >= 0 && (status = saphyr_next(&parser, &event)) > 0) {
         if (status == SAPHYR_MORE) {
-            status = saphyr_add(&parser, bytes, fread(bytes, 1, piece, file));
+            size_t len = next_piece(from);
+            status = saphyr_add(&parser, (const uint8_t *)from->bytes, len);
         } else {
             ++*events;
         }
@@ -38,13 +55,13 @@ static bool count_pieces(FILE *file, uint8_t *bytes, size_t piece, size_t *event
 
 static int main_pieces(FILE *file, long times, size_t piece) {
     size_t events = 0;
-    uint8_t *bytes = file ? malloc(piece) : NULL;
-    if (!bytes) {
+    struct source from = {file, piece, piece, malloc(piece)};
+    if (!file || (piece && !from.bytes)) {
         return 2;
     }
     for (; times > 0; times--) {
         rewind(file);
-        if (!count_pieces(file, bytes, piece, &events)) {
+        if (!count_pieces(&from, &events)) {
             return 1;
         }
     }

@@ -2,12 +2,12 @@
 //!
 //!     count_events FILE [TIMES [PIECE]]
 //!
-//! The file is parsed so many times, each with a parser of its own. With PIECE, whatever it is, the parser is over an
-//! iterator of the text's characters.
+//! The file is parsed so many times, each with a parser of its own. With PIECE the parser is over an iterator of the
+//! text's characters, which with the word `lines` doesn't say that it has more.
 
 use saphyr_parser::{Event, Parser, ScanError, Span};
 use std::error::Error;
-use std::{env, fs};
+use std::{env, fs, iter};
 
 fn count<'a>(items: impl Iterator<Item = Result<(Event<'a>, Span), ScanError>>) -> Result<usize, ScanError> {
     let mut events = 0;
@@ -24,8 +24,10 @@ fn main() -> Result<(), Box<dyn Error>> {
     let times: usize = words.get(2).map_or(Ok(1), |it| it.parse())?;
     let mut events = 0;
     for _ in 0..times {
-        events += match words.get(3) {
-            Some(_) => count(Parser::new_from_iter(text.chars()))?,
+        let mut characters = text.chars();
+        events += match words.get(3).map(String::as_str) {
+            Some("lines") => count(Parser::new_from_iter(iter::from_fn(|| characters.next())))?,
+            Some(_) => count(Parser::new_from_iter(characters))?,
             None => count(Parser::new_from_str(&text))?,
         };
     }

@@ -2,6 +2,8 @@
  * Counts the events of a YAML file by libyaml, as count_events.c does by the C face.
  *
  *     libyaml_count FILE [TIMES [PIECE]]
+ *
+ * With the word `lines` as PIECE it is given the whole text.
  */
 #include "printing.h"
 

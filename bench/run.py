@@ -1,22 +1,25 @@
 #!/usr/bin/env python3
 """Measures `dump_events` beside other programs that print the same lines, or faces and parsers without printing.
 
-    bench/run.py [--size MEGABYTES] [--instructions | --memory] [--parse-only | --pieces BYTES] [--shapes] [PEERS]
-                 [KIND ..]
+    bench/run.py [--size MEGABYTES] [--instructions | --memory] [--parse-only | --pieces BYTES | --lines | --trees]
+                 [--shapes | --real] [PEERS] [KIND ..]
     bench/run.py --small [PEERS]
 
 A table of processor time, in the ratio to the first program: above 1 the other takes so many times as long. The least
 of nine runs counts, which take turns. With --instructions it is the instructions for each byte, by callgrind, on
 smaller files, beyond those of an empty text, and the last lines have the least ratio of each peer. With --memory it is
 the most memory at a time, in bytes for each byte of the text, beyond that of an empty text. The files are of
-`inputs.py`, or with --shapes those of `shapes.py`, which are small and stress one thing each. With --parse-only the
-programs count the events, and print nothing of them. So they do with --pieces, where the C face and libyaml get the
-text in pieces of so many bytes, and the Rust parsers from an iterator of characters. --small takes the instructions for
-a text of 48 bytes, whose parser is made, read to its end and freed. A `-` says that the peer refuses the file.
+`inputs.py`, or with --shapes those of `shapes.py`, which are small and stress one thing each, or with --real those of
+`real.py`, as people write them. With --parse-only the programs count the events, and print nothing of them. So they do
+with --pieces, where the C face and libyaml get the text in pieces of so many bytes, and the Rust parsers from an
+iterator of characters; and with --lines, where the C face gets it line by line, libyaml the whole, and the Rust parsers
+from an iterator that doesn't say that it has more. With --trees they load the documents as trees. --small takes the
+instructions for a text of 48 bytes, whose parser is made, read to its end and freed. A `-` says that the peer refuses
+the file.
 
-The peers are the faces for C and Rust of this repository, libyaml where its header is there, with --crate SOURCES the
-Rust crate `saphyr-parser`, whose sources are in that folder, and whose dependencies cargo fetches, and with --peer
-PROGRAM any program that prints the same lines of a file.
+The peers are the faces for C and Rust of this repository, libyaml and libfyaml where their headers are there, with
+--crate SOURCES the Rust crate `saphyr-parser`, whose sources are in that folder, and whose dependencies cargo fetches,
+and with --peer PROGRAM any program that prints the same lines of a file. Rust is optimized with LTO.
 """
 import argparse
 import functools
@@ -28,6 +31,7 @@ import sys
 import tempfile
 
 from inputs import KINDS
+from real import REAL
 from shapes import SHAPES
 
 ROOT = os.path.dirname(os.path.dirname(os.path.abspath(__file__)))
@@ -50,6 +54,9 @@ path = "{root}/rust/examples/dump_events.rs"
 [[bin]]
 name = "counts"
 path = "{root}/bench/count_events.rs"
+[profile.release]
+lto = true
+codegen-units = 1
 [workspace]
 """
 
@@ -71,15 +78,21 @@ def over_crate(folder, name, sources):
     return f"{target}/release"
 
 
-def peers(folder, sources, others, prints):
-    """The programs by their names, the repository's own first: those that print events, or those that count them."""
-    made = {"dump_events": program("dump_events")} if prints else {}
-    c_face, libyaml = ("tests/faces/dump_events", "libyaml_dump") if prints else ("bench/count_events", "libyaml_count")
+# What the programs do: the C face's, libyaml's, libfyaml's if it has one, and the one in Rust if there is one.
+PRINT = "tests/faces/dump_events", "libyaml_dump", "libfyaml_dump", "dumps"
+COUNT = "bench/count_events", "libyaml_count", None, "counts"
+LOAD = "bench/count_trees", "libyaml_trees", "libfyaml_trees", None
+
+
+def peers(folder, sources, others, what):
+    """The programs by their names, the repository's own first."""
+    c_face, libyaml, libfyaml, rust = what
+    made = {"dump_events": program("dump_events")} if what is PRINT else {}
     made["C face"] = compiled(folder, "c_face", [f"{ROOT}/{c_face}.c", *libraries()])
-    rust = "dumps" if prints else "counts"
-    made["Rust face"] = f"{over_crate(folder, 'rust', f'{ROOT}/rust')}/{rust}"
+    made["Rust face"] = rust and f"{over_crate(folder, 'rust', f'{ROOT}/rust')}/{rust}"
     made["libyaml"] = compiled(folder, "libyaml", [f"{ROOT}/bench/{libyaml}.c", "-lyaml"])
-    made["crate"] = f"{over_crate(folder, 'crate', sources)}/{rust}" if sources else None
+    made["libfyaml"] = libfyaml and compiled(folder, "libfyaml", [f"{ROOT}/bench/{libfyaml}.c", "-lfyaml"])
+    made["crate"] = f"{over_crate(folder, 'crate', sources)}/{rust}" if sources and rust else None
     made.update((os.path.basename(path)[:11], os.path.abspath(path)) for path in others)
     return {name: path for name, path in made.items() if path}
 
@@ -170,12 +183,16 @@ def main():
     words.add_argument("--instructions", action="store_true")
     words.add_argument("--memory", action="store_true")
     words.add_argument("--shapes", action="store_true")
+    words.add_argument("--real", action="store_true")
     words.add_argument("--parse-only", action="store_true")
     words.add_argument("--pieces", type=int, metavar="BYTES")
+    words.add_argument("--lines", action="store_true")
+    words.add_argument("--trees", action="store_true")
     words.add_argument("--small", action="store_true")
-    words.add_argument("kinds", nargs="*", metavar="KIND", choices=[[], *KINDS, *SHAPES])
+    words.add_argument("kinds", nargs="*", metavar="KIND", choices=[[], *KINDS, *SHAPES, *REAL])
     asked = words.parse_args()
-    texts = SHAPES if asked.shapes else KINDS
+    texts = SHAPES if asked.shapes else REAL if asked.real else KINDS
+    what = LOAD if asked.trees else COUNT if asked.parse_only or asked.pieces or asked.lines or asked.small else PRINT
     if (asked.instructions or asked.small) and not shutil.which("valgrind"):
         sys.exit("there is no valgrind")
     few = 0.06 if asked.shapes else 0.1 if asked.instructions else 4
@@ -187,7 +204,7 @@ def main():
         if asked.memory:
             peak = compiled(folder, "peak", [f"{ROOT}/bench/peak.c"])
             unit, measure = "bytes for each byte", functools.partial(memory, peak)
-        programs = peers(folder, asked.crate, asked.peer, not (asked.parse_only or asked.pieces or asked.small))
+        programs = peers(folder, asked.crate, asked.peer, what)
         if asked.small:
             return report_small(programs, f"{folder}/small")
         print(f"{unit:37}" + "".join(f"{name:>12}" for name in programs))
@@ -195,7 +212,7 @@ def main():
         for kind in asked.kinds or texts:
             with open(f"{folder}/{kind}", "w", encoding="utf-8", newline="") as it:
                 it.write(texts[kind](size))
-            pieces = ["1", str(asked.pieces)] if asked.pieces else []
+            pieces = ["1", "lines" if asked.lines else str(asked.pieces)] if asked.lines or asked.pieces else []
             rows[kind] = report(programs, [f"{folder}/{kind}", *pieces], kind, measure)
         if asked.instructions:
             report_least(rows)
