@@ -3,13 +3,14 @@
 
     tests/pages.py [--printed]
 
-Each link of a page leads to a file, and to a heading of it. Each file that a page names is there. No twelve words in a
-row, outside of code, stand on two pages. What a page shows of Rattle stands in a source of the crates; other tests run
-the rest: own_repository.py the program of COMING_FROM.md with its function `depth`, and release.py those for C, Rust
-and Python.
+Each link of a page leads to a file, and to a heading of it. Each file that a page names is there, and a script has the
+options that a page gives it. No twelve words in a row, outside of code, stand on two pages. What a page shows of Rattle
+stands in a source of the crates; other tests run the rest: own_repository.py the program of COMING_FROM.md with its
+function `depth`, and release.py those for C, Rust and Python.
 
-With --printed the built programs print what the pages show: `dump_events` the events of README, and `check_yaml` the
-lines of README and of CHECK_YAML.md, of texts that these lines show, the object of JSON, and the table's first lines.
+With --printed the built programs print what the pages show: `dump_events` the events of README, and the faults of
+COMING_FROM.md; and `check_yaml` the lines of README and of CHECK_YAML.md, of texts that these lines show, the object of
+JSON, and the table's first lines. It has the options that CHECK_YAML.md names.
 """
 import collections
 import fnmatch
@@ -35,6 +36,9 @@ SHOWN = "README.md", "docs/CHECK_YAML.md"
 # What `check_yaml` prints of a place, and the line below it.
 PLACE = re.compile(r"^(\S+?):(\d+):\d+: (?:error|warning|note): .*\n(?!\S+?:\d+:\d+: )(.*)\n", re.M)
 LINES = re.compile(r"(?:^    \S+?:\d+:\d+: (?:error|warning|note): .*\n(?:    .*\n)*)+", re.M)
+OPTION = re.compile(r"((?:tests|bench)/\w+\.\w+)((?: +(?!`)[^`\n#]*)?)")
+REFUSED = re.compile(r"^- ((?:`[^`\n]+`|LF|TAB|BOM)(?: (?:`[^`\n]+`|LF|TAB|BOM))*).*: `([^`\n]+)`", re.M)
+SIGNS = {"LF": "\n", "TAB": "\t", "BOM": "\ufeff"}
 FIRST = re.compile(r"^\| `(.*)` \| `(\d+:\d+: \w+: .*)` \|$", re.M)
 ESCAPED, NAMED = re.compile(r"\\(.)"), {"n": "\n", "t": "\t", "\\": "\\"}
 
@@ -59,6 +63,14 @@ def wrong_names(page, text, known):
         pattern = re.sub(r"\b[A-Z]+\b(?!\.md)", "*", name)
         if not name.startswith(NEW) and not any(fnmatch.fnmatch(f"/{it}", f"*/{pattern}") for it in known):
             yield f"{page} names {name}, which is not there"
+
+
+def wrong_options(page, text):
+    """The options that a script lacks, of those that a page gives it."""
+    for script, rest in OPTION.findall(text):
+        for option in re.findall(r"--[a-z-]+", rest):
+            if os.path.isfile(f"{ROOT}/{script}") and option not in read(f"{ROOT}/{script}"):
+                yield f"{page} gives {script} {option}, which it doesn't take"
 
 
 def words(text):
@@ -100,6 +112,7 @@ def check_pages():
         if page.endswith(".md"):
             yield from wrong_links(page, text)
             yield from wrong_names(page, text, known)
+            yield from wrong_options(page, text)
         if any(fnmatch.fnmatch(page, it) for it in RATTLE):
             yield from wrong_blocks(page, text, sources)
     yield from wrong_runs(pages)
@@ -137,13 +150,25 @@ def wrong_lines(page, text):
             yield f"{page} shows {shown}, and check_yaml prints {found}"
 
 
+def dumped(text):
+    """The events and the fault that `dump_events` prints of a text."""
+    ran = subprocess.run([program("dump_events")], input=text.encode(), capture_output=True, check=False)
+    return ran.stdout.decode().split("\n"), ran.stderr.decode().rpartition(" at byte ")[0]
+
+
 def check_printed():
     """What the programs don't print though the pages show it."""
     pages = {it: read(f"{ROOT}/{it}") for it in SHOWN}
-    text, events = re.search(r"From `(.*)` come these events.*\n(?:.*\n)*?\n    (\+STR .*)\n", pages["README.md"]).groups()
-    ran = subprocess.run([program("dump_events")], input=text, capture_output=True, text=True, check=False)
-    if ran.stdout.split() != events.split():
-        yield f"README.md shows {events}, and dump_events prints {ran.stdout.split()}"
+    text, events = re.search(r"From `(.*)` come .*\n(?:.*\n)*?\n    (\+STR .*)\n", pages["README.md"]).groups()
+    if " ".join(dumped(text)[0]).strip() != events:
+        yield f"README.md shows {events}, and dump_events prints {dumped(text)[0]}"
+    for written, fault in REFUSED.findall(read(f"{ROOT}/docs/COMING_FROM.md").partition("this parser refuses")[2]):
+        text = "".join(code or SIGNS[sign] for code, sign in re.findall(r"`([^`]+)`|(\w+)", written))
+        if (found := dumped(text)[1]) != fault:
+            yield f"COMING_FROM.md has {fault!r} of {text!r}, and dump_events prints {found!r}"
+    for option in set(re.findall(r"`(--[a-z][a-z-]*)", pages["docs/CHECK_YAML.md"])):
+        if option not in subprocess.run([program("check_yaml"), "--help"], capture_output=True).stdout.decode():
+            yield f"CHECK_YAML.md names {option}, which check_yaml lacks"
     for page, text in pages.items():
         yield from wrong_lines(page, text)
 

@@ -87,6 +87,12 @@ COUNTING = """fn main() -> Result<(), saphyr_parser::ScanError> {
     Ok(())
 }
 """
+FAULT = """import pathlib, saphyr_parser
+try:
+    saphyr_parser.load(pathlib.Path("config.yaml"))
+except saphyr_parser.Refused as fault:
+    print(fault)
+"""
 PATCHED = """[package]
 name = "events"
 edition = "2021"
@@ -344,6 +350,11 @@ def check_python_programs(release, version, python):
         written = release.run([python, "-c", block(page, "python")])
         if not isinstance(written, bytes) or not written.startswith(first) or not written.endswith(last):
             fail(f"the program of {page} in Python {version} prints {written!r}")
+    write(f"{release.folder}/config.yaml", "a: x\nports: [80,\nname: x\n")
+    shown = re.sub("^ {6}", "", re.search("(?:^ {6}.*\n)+", read(release.faces), re.M)[0], flags=re.M)
+    ran = subprocess.run([python, "-c", FAULT], cwd=release.folder, env=release.env, capture_output=True, text=True)
+    if ran.stdout != shown:
+        fail(f"a fault in Python {version} is {ran.stdout!r}{ran.stderr}, and FACES.md shows {shown!r}")
     write(f"{release.folder}/config.yaml", "name: x\nports: [80, y]\n")
     ran = subprocess.run([python, f"{release.examples}/config.py", "config.yaml"], cwd=release.folder, env=release.env,
                          capture_output=True, text=True)
