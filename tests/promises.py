@@ -11,7 +11,8 @@ more), of the calls of a parser, of those of a `PieceParser`, of `load_documents
 `run_dump` or of `validate`. Each of its names is followed through the `use` lines of its file to the definition in a
 crate's `specs`, and so is each name in there. What is reached is printed, by clause: the file, the section of the
 standard that its head names, and the definitions. A `NAME` of a clause or a function, as `taken`, prints this alone,
-and `--quiet` counts only.
+and `--quiet` counts only. A name may also be any other public function's, such as `expanded_nodes` or `saphyr_next`, or
+a law's; their clauses may rest on steps.
 
 `--words` prints a page of what is reached, from the characters up: the comment at the head of each file, its headings,
 and each definition with the promises that rest on it and the comment above it, or, where there is none, the definition
@@ -227,7 +228,7 @@ def clauses_of(path, function):
     """The clauses of a function, each with its name and its text, and the scope of their file."""
     with open(os.path.join(TOP, path), encoding="utf-8") as file:
         source = file.read()
-    contract = re.search(rf"pub fn {function}\b.*?\n *\{{\n", source, re.S)[0]
+    contract = re.search(rf"pub (?:extern \"C\" )?fn {function}\b.*?\n *\{{\n", source, re.S)[0]
     clauses = []
     for begins in re.finditer(r"ensures\*?(?: (\w+))? \{", contract):
         depth, end = 1, begins.end()
@@ -290,11 +291,20 @@ def look(path, function, asked, reached, by_clause, is_quiet):
             print(f"{name}: {len(came)} definitions"
                   + (f", of which {len(more)} not by `new`" if function in SAME_AS_NEW else ""))
             show(more)
-        wrong += [f"a promise reaches a step: {name}: {path_to(step, came)}, of {spec_of(step.module).path}"
-                  for step in more if is_step(step) and step not in COMPUTED]
+        if (path, function) in FUNCTIONS:
+            wrong += [f"a promise reaches a step: {name}: {path_to(step, came)}, of {spec_of(step.module).path}"
+                      for step in more if is_step(step) and step not in COMPUTED]
         for definition in came:
-            reached.setdefault(definition, set()).add(FUNCTIONS[path, function] or clause)
+            reached.setdefault(definition, set()).add(FUNCTIONS.get((path, function)) or clause)
     return wrong
+
+
+def functions_called(name):
+    """The public functions of a name: the file of each, and the name."""
+    for path in sorted(glob.glob(f"{TOP}/crates/*/src/**/*.rt", recursive=True)):
+        with open(path, encoding="utf-8") as file:
+            if re.search(rf"pub (?:extern \"C\" )?fn {re.escape(name)}\b", file.read()):
+                yield os.path.relpath(path, TOP), name
 
 
 def marks_of(marks):
@@ -321,7 +331,8 @@ def show_definition(spec, name, marks, is_whole):
     """Prints what the comments say of a definition, and itself if it is asked for, or a number, or has no comment."""
     words, lines = " / ".join(spec.words[name]), [line for line in spec.texts[name] if line.strip()]
     value = f"`{lines[-1].strip()}`" if re.fullmatch(rf" *{re.escape(name)} = [0-9a-fA-Fx]+", lines[-1]) else ""
-    print(wrapped(f"- **{name}** (*{marks}*): {words}{'; ' * bool(words and value)}{value}".rstrip(": ")))
+    told = f"{words}{'; ' * bool(words and value)}{value}"
+    print(wrapped(f"- **{name}**" + f" (*{marks}*)" * bool(marks) + f": {told}" * bool(told)))
     if is_whole or not words and not value:
         print("\n" + textwrap.indent(textwrap.dedent("\n".join(lines)), " " * 6) + "\n")
 
@@ -340,7 +351,7 @@ def show_words(reached, is_whole):
                 if spec.headings[name] != last:
                     last = spec.headings[name]
                     print(f"\n### {last}\n")
-                show_definition(spec, name, marks_of(marks[Definition(module, name)]), is_whole)
+                show_definition(spec, name, marks_of(marks.get(Definition(module, name), set())), is_whole)
 
 
 def proof_at(path):
@@ -393,10 +404,11 @@ def main():
     if given.proofs:
         sys.exit(0 if all([show_proofs(name) for name in given.names]) else "there are no answers of such a name")
     names = {name for path, function in FUNCTIONS for name in (function, *dict(clauses_of(path, function)[0]))}
-    if not names.issuperset(given.names):
-        arguments.error(f"the names are {', '.join(sorted(filter(None, names)))}")
+    others = [it for name in given.names if name not in names for it in functions_called(name)]
+    if not names.union(name for _, name in others).issuperset(given.names):
+        arguments.error(f"there is no such function, and the clauses are {', '.join(sorted(filter(None, names)))}")
     reached, came, wrong = {}, {}, []
-    for path, function in FUNCTIONS:
+    for path, function in [*FUNCTIONS, *others]:
         wrong += look(path, function, set(given.names), reached, came, given.quiet or given.words or given.whole)
     if given.words or given.whole:
         show_words(reached, given.whole)
@@ -404,7 +416,8 @@ def main():
     wrong += [f"{spec_of(module).path} has no words at its head" for module in modules if not spec_of(module).head]
     wrong += [] if given.names else other_counts(came)
     print(*wrong, sep="\n", end="\n" * bool(wrong), file=sys.stderr)
-    print(f"{len(reached)} definitions of {len(modules)} files must be believed" + ", without steps" * (not wrong))
+    steps = sum(is_step(definition) and definition not in COMPUTED for definition in reached)
+    print(f"{len(reached)} definitions of {len(modules)} files must be believed, and {steps} of them are steps")
     sys.exit(1 if wrong else 0)
 
 
