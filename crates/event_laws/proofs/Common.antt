@@ -23,7 +23,7 @@ pub use Rattle.saphyr_machine.specs.Events.{Happening, MappingEnd, MappingStart,
 pub use Rattle.saphyr_machine.specs.Steps.Documents.{Declared, directive_at, directives_from, is_directive}
 pub use Rattle.saphyr_machine.specs.Steps.Expected.{event_step, event_step_at}
 pub use Rattle.saphyr_machine.specs.Steps.Machine.{Anchors, Emitted, Machine, Names, emit, ending_refusal, fresh_machine, is_listed, left_out_event, meaning, next_id, no_anchors, pop, put_back, taken_token, with_anchor, with_meaning, with_name, with_pieces, with_state, without_ids, ◌>>=◌}
-pub use Rattle.saphyr_machine.specs.Steps.Nodes.{NodeProperties, has_property, is_left_out, node, node_behind, node_content_at, node_here, node_inside, node_or_nothing_at, node_without_content, span_up_to}
+pub use Rattle.saphyr_machine.specs.Steps.Nodes.{NodeProperties, has_property, is_left_out, next_node, node, node_behind, node_content_at, node_here, node_inside, node_or_nothing_at, node_without_content, span_up_to}
 pub use Rattle.saphyr_machine.specs.Steps.Tags.{resolved_tag_at}
 pub use Rattle.saphyr_machine.specs.declared.context.NodeContext.{NodeContext}
 pub use Rattle.saphyr_machine.specs.declared.context.NodeContext.TheVariants.{Block, BlockMapping, Flow}

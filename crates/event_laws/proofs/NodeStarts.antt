@@ -1,5 +1,5 @@
 -- Which token a node begins with, and which may come after it.
-use Rattle.event_laws.proofs.Common.{◌≡◌, ◌≢◌, ℕ, Bool, true, false, arith, List, [], ◌∷◌, ◌++◌, Option, option_map, refl, ◌∙◌, ◌⊎◌, inl, inr, append_assoc, Span, Tag, HasOne, HasProperty, Properties, Node, Nodes, NoNode, MoreNodes, Kind, alias_token, anchor_token, tag_token, InFlow, InBlock, InBlockMapping, AllowsBlock, IsInBlockMapping, AreBoth, YieldsOptional, YieldsNode, Piece, NodeContext, Flow, Block, BlockMapping, State, End, Part, Leaf, node_parts, Machine, emit, empty_scalar, node_without_content, node_content_at, event_step}
+use Rattle.event_laws.proofs.Common.{◌≡◌, ◌≢◌, ℕ, Bool, true, false, arith, List, [], ◌∷◌, ◌++◌, Option, option_map, refl, ◌∙◌, ◌⊎◌, inl, inr, append_assoc, Span, Tag, HasOne, HasProperty, Properties, Node, Nodes, NoNode, MoreNodes, Kind, alias_token, anchor_token, tag_token, InFlow, InBlock, InBlockMapping, AllowsBlock, IsInBlockMapping, AreBoth, YieldsOptional, YieldsNode, Piece, NodeContext, Flow, Block, BlockMapping, State, End, Part, Leaf, node_parts, Machine, emit, empty_scalar, node_without_content, next_node, node_content_at, event_step}
 use lib.Utf8.{encode}
 use Rattle.saphyr_scanner.specs.Grammar.Forest as forest
 use Rattle.saphyr_scanner.specs.Grammar.Tokens as tokens
@@ -7,7 +7,7 @@ use Rattle.saphyr_scanner.specs.Grammar.TokenGrammar as grammar
 use Rattle.saphyr_machine.specs.Steps.Nodes as steps
 use Rattle.event_laws.proofs.Emitted.Emitting.{SpansByKinds, Memory, Outer, expecting, at}
 use Rattle.event_laws.proofs.Remembering.{after_node, SaysParts, EmitsParts, plainly}
-use Rattle.event_laws.proofs.Emitted.Nodes.{next_node, IsContentKind}
+use Rattle.event_laws.proofs.Emitted.Nodes.{IsContentKind}
 
 abbrev pub context_of : grammar.Context → NodeContext
 context_of InFlow = Flow
@@ -33,11 +33,15 @@ Starts c tokens.BlockMappingStart = AllowsBlock c
 Starts c tokens.BlockEntry = IsInBlockMapping c
 Starts c _ = ⊥
 
-pub record Head (c : grammar.Context) (t : List Kind) : Type 0 where
+-- tokens of which the first fits
+pub record Next (Fits : Kind → Type 0) (ts : List Kind) : Type 0 where
   pub first : Kind
   pub others : List Kind
-  pub is : t ≡ first ∷ others
-  pub starts : Starts c first
+  pub is : ts ≡ first ∷ others
+  pub fits : Fits first
+
+abbrev pub Head : grammar.Context → List Kind → Type 0
+Head c = Next (Starts c)
 
 -- tokens that begin with properties, or else with content
 property_head : (c : grammar.Context) (anchor : Option (List ℕ)) (tag : Option Tag) (front content t : List Kind)
@@ -46,7 +50,7 @@ property_head : (c : grammar.Context) (anchor : Option (List ℕ)) (tag : Option
 property_head c u0 u1 front content t h u2 e = grind arith
 
 begins_with : (c : grammar.Context) (k : Kind) (ks t : List Kind) → t ≡ k ∷ ks → Starts c k → Head c t
-begins_with c k ks t e s = record { first = k; others = ks; is = e; starts = s }
+begins_with c k ks t e s = record { first = k; others = ks; is = e; fits = s }
 
 scalar_head : (c : grammar.Context) (p : Properties) (style : forest.Style) (value : List ℕ) (content : List Kind)
     → grammar.YieldsScalar p style value content → HasProperty p ⊎ Head c content
@@ -125,7 +129,7 @@ pub enters : (n : Node) (c : grammar.Context) (t : List Kind) → YieldsNode n c
 enters n c t h g f k ks machine x s ss e ps z more go l =
     let d : Head c t = node_head n c t h in
     g.by f k ks (machine (t ++ k ∷ ks)) x s (ss (t ++ k ∷ ks)) e ps z (more (t ++ k ∷ ks))
-    (rw d.is (go d.first (d.others ++ k ∷ ks) d.starts)) l
+    (rw d.is (go d.first (d.others ++ k ∷ ks) d.fits)) l
 
 -- one step tells a node that is left out
 pub skipped : (e : Memory) (m n : Machine) (ps : List Part) (span : Span) → m.state ≢ End

@@ -1,12 +1,12 @@
 -- Collections are told, where their entries are.
-use Rattle.event_laws.proofs.Common.{◌≡◌, ◌≢◌, ℕ, Option, List, [], ◌∷◌, ◌++◌, refl, ap, ◌∙◌, inl, inr, append_assoc, arith, Node, Nodes, NoNode, MoreNodes, Pairs, NoPair, MorePairs, Kind, BlockSequenceStart, BlockMappingStart, BlockEnd, FlowSequenceStart, FlowSequenceEnd, FlowMappingStart, FlowMappingEnd, BlockEntry, FlowEntry, InFlow, InBlock, InBlockMapping, BeginsWithValue, YieldsNode, YieldFlowEntries, YieldOtherFlowEntries, YieldFlowPairs, YieldOtherFlowPairs, YieldBlockEntries, YieldBlockPairs, State, Part, OpenSequence, CloseSequence, OpenMapping, CloseMapping, entry_parts, pair_parts, Happening, ResolvedTag, SequenceStart, MappingStart, NodeContext, Machine, emit, event_step, NodeProperties, span_up_to, node_content_at}
+use Rattle.event_laws.proofs.Common.{◌≡◌, ◌≢◌, ℕ, Option, List, [], ◌∷◌, ◌++◌, refl, ap, ◌∙◌, inl, inr, append_assoc, arith, Node, Nodes, NoNode, MoreNodes, Pairs, NoPair, MorePairs, Kind, BlockSequenceStart, BlockMappingStart, BlockEnd, FlowSequenceStart, FlowSequenceEnd, FlowMappingStart, FlowMappingEnd, BlockEntry, FlowEntry, InFlow, InBlock, InBlockMapping, BeginsWithValue, YieldsNode, YieldFlowEntries, YieldOtherFlowEntries, YieldFlowPairs, YieldOtherFlowPairs, YieldBlockEntries, YieldBlockPairs, State, Part, OpenSequence, CloseSequence, OpenMapping, CloseMapping, entry_parts, pair_parts, Happening, ResolvedTag, SequenceStart, MappingStart, NodeContext, Machine, emit, event_step, NodeProperties, span_up_to, next_node, node_content_at}
 use Rattle.saphyr_scanner.specs.Grammar.Forest as forest
 use Rattle.saphyr_scanner.specs.Grammar.TokenGrammar as grammar
 use Rattle.saphyr_machine.specs.declared.state.State.TheVariants as state
 use Rattle.event_laws.proofs.Emitted.Emitting.{SpansByKinds, Memory, Outer, expecting, at}
 use Rattle.event_laws.proofs.Remembering.{noted, after, after_nodes, after_pairs, with_properties, event_in, SaysParts, EmitsParts}
-use Rattle.event_laws.proofs.Emitted.Nodes.{next_node, node_opens, IsContentKind}
-use Rattle.event_laws.proofs.NodeStarts.{context_of, MayFollow, NodeSays}
+use Rattle.event_laws.proofs.Emitted.Nodes.{node_opens, IsContentKind}
+use Rattle.event_laws.proofs.NodeStarts.{context_of, Next, MayFollow, NodeSays}
 
 -- ## What a collection's entries are to tell
 
@@ -159,12 +159,6 @@ mapping_says p qs c t h flow block = by_content h.3
 -- ## Ends
 
 -- the token after an entry
-pub record Next (Fits : Kind → Type 0) (ts : List Kind) : Type 0 where
-  pub first : Kind
-  pub others : List Kind
-  pub is : ts ≡ first ∷ others
-  pub fits : Fits first
-
 next_is : (Fits : Kind → Type 0) (t : List Kind) (k : Kind) (ks rest : List Kind) → t ≡ k ∷ ks → Fits k
     → Next Fits (t ++ rest)
 next_is Fits t k ks rest e h = record { first = k; others = ks ++ rest; is = ap (λ l. l ++ rest) e; fits = h }

@@ -1,5 +1,5 @@
 -- Documents and streams are told.
-use Rattle.event_laws.proofs.Common.{◌≡◌, ◌≢◌, true, false, List, [], ◌∷◌, ◌++◌, map, Result, refl, ap, ◌∙◌, ◌⊎◌, inl, inr, arith, IsTrue, Refusal, Node, Directive, Version, TagPrefix, Reserved, Document, Forest, AreCompatible, Kind, VersionDirective, StreamEnd, DocumentStart, DocumentEnd, ByteOrderMark, directive_token, InBlock, YieldsOptional, YieldsNode, YieldsDocument, AreMarks, AreEndsAndMarks, YieldsBehindDocument, YieldDocuments, Piece, Block, State, Part, CloseStream, OpenDocument, node_parts, empty_scalar, ◌>>=◌, Machine, Emitted, emit}
+use Rattle.event_laws.proofs.Common.{◌≡◌, ◌≢◌, true, false, List, [], ◌∷◌, ◌++◌, map, Result, refl, ap, ◌∙◌, ◌⊎◌, inl, inr, arith, IsTrue, Refusal, Node, Directive, Version, TagPrefix, Reserved, Document, Forest, AreCompatible, Kind, VersionDirective, StreamEnd, DocumentStart, DocumentEnd, ByteOrderMark, directive_token, InBlock, YieldsOptional, YieldsNode, YieldsDocument, AreMarks, AreEndsAndMarks, YieldsBehindDocument, YieldDocuments, Piece, Block, State, Part, CloseStream, OpenDocument, node_parts, empty_scalar, ◌>>=◌, Machine, Emitted, emit, next_node}
 use Rattle.saphyr_machine.specs.declared.state.State.TheVariants as state
 use Rattle.saphyr_machine.specs.Events as events
 use Rattle.saphyr_machine.specs.Steps.Documents.{is_end_or_mark, directives, none_declared, explicit_document_at, explicit_document, bare_document, implicit_start_at, implicit_start, explicit_start_at, explicit_start, document_content}
@@ -7,9 +7,7 @@ use Rattle.saphyr_machine.specs.Steps.Block.{block_node}
 use Rattle.saphyr_machine.specs.Steps.Expected.{event_step}
 use Rattle.event_laws.proofs.Emitted.Emitting.{SpansByKinds, Memory, top, expecting, at, ends}
 use Rattle.event_laws.proofs.Remembering.{opening, after_node, SaysParts, EmitsParts, plainly}
-use Rattle.event_laws.proofs.Emitted.Nodes.{next_node}
-use Rattle.event_laws.proofs.NodeStarts.{Starts, Head, node_head, MayFollow, enters_or_skips}
-use Rattle.event_laws.proofs.Emitted.Collections.{Next}
+use Rattle.event_laws.proofs.NodeStarts.{Starts, Head, Next, node_head, MayFollow, enters_or_skips}
 use Rattle.event_laws.proofs.Emitted.Trees.{node_says}
 use Rattle.event_laws.proofs.DirectivesPass.{passes, ends_pass, all_directives_pass}
 
@@ -72,12 +70,9 @@ not_free h = cc
 next_document : (d : Document) (t rest : List Kind) → YieldsDocument d false t → Next MayStandBehindDocument (t ++ rest)
 next_document d t rest k = grind arith
 
-next_is : (t u : List Kind) → t ≡ u → Next MayStandBehindDocument u → Next MayStandBehindDocument t
-next_is t u e n = record { first = n.first; others = n.others; is = e ∙ n.is; fits = n.fits }
-
 pub next_start : (ds : Forest) (t : List Kind) → YieldDocuments ds false t → Next MayStandBehindDocument t
 next_start [] t h = record { first = StreamEnd; others = []; is = h; fits = tt }
-next_start (d ∷ ds) t h = next_is t (h.0 ++ h.1) h.4 (next_document d h.0 h.1 h.2)
+next_start (d ∷ ds) t h = rw h.4 (next_document d h.0 h.1 h.2)
 
 pub behind_head : (ds : Forest) (t : List Kind) → YieldsBehindDocument (YieldDocuments ds) t → Next EndsDocument t
 behind_head ds t h = by h.0 h.3 h.4 h.5
@@ -127,7 +122,7 @@ bare_says n t h f front k ks e ps a z l =
     state.DocumentEnd top e' ps (document_end_follows k z) (λ q. cc) refl l in
     let d : Head InBlock t = node_head n InBlock t h in
     let same : t ++ k ∷ ks ≡ d.first ∷ (d.others ++ k ∷ ks) = ap (λ u. u ++ k ∷ ks) d.is in
-    rw same (bare_opens f front d.first (d.others ++ k ∷ ks) e (node_parts n ++ ps) a d.starts (rw same at inside))
+    rw same (bare_opens f front d.first (d.others ++ k ∷ ks) e (node_parts n ++ ps) a d.fits (rw same at inside))
 
 -- ## Explicit documents
 

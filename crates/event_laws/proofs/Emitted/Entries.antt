@@ -6,14 +6,14 @@ use Rattle.saphyr_machine.specs.Steps.Block.{block_sequence_entry, indentless_se
 use Rattle.saphyr_machine.specs.Steps.Expected.{event_step}
 use Rattle.event_laws.proofs.Emitted.Emitting.{SpansByKinds, Memory, Outer, expecting, at, span_of_token}
 use Rattle.event_laws.proofs.Remembering.{after_node, after_nodes, after_pairs, SaysParts, EmitsParts, plainly}
-use Rattle.event_laws.proofs.NodeStarts.{MayFollow, NodeSays, EachSays, EndsAt}
+use Rattle.event_laws.proofs.NodeStarts.{Next, MayFollow, NodeSays, EachSays, EndsAt}
 use Rattle.event_laws.proofs.Emitted.SinglePairs.{EndsEntry, SaysEntry, entry_says}
 use Rattle.event_laws.proofs.Emitted.SinglePairs as single
 use Rattle.event_laws.proofs.Emitted.FlowPairs.{EndsPair}
 use Rattle.event_laws.proofs.Emitted.FlowPairs as flow
 use Rattle.event_laws.proofs.Emitted.Block.{mapping_ends, indentless_says}
 use Rattle.event_laws.proofs.Emitted.Block as block
-use Rattle.event_laws.proofs.Emitted.Collections.{SayUpTo, PairsSay, OtherEntriesSay, OtherPairsSay, FlowEntriesSay, FlowPairsSay, BlockEntriesSay, IndentlessSay, BlockPairsSay, Next, flow_entries_next, flow_pairs_next, block_entries_next, block_pairs_next, no_value}
+use Rattle.event_laws.proofs.Emitted.Collections.{SayUpTo, PairsSay, OtherEntriesSay, OtherPairsSay, FlowEntriesSay, FlowPairsSay, BlockEntriesSay, IndentlessSay, BlockPairsSay, flow_entries_next, flow_pairs_next, block_entries_next, block_pairs_next, no_value}
 
 -- ## The ends of collections
 

@@ -1,5 +1,5 @@
 -- Nodes, after their properties, are told.
-use Rattle.event_laws.proofs.Common.{◌≡◌, ◌≢◌, ℕ, ◌<◌, List, [], ◌∷◌, ◌++◌, length, Option, Some, None, option_map, encode_utf8_all, codes, Result, Ok, refl, sym, ◌∙◌, inl, inr, arith, Marker, Span, Refusal, Handle, handle_bytes, Tag, NonSpecific, Verbatim, Shorthand, Kind, anchor_token, tag_token, AreBoth, YieldProperties, Piece, NodeContext, State, Part, Happening, ResolvedTag, ◌>>=◌, Names, meaning, next_id, Machine, Emitted, emit, taken_token, event_step}
+use Rattle.event_laws.proofs.Common.{◌≡◌, ◌≢◌, ℕ, ◌<◌, List, [], ◌∷◌, ◌++◌, length, Option, Some, None, option_map, encode_utf8_all, codes, Result, Ok, refl, sym, ◌∙◌, inl, inr, arith, Marker, Span, Refusal, Handle, handle_bytes, Tag, NonSpecific, Verbatim, Shorthand, Kind, anchor_token, tag_token, AreBoth, YieldProperties, Piece, NodeContext, State, Part, Happening, ResolvedTag, ◌>>=◌, Names, meaning, next_id, Machine, Emitted, emit, next_node, event_step}
 use lib.Utf8.{encode}
 use Rattle.saphyr_scanner.specs.Grammar.Forest as forest
 use Rattle.saphyr_scanner.specs.Grammar.Tokens as tokens
@@ -8,9 +8,6 @@ use Rattle.saphyr_machine.specs.Steps.Tags.{declared_prefix, resolved_tag_at, de
 use Rattle.saphyr_machine.specs.Steps.Nodes.{NodeProperties, no_node_properties, node_content_at, node_content, next_content, properties_behind_anchor_at, properties_behind_anchor, properties_behind_tag_at, properties_behind_tag, content_behind, node_at, node}
 use Rattle.event_laws.proofs.Emitted.Emitting.{SpansByKinds, Memory, Outer, at}
 use Rattle.event_laws.proofs.Remembering.{noted, after, own_id_in, resolve, resolve_any, with_properties, event_in, SaysParts, says}
-
-abbrev pub next_node : NodeContext → Machine → Result Emitted Refusal
-next_node d m = taken_token m >>= (λ t. node d t.0 t.1)
 
 -- ## Tags
 

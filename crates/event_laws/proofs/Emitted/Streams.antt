@@ -6,7 +6,7 @@ use Rattle.saphyr_machine.specs.Steps.Documents.{is_mark, stream_start, token_be
 use Rattle.saphyr_machine.specs.Steps.Expected.{event_step}
 use Rattle.event_laws.proofs.Emitted.Emitting.{SpansByKinds, Memory, top, at}
 use Rattle.event_laws.proofs.Remembering.{closing, EmitsParts, plainly}
-use Rattle.event_laws.proofs.Emitted.Collections.{Next}
+use Rattle.event_laws.proofs.NodeStarts.{Next}
 use Rattle.event_laws.proofs.DirectivesPass.{passes, marks_pass}
 use Rattle.event_laws.proofs.Emitted.Documents.{EndsDocument, MayStandBehindDocument, not_free, next_start, behind_head, stream_ends, stream_ends_at_once, bare_says, implicit_opens, explicit_opens, explicit_says}
 
