@@ -220,7 +220,7 @@ lay_out() {
     find rust/src rust/examples -type f -exec install -Dm644 {} "$share/{}" \;
     take_pages "$share" CHANGELOG.md
     take_pages "$share/rust" rust/README.md
-    take_pages "$share/docs" docs/{CHECK_YAML,COMING_FROM,DEPARTURES,FACES,SPANS,SPEED}.md
+    take_pages "$share/docs" docs/{CHECK_YAML,CI,COMING_FROM,DEPARTURES,FACES,SPANS,SPEED}.md
     cut_links "$share/CHANGELOG.md" "$share/rust/README.md" "$share"/docs/*.md
     fill_in README.md "$1"
     install -m755 -t "$1" release/install.sh

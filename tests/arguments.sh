@@ -95,38 +95,97 @@ answers 0 '{"file":"two\\u000alines","line":1,"column":1,"end":{"line":1,"column
 answers 0 "$(sed -n 's/^const VERSION: &str = "\(.*\)";$/\1/p' "$crates/check_yaml/src/main.rt")\n" --version
 answers 0 "$(cat lines)\n" -V
 
-usage=$("$program" --help)
-case $usage in
-'usage: check_yaml [OPTION..] [--] [FILE..]'*) ;;
+case $("$program" --help) in
+'usage: check_yaml [OPTION..] [--] [FILE or FOLDER..]'*) ;;
 *)
-    echo "check_yaml --help: $usage"
+    echo "check_yaml --help: $("$program" --help)"
     failed=1
     ;;
 esac
-answers 0 "$usage\n" --help
-answers 0 "$usage\n" -h
-complaint="check_yaml: there is no option --wrong\n$usage\n"
-answers 2 '' --wrong empty
-complaint="check_yaml: there is no option --two\\\\nlines\n$usage\n"
-answers 2 '' $'--two\nlines'
-complaint="check_yaml: --max-depth asks for a number\n$usage\n"
-answers 2 '' --max-depth
-answers 2 '' --max-depth -1
-complaint="check_yaml: --max-nodes asks for a number\n$usage\n"
-answers 2 '' --max-nodes empty
-complaint="check_yaml: --quiet takes no value\n$usage\n"
-answers 2 '' --quiet=yes empty
-complaint="check_yaml: --disable asks for the name of a rule\n$usage\n"
-answers 2 '' --disable syntax empty
-complaint="check_yaml: --format asks for text or json\n$usage\n"
-answers 2 '' --format
-complaint="check_yaml: missing: can't read: No such file or directory (os error 2)\n"
-answers 2 '' missing
-answers 2 "$warned$refused" empty missing refused
-complaint="check_yaml: no\\\\nfile: can't read: No such file or directory (os error 2)\n"
-answers 2 '' $'no\nfile'
-complaint="check_yaml: .: can't read: Is a directory (os error 21)\n"
-answers 2 '' . --quiet empty
+answers 0 "$("$program" --help)\n" --help
+answers 0 "$("$program" --help)\n" -h
+
+# refuses COMPLAINT ARGUMENT..: the call is wrong, which one line says.
+refuses() {
+    complaint="check_yaml: $1; see check_yaml --help\n"
+    shift
+    answers 2 '' "$@"
+}
+
+refuses 'there is no option --wrong' --wrong empty
+refuses 'there is no option --two\\nlines' $'--two\nlines'
+refuses 'there is no option --\357\277\275' $'--\377'
+refuses '--max-depth asks for a number' --max-depth
+refuses '--max-depth asks for a number' --max-depth -1
+refuses '--max-nodes asks for a number' --max-nodes empty
+refuses '--quiet takes no value' --quiet=yes empty
+refuses '--disable asks for the name of a rule' --disable syntax empty
+refuses '--format asks for text or json' --format
+complaint=''
+
+# Files that can't be read are told with what is found, and the rest is checked.
+missing='can'"'"'t read: No such file or directory (os error 2)'
+unnamed='can'"'"'t read: the name is not UTF-8'
+answers 2 "missing:1:1: error: $missing\n" missing
+answers 2 '' --quiet missing
+answers 2 "${warned}missing:1:1: error: $missing\n$refused" empty missing refused
+answers 2 "no\\\\nfile:1:1: error: $missing\n" $'no\nfile'
+answers 2 "\357\277\275:1:1: error: $unnamed\n$warned" $'\377' empty
+# as_json FILE MESSAGE: an error at the beginning of a file that can't be read.
+as_json() {
+    printf '{"file":"%s","line":1,"column":1,"end":{"line":1,"column":1},"rule":"unreadable","severity":"error",' "$1"
+    printf '"message":"%s"}\\n' "$2"
+}
+answers 2 "$(as_json missing "$missing")" --format json missing text
+answers 2 "$(as_json '\357\277\275' "$unnamed")" --format json $'\377'
+
+# What is checked of a folder, and in which order. Links may lead in circles, or nowhere.
+mkdir -p tree/b/.github tree/b/deep tree/.hidden tree/none
+for file in .ci.yml .hidden/h.yaml B.yaml a.yaml b-c.yml b.yaml b/.github/g.yml b/c.yaml b/c.yml b/deep/d.yaml \
+    b/yaml z.yaml.txt; do
+    printf -- '---\n' >"tree/$file"
+done
+ln -s .. tree/b/up
+ln -s ../tree tree/folder.yaml
+ln -s b.yaml tree/link.yaml
+ln -s loop.yaml tree/loop.yaml
+ln -s nothing tree/nowhere.yml
+mkfifo tree/pipe.yaml
+# found FILE..: what is printed of files that have no content.
+found() { printf '%s:1:1: warning: this document has no content\\n---\\n^\\n' "$@"; }
+below=$(found tree/b/c.yaml tree/b/c.yml tree/b/deep/d.yaml)
+loops="can't read: Too many levels of symbolic links (os error 40)"
+answers 0 "$below" tree/b
+answers 0 "$(found tree/b//c.yaml tree/b//c.yml tree/b//deep/d.yaml | sed 's|//|/|g')" tree/b/
+answers 2 "$(found tree/.ci.yml tree/B.yaml tree/a.yaml)$below$(found tree/b-c.yml tree/b.yaml tree/link.yaml)tree/loop.yaml:1:1: error: $loops\ntree/nowhere.yml:1:1: error: $missing\n" tree
+answers 0 "$(found tree/.hidden/h.yaml tree/b/.github/g.yml)" tree/.hidden tree/b/.github
+answers 0 '' tree/none
+answers 0 "$(found tree/b/up/b/c.yaml tree/b/up/b/c.yml tree/b/up/b/deep/d.yaml)" tree/b/up/b
+answers 0 "$below$below$(found tree/b/yaml tree/b/c.yml)" tree/b tree/b tree/b/yaml tree/b/c.yml
+answers 1 '' --strict --quiet tree/b
+mkdir names names/$'\377'
+for file in names/$'a\377.yml' names/$'a\377.txt' names/b.yaml names/$'\377/c.yaml'; do
+    printf -- '---\n' >"$file"
+done
+answers 2 "names/a\357\277\275.yml:1:1: error: $unnamed\n$(found names/b.yaml)names/\357\277\275:1:1: error: $unnamed\n" names
+# A path that is too long to be asked for.
+part=$(printf 'd%.0s' {1..250})
+path=long
+(
+    mkdir long && cd long
+    for _ in {1..17}; do mkdir "$part" && cd "$part"; done
+)
+for _ in {1..17}; do path=$path/$part; done
+printf -- '---\n' >long/e.yml
+answers 2 "$path:1:1: error: can't read: File name too long (os error 36)\n$(found long/e.yml)" long
+mkdir many
+(cd many && seq -f '%05g.yaml' 16000 | xargs touch && cp ../empty 08000.yaml)
+answers 0 "$(found many/08000.yaml)" many
+mkdir closed
+chmod 0 closed
+if ! ls closed >/dev/null 2>&1; then
+    answers 2 "closed:1:1: error: can't read: Permission denied (os error 13)\n$warned" closed empty
+fi
 
 status=0
 "$program" empty refused empty >/dev/full 2>errors || status=$?
@@ -135,5 +194,6 @@ if [ "$status" != 2 ] || [ "$(cat errors)" != "check_yaml: empty: can't write" ]
     failed=1
 fi
 "$crates/../tests/mistakes.py" || failed=1
+"$crates/../tests/recipes.py" || failed=1
 [ "$failed" = 1 ] || echo "arguments: as they are to be answered"
 exit "$failed"

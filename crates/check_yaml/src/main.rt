@@ -1,41 +1,57 @@
 //! Checks YAML files, and says what is wrong with them.
 //!
-//!     check_yaml [OPTION..] [--] [FILE..]
+//!     check_yaml [OPTION..] [--] [FILE or FOLDER..]
 //!
 //! `-` names standard input. The status is 0 if no file has an error and 1 if one has. It is 2 if the call is wrong, a
-//! file can't be read or something can't be written.
+//! file or a folder can't be read or something can't be written.
 #![tactic(auto)]
 
 ghost use Rattle.std.specs.Prelude.{◌≡◌};
 ghost use Rattle.std.specs.Process.{exit_status};
 
+mod disk;
+
+use disk::{kind_of_named, list, open};
 use std::alloc::{AllocError, Global};
-use std::env;
-use std::fs::File;
+use std::env::Env;
 use std::io::{BufWriter, Write};
 use std::process::ExitCode;
 use yaml_check::{
-    Call, CheckFault, HELP, Options, Verdict, WrongCall, check_source, parse_arguments, status_of,
-    visible,
+    Call, CheckFault, Entry, FileName, HELP, Kind, Options, Verdict, Walk, WrongCall, check_source,
+    parse_arguments, status_of, tell_unread, visible,
 };
 
 const VERSION: &str = "check_yaml 0.3.3+rattle.4";
 
+/// The most bytes of an argument. Linux allows no longer one.
+const LONGEST_ARGUMENT: usize = 131_072;
+
 fn main(rt: HostRuntime) -> ExitCode {
-    let alloc = rt.alloc();
-    let Ok(words) = env::args(&rt) else {
-        return refuse(&rt, "can't read the arguments");
-    };
-    let words: Result<Vec<String>, AllocError> = words.skip(1).collect(alloc);
-    let Ok(words) = words else {
+    let Ok(words) = words(&rt) else {
         return refuse(&rt, "out of memory");
     };
-    match parse_arguments(alloc, &words) {
+    match parse_arguments(rt.alloc(), &words) {
         Ok(Call::Help) => say(&rt, HELP),
         Ok(Call::Version) => say(&rt, VERSION),
-        Ok(Call::Check(options, files)) => check_files(&rt, options, &files),
+        Ok(Call::Check(options, files)) => check_named(&rt, options, &files),
         Err(wrong) => misused(&rt, &wrong),
     }
+}
+
+// The arguments after the program's name. Those of std are an error if one is not UTF-8.
+fn words(rt: &HostRuntime) -> Result<Vec<FileName>, AllocError> {
+    let mut words = Vec::new(rt.alloc());
+    let mut room = [0; LONGEST_ARGUMENT];
+    for at in 1..usize::MAX {
+        let Ok(count) = rt.arg(at, &mut room) else {
+            break;
+        };
+        let word = FileName::from_bytes(rt.alloc(), &room[..count])?;
+        if words.push(word).is_err() {
+            return Err(AllocError);
+        }
+    }
+    Ok(words)
 }
 
 // Prints a text that was asked for.
@@ -46,13 +62,13 @@ fn say(rt: &HostRuntime, text: &str) -> ExitCode {
     }
 }
 
-// Says that the call is wrong, and how to call.
+// Says that the call is wrong.
 fn misused(rt: &HostRuntime, wrong: &WrongCall) -> ExitCode
     ensures { exit_status result ≡ 2 }
 {
     match wrong_call(rt.alloc(), wrong) {
         Ok(text) => {
-            let _ = eprintln!(rt; "check_yaml: {text}\n{HELP}");
+            let _ = eprintln!(rt; "check_yaml: {text}; see check_yaml --help");
             ExitCode::from(2)
         }
         Err(_) => refuse(rt, "out of memory"),
@@ -74,14 +90,50 @@ fn refuse(rt: &HostRuntime, text: &str) -> ExitCode
     ExitCode::from(2)
 }
 
-// Checks each file. If one is not checked, says why. Once something can't be written, no more is.
-fn check_files(rt: &HostRuntime, options: Options, files: &[&str]) -> ExitCode {
+// Checks what the call names.
+fn check_named(rt: &HostRuntime, options: Options, names: &[&FileName]) -> ExitCode {
+    match named(rt, names) {
+        Ok(entries) => check_all(rt, options, Walk::new(entries)),
+        Err(_) => refuse(rt, "out of memory"),
+    }
+}
+
+// The files and folders that the call names, or standard input.
+fn named(rt: &HostRuntime, names: &[&FileName]) -> Result<Vec<Entry>, AllocError> {
+    let mut entries = Vec::new(rt.alloc());
+    for name in names {
+        push_named(rt, &mut entries, name.text.as_str(), name.is_utf8)?;
+    }
+    if names.is_empty() {
+        push_named(rt, &mut entries, "-", true)?;
+    }
+    Ok(entries)
+}
+
+fn push_named(
+    rt: &HostRuntime,
+    entries: &mut Vec<Entry>,
+    text: &str,
+    is_utf8: bool,
+) -> Result<(), AllocError> {
+    let kind = kind_of_named(rt, text);
+    let text = String::from_str(rt.alloc(), text)?;
+    let name = FileName { text, is_utf8 };
+    match entries.push(Entry { name, kind }) {
+        Ok(()) => Ok(()),
+        Err(_) => Err(AllocError),
+    }
+}
+
+// Checks each file and the files below each folder. Once something can't be written, no more is checked.
+fn check_all(rt: &HostRuntime, options: Options, mut walk: Walk) -> ExitCode {
     let mut answers = Vec::new(rt.alloc());
-    for name in files {
-        let answer = check_file(rt, options, name);
-        if let Err(fault) = answer {
-            say_unchecked(rt, name, fault);
-        }
+    for _ in 0..u64::MAX {
+        let Some(entry) = walk.next() else {
+            break;
+        };
+        let answer = check_entry(rt, options, &mut walk, &entry);
+        drop(entry);
         if answers.push(answer).is_err() {
             return refuse(rt, "out of memory");
         }
@@ -92,9 +144,34 @@ fn check_files(rt: &HostRuntime, options: Options, files: &[&str]) -> ExitCode {
     ExitCode::from(status_of(&answers, options.strict))
 }
 
-// Says why a file was not checked.
-fn say_unchecked(rt: &HostRuntime, name: &str, fault: CheckFault) {
-    match visible(rt.alloc(), name) {
+// Checks a file or enters a folder. What is printed is gathered, since each event is a line of its own.
+fn check_entry(
+    rt: &HostRuntime,
+    options: Options,
+    walk: &mut Walk,
+    entry: &Entry,
+) -> Result<Verdict, CheckFault> {
+    let Ok(mut out) = BufWriter::new(rt.alloc(), rt.stdout()) else {
+        return say_unchecked(rt, &entry.name, CheckFault::OutOfMemory);
+    };
+    let answer = visit(rt, options, walk, entry, &mut out);
+    let flushed = out.flush();
+    drop(out);
+    match (answer, flushed) {
+        (_, Err(_)) => say_unchecked(rt, &entry.name, CheckFault::CantWrite),
+        (Err(CheckFault::CantRead(error)), Ok(())) => Err(CheckFault::CantRead(error)),
+        (Err(fault), Ok(())) => say_unchecked(rt, &entry.name, fault),
+        (Ok(verdict), Ok(())) => Ok(verdict),
+    }
+}
+
+// Says on standard error why a file was not checked.
+fn say_unchecked(
+    rt: &HostRuntime,
+    name: &FileName,
+    fault: CheckFault,
+) -> Result<Verdict, CheckFault> {
+    match visible(rt.alloc(), name.text.as_str()) {
         Ok(name) => {
             let _ = eprintln!(rt; "check_yaml: {name}: {fault}");
         }
@@ -102,34 +179,52 @@ fn say_unchecked(rt: &HostRuntime, name: &str, fault: CheckFault) {
             let _ = eprintln!(rt; "check_yaml: {fault}");
         }
     }
+    Err(fault)
 }
 
-// Checks a file. What is printed is gathered, since each event is a line of its own.
-fn check_file(rt: &HostRuntime, options: Options, name: &str) -> Result<Verdict, CheckFault> {
-    let Ok(mut out) = BufWriter::new(rt.alloc(), rt.stdout()) else {
-        return Err(CheckFault::OutOfMemory);
+// Checks a file or enters a folder. That it can't be read is told with what is found.
+fn visit<W: Write>(
+    rt: &HostRuntime,
+    options: Options,
+    walk: &mut Walk,
+    entry: &Entry,
+    out: &mut W,
+) -> Result<Verdict, CheckFault> {
+    let name = entry.name.text.as_str();
+    let answer = match entry.kind {
+        Kind::Folder => enter(rt, walk, &entry.name),
+        Kind::File | Kind::Other => check_file(rt, options, &entry.name, out),
     };
-    let answer = check_named(rt, options, name, &mut out);
-    let flushed = out.flush();
-    drop(out);
-    match flushed {
-        Ok(()) => answer,
-        Err(_) => Err(CheckFault::CantWrite),
+    if let Err(CheckFault::CantRead(error)) = answer {
+        tell_unread(rt.alloc(), name, error, options, out)?;
+    }
+    answer
+}
+
+// Puts what is checked of a folder's entries before what is still to come.
+fn enter(rt: &HostRuntime, walk: &mut Walk, folder: &FileName) -> Result<Verdict, CheckFault> {
+    match list(rt, folder) {
+        Ok(entries) => {
+            walk.enter(rt.alloc(), folder.text.as_str(), entries)?;
+            Ok(Verdict::Right)
+        }
+        Err(error) => Err(CheckFault::CantRead(error)),
     }
 }
 
 // Checks the file of this name, or standard input.
-fn check_named<W: Write>(
+fn check_file<W: Write>(
     rt: &HostRuntime,
     options: Options,
-    name: &str,
+    name: &FileName,
     out: &mut W,
 ) -> Result<Verdict, CheckFault> {
-    if name == "-" {
-        return check_source(rt.alloc(), name, &mut rt.stdin(), options, out);
+    let text = name.text.as_str();
+    if text == "-" {
+        return check_source(rt.alloc(), text, &mut rt.stdin(), options, out);
     }
-    match File::open(rt, name) {
-        Ok(mut file) => check_source(rt.alloc(), name, &mut file, options, out),
+    match open(rt, name) {
+        Ok(mut file) => check_source(rt.alloc(), text, &mut file, options, out),
         Err(error) => Err(CheckFault::CantRead(error)),
     }
 }

@@ -28,7 +28,7 @@ use Rattle.yaml_check.specs.Checked.{IsFound, NamesFindings}
 use Rattle.yaml_check.specs.Found.{AreFindings, verdict_of}
 use Rattle.yaml_check.specs.Opened.{OpenStarts}
 use Rattle.yaml_check.specs.Reports.{IsReport, name_in}
-use Rattle.yaml_check.specs.Checks.{Checks, IsCutShort, IsReported, IsRight, Judges, JudgesBytes, WritesLines, WritesTold, events_asked, told_unless_quiet}
+use Rattle.yaml_check.specs.Checks.{Checks, IsCutShort, IsReported, IsRight, Judges, JudgesBytes, TellsUnread, WritesLines, WritesTold, events_asked, told_unless_quiet}
 use Rattle.yaml_standard.specs.Verdicts.{IsStandard}
 
 pub judges_text : (r : Result Verdict CheckFault) (name : List ℕ) (options : Options) (text bytes : List ℕ)
@@ -216,3 +216,8 @@ pub passes_fault : (r : Result Verdict CheckFault) (f : CheckFault) (name : List
     → Judges r name options bytes old new
 passes_fault (Ok v) f name options bytes old new h judged = absurd h
 passes_fault (Err e) f name options bytes old new h judged = rw h judged
+
+pub unread_want : (r : Result (Unit {0}) CheckFault) (name : List ℕ) (options : Options) (old : Option (List ℕ))
+    → IsErrAnd r (λ f. f ≡ fault.OutOfMemory) → TellsUnread r name options old old
+unread_want (Ok u) name options old h = absurd h
+unread_want (Err f) name options old h = rw h ([], takes_nothing old old _ refl)

@@ -13,7 +13,7 @@ use Rattle.yaml_check.specs.declared.finding.Verdict.{Verdict}
 use Rattle.yaml_check.specs.declared.finding.Verdict.TheVariants as verdict
 use Rattle.yaml_check.specs.Checked.{IsFound}
 use Rattle.yaml_check.specs.Warned.{nothing_seen, warnings_on}
-use Rattle.yaml_check.specs.Reports.{IsReport, name_in}
+use Rattle.yaml_check.specs.Reports.{IsReport, name_in, unread}
 use Rattle.yaml_standard.specs.Verdicts.{IsStandard}
 
 -- the lines of the events, where they are asked for
@@ -84,6 +84,10 @@ Checks r name options unread left old new =
 
 -- ## Writing
 
+abbrev unread_told : Options → List ℕ → List ℕ → List ℕ
+unread_told options name message =
+    told_unless_quiet options (unread options.format (name_in options.format name) message)
+
 -- Lines of events were written, or a beginning of them.
 abbrev pub WritesLines : Result (Unit {0}) CheckFault → List ℕ → Option (List ℕ) → Option (List ℕ) → Type 0
 WritesLines (Ok u) lines old new = Appends old new lines
@@ -95,3 +99,10 @@ abbrev pub WritesTold : Result (Unit {0}) CheckFault → List ℕ → Option (Li
 WritesTold (Ok u) told old new = Appends old new told
 WritesTold (Err fault.CantWrite) told old new = TakesBeginning old new told
 WritesTold (Err _) told old new = ⊥
+
+-- That a file can't be read was written, and why in some words, or a beginning of that.
+abbrev pub TellsUnread : Result (Unit {0}) CheckFault → List ℕ → Options → Option (List ℕ) → Option (List ℕ) → Type 0
+TellsUnread (Ok u) name options old new = (message : List ℕ) × Appends old new (unread_told options name message)
+TellsUnread (Err (fault.CantRead e)) name options old new = ⊥
+TellsUnread (Err _) name options old new =
+    (message : List ℕ) × TakesBeginning old new (unread_told options name message)

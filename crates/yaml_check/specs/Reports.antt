@@ -1,9 +1,11 @@
 -- What is printed of what was found.
 use Rattle.std.specs.Prelude.{◌≡◌, ℕ, List, [], ◌∷◌, ◌++◌, unwrap_or, codes, Bool, true, false, not, nat_eq, Option, None, Some}
 use Rattle.std.specs.Str.{chars}
+use Rattle.saphyr_parser.specs.Words.Marker.{Marker}
 use Rattle.yaml_check.specs.declared.finding.Finding.{Finding}
 use Rattle.yaml_check.specs.declared.finding.Findings.{Findings}
 use Rattle.yaml_check.specs.declared.finding.Notes.{Notes}
+use Rattle.yaml_check.specs.declared.finding.Severity.TheVariants as severity
 use Rattle.yaml_check.specs.declared.told.Format.{Format}
 use Rattle.yaml_check.specs.declared.told.Format.TheVariants as format
 use Rattle.yaml_check.specs.declared.view.View.{View}
@@ -71,3 +73,15 @@ AddsAll form name text found (f ∷ fs) old new =
 
 abbrev pub IsReport : Format → List ℕ → List ℕ → Findings → List ℕ → Type 0
 IsReport form name text found bytes = AddsAll form name text found found.list.items [] bytes
+
+abbrev first_place : Marker
+first_place = record { index = 0; line = 1; col = 0 }
+
+-- What is told of a file that can't be read: an error at its beginning, with these words.
+abbrev pub unread_seen : List ℕ → ToldSeen
+unread_seen message =
+    record { span = record { start = first_place; end = first_place }; severity = severity.Error; rule = codes "unreadable"; message = message }
+
+abbrev pub unread : Format → List ℕ → List ℕ → List ℕ
+unread format.Text name message = told_line name (unread_seen message)
+unread format.Json name message = json.object name (unread_seen message)

@@ -1,5 +1,6 @@
 //! The words of a call.
 use crate::checking::Limits;
+use crate::folders::FileName;
 use crate::rules::{Rule, RuleSet};
 use crate::told::Format;
 use std::alloc::Global;
@@ -7,9 +8,10 @@ use thiserror::Error;
 
 /// What `--help` prints.
 pub const HELP: &str = "\
-usage: check_yaml [OPTION..] [--] [FILE..]
+usage: check_yaml [OPTION..] [--] [FILE or FOLDER..]
 
-Checks files of YAML. With no FILE, or for -, reads standard input.
+Checks files of YAML, and each .yaml and .yml file below a folder, except in hidden
+folders there. With no FILE, or for -, reads standard input.
 
       --disable RULE    leave out the warnings of a rule
       --events          print the events too, a line for each
@@ -34,8 +36,8 @@ file can't be read or something can't be written.";
 pub enum Call<'a> {
     Help,
     Version,
-    /// To check these files.
-    Check(Options, Vec<&'a str>),
+    /// To check these files and folders.
+    Check(Options, Vec<&'a FileName>),
 }
 
 /// How files are checked.
@@ -90,8 +92,11 @@ pub enum WrongCall<'a> {
     OutOfMemory,
 }
 
-/// What the words after the program's name ask for. If no file is named, they ask to check standard input.
-pub fn parse_arguments<'a>(alloc: Global, words: &'a [String]) -> Result<Call<'a>, WrongCall<'a>> {
+/// What the words after the program's name ask for. If they name no file, standard input is to be checked.
+pub fn parse_arguments<'a>(
+    alloc: Global,
+    words: &'a [FileName],
+) -> Result<Call<'a>, WrongCall<'a>> {
     let mut options = Options::DEFAULT;
     let mut files = Vec::new(alloc);
     match take_words(words, &mut options, &mut files) {
@@ -184,26 +189,27 @@ fn cut(word: &str) -> (&str, Option<&str>) {
 
 /// Takes the words in turn, into options and the names of files.
 fn take_words<'a>(
-    words: &'a [String],
+    words: &'a [FileName],
     options: &mut Options,
-    files: &mut Vec<&'a str>,
+    files: &mut Vec<&'a FileName>,
 ) -> Result<Asked, WrongCall<'a>> {
     let mut at = 0;
     let mut files_alone = false;
     while at < words.len() {
-        let word = words[at].as_str();
+        let file = &words[at];
+        let word = file.text.as_str();
         at += 1;
         let (name, value) = cut(word);
         match kind_of(name) {
-            _ if files_alone => add_file(files, word)?,
-            Word::File => add_file(files, word)?,
+            _ if files_alone => add_file(files, file)?,
+            Word::File => add_file(files, file)?,
             Word::NoOption => return Err(WrongCall::NoSuchOption(word)),
             Word::Setting(setting) => {
                 let value = match value {
                     Some(value) => value,
                     None => {
                         at += 1;
-                        words.get(at - 1).map_or("", |word| word.as_str())
+                        words.get(at - 1).map_or("", |word| word.text.as_str())
                     }
                 };
                 set(options, setting, name, value)?;
@@ -214,14 +220,11 @@ fn take_words<'a>(
             Word::EndOfOptions => files_alone = true,
         }
     }
-    if files.is_empty() {
-        add_file(files, "-")?;
-    }
     Ok(Asked::Check)
 }
 
 /// Adds the name of a file.
-fn add_file<'a>(files: &mut Vec<&'a str>, name: &'a str) -> Result<(), WrongCall<'a>> {
+fn add_file<'a>(files: &mut Vec<&'a FileName>, name: &'a FileName) -> Result<(), WrongCall<'a>> {
     match files.push(name) {
         Ok(()) => Ok(()),
         Err(_) => Err(WrongCall::OutOfMemory),

@@ -3,12 +3,12 @@ ghost use Rattle.std.specs.Prelude.{◌≡◌, ◌≤◌, ◌↔◌, IfOk};
 ghost use Rattle.saphyr_parser.specs.Runs.{answer_of_text, ReadsAll};
 ghost use Rattle.yaml_check.specs.Statuses as status;
 ghost use Rattle.yaml_check.specs.Statuses.{AllPass, OneUnchecked};
-ghost use Rattle.yaml_check.specs.Checks.{Checks, IsWrong, Judges, JudgesBytes, WritesLines, WritesTold, events_asked, told_unless_quiet};
+ghost use Rattle.yaml_check.specs.Checks.{Checks, IsWrong, Judges, JudgesBytes, TellsUnread, WritesLines, WritesTold, events_asked, told_unless_quiet};
 
 use crate::arguments::Options;
 use crate::checking::{check_text, not_utf8, text_before};
 use crate::finding::Verdict;
-use crate::telling::report;
+use crate::telling::{report, report_unread};
 use saphyr_parser::{DumpFault, Fault, Parser, dump};
 use std::alloc::{AllocError, Global};
 use std::io;
@@ -61,6 +61,25 @@ impl From<AllocError> for CheckFault {
     fn from(_e: AllocError) -> CheckFault {
         CheckFault::OutOfMemory
     }
+}
+
+/// Writes why a file or a folder can't be read, as an error where it begins.
+pub fn tell_unread<W: Write>(
+    alloc: Global,
+    name: &str,
+    error: io::Error,
+    options: Options,
+    out: &mut W,
+) -> Result<(), CheckFault>
+    ensures { TellsUnread result name.now options (W.contents out.old) (W.contents out.new) }
+{
+    let message = format!(in alloc; "can't read: {error}")?;
+    let reported = report_unread(alloc, name, message.as_str(), options.format);
+    drop(message);
+    let told = reported?;
+    let written = write_unless_quiet(out, told.as_str(), options);
+    drop(told);
+    written
 }
 
 /// Reads all bytes of a source, and writes what is found in them under this name.

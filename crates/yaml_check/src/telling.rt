@@ -4,13 +4,13 @@ ghost use Rattle.std.specs.Str.{chars};
 ghost use Rattle.yaml_check.specs.Shown.{shown_text};
 ghost use Rattle.yaml_check.specs.Texts.{name_and_place};
 ghost use Rattle.yaml_check.specs.ToldSeen.{told_of};
-ghost use Rattle.yaml_check.specs.Reports.{AddsAll, AddsFinding, AddsNote, AddsTold, AddsWithNotes, IsReport, name_in, told_line};
+ghost use Rattle.yaml_check.specs.Reports.{AddsAll, AddsFinding, AddsNote, AddsTold, AddsWithNotes, IsReport, name_in, told_line, unread};
 
-use crate::finding::{Finding, Findings};
+use crate::finding::{Finding, Findings, Severity};
 use crate::json::{push_escaped, push_object};
 use crate::told::{Format, Source, Told};
 use crate::view::{View, characters, push_visible};
-use saphyr_parser::Marker;
+use saphyr_parser::{Marker, Span};
 use std::alloc::{AllocError, Global};
 
 /// A text as it is shown, on one line: what breaks a line, steers a terminal or can't be seen is an escape.
@@ -45,6 +45,40 @@ pub fn report(
     let told = report_as(alloc, name.as_str(), text, found, format);
     drop(name);
     told
+}
+
+/// What is printed of a file that can't be read.
+pub(crate) fn report_unread(
+    alloc: Global,
+    name: &str,
+    message: &str,
+    format: Format,
+) -> Result<String, AllocError>
+    ensures { IfOk result (λ told. string_bytes told
+        ≡ unread format (name_in format name.now) message.now) }
+{
+    let name = printed_name(alloc, name, format)?;
+    let mut out = String::new(alloc);
+    let source = Source {
+        format,
+        name: name.as_str(),
+        text: &[],
+    };
+    let told = Told {
+        span: Span::empty(Marker::new(0, 1, 0)),
+        severity: Severity::Error,
+        rule: "unreadable",
+        message,
+    };
+    let done = tell(alloc, &mut out, &source, &told, false);
+    drop(name);
+    match done {
+        Ok(()) => Ok(out),
+        Err(full) => {
+            drop(out);
+            Err(full)
+        }
+    }
 }
 
 /// The name of a file as it is printed.

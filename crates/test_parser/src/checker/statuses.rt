@@ -1,8 +1,8 @@
 //! The status of several files, and the words of calls of the checker.
 
-use crate::helpers::{is_text, owned};
+use crate::helpers::is_text;
 use std::alloc::{AllocError, Global};
-use yaml_check::{Call, CheckFault, Rule, Verdict, parse_arguments, status_of};
+use yaml_check::{Call, CheckFault, FileName, Rule, Verdict, parse_arguments, status_of};
 
 type Answer = Result<Verdict, CheckFault>;
 
@@ -30,10 +30,10 @@ fn the_worst_file_decides(rt: HostRuntime) {
     }
 }
 
-fn all_owned(alloc: Global, words: &[&str]) -> Result<Vec<String>, AllocError> {
+fn all_named(alloc: Global, words: &[&str]) -> Result<Vec<FileName>, AllocError> {
     let mut all = Vec::new(alloc);
     for word in words {
-        all.push(owned(alloc, word))?;
+        all.push(FileName::from_bytes(alloc, word.as_bytes())?)?;
     }
     Ok(all)
 }
@@ -49,6 +49,9 @@ fn printed(alloc: Global, call: &Call) -> Result<String, AllocError> {
             let keys = options.rules.has(Rule::DuplicateKey);
             let (depth, nodes) = (options.limits.depth, options.limits.nodes);
             let (form, most) = (options.format, options.max_findings);
+            let names = files.iter().map(|file| file.text.as_str());
+            let files: Result<Vec<&str>, AllocError> = names.collect(alloc);
+            let files = files?;
             format!(in alloc;
                 "{events} {quiet} {strict} {keys} {form:?} {most} {depth} {nodes} {files:?}"
             )
@@ -57,7 +60,7 @@ fn printed(alloc: Global, call: &Call) -> Result<String, AllocError> {
 }
 
 // What words ask for, or the fault of a wrong call.
-fn asked(alloc: Global, words: &[String]) -> Result<String, AllocError> {
+fn asked(alloc: Global, words: &[FileName]) -> Result<String, AllocError> {
     match parse_arguments(alloc, words) {
         Ok(call) => {
             let text = printed(alloc, &call);
@@ -74,7 +77,7 @@ fn asked(alloc: Global, words: &[String]) -> Result<String, AllocError> {
 
 // Whether a call with these words asks for this.
 fn asks(alloc: Global, words: &[&str], wanted: &str) -> bool {
-    match all_owned(alloc, words) {
+    match all_named(alloc, words) {
         Ok(words) => {
             let said = asked(alloc, words.as_slice());
             drop(words);
@@ -111,7 +114,7 @@ const SHORT: &[&str] = &[
 const CALLS: &[(&[&str], &str)] = &[
     (
         &[],
-        "false false false true Text 100 18446744073709551615 18446744073709551615 [\"-\"]",
+        "false false false true Text 100 18446744073709551615 18446744073709551615 []",
     ),
     (ALL, "true true true true Json 100 3 0 [\"a\", \"-\"]"),
     (
