@@ -65,8 +65,8 @@ answers() {
 }
 
 warned='empty:1:1: warning: this document has no content\n---\n^\n'
-refused='refused:1:1: error: the sequence that begins here is not closed yet\n[a:[]]\n^\n'
-refused+="refused:1:3: note: the parser stops here: ':' may not precede any of \`[{\` in flow mapping\n[a:[]]\n  ^\n"
+refused="refused:1:3: error: ':' may not precede any of \`[{\` in flow mapping\n[a:[]]\n  ^\n"
+refused+='refused:1:1: note: the sequence that begins here is not closed yet\n[a:[]]\n^\n'
 adjacent='adjacent:1:5: error: [149] c-ns-flow-map-adjacent-value: a blank parts a comment from the colon before it\n'
 adjacent+='{"":#\n    ^\n'
 events='+STR\n+DOC\n+MAP\n=VAL :a\n=VAL :b\n-MAP\n-DOC\n-STR\n'

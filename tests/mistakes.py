@@ -10,6 +10,9 @@ counts the files of which the first line with a place, and of which any, names a
 table of docs/CHECK_YAML.md has these counts. With --table it prints them for each kind and for other programs, where
 they are installed; with --each the files of which `check_yaml` names no such place first, with what it prints; with
 --write it writes printed.txt.
+The files of the folders later and unseen, and their places, were written before any program ran on them. Help was
+mended with those of later at hand. Don't look at what is printed of those of unseen while you mend it: --each leaves
+them out.
 The program is the one that `rt ci`, or `rt run` in its folder, left in out/. --table and --each need none.
 """
 
@@ -28,7 +31,9 @@ PRINTED = CASES / "printed.txt"
 PAGE = ROOT / "docs/CHECK_YAML.md"
 PROGRAM = ROOT / "crates/check_yaml/out/check_yaml"
 # The numbers of mistakes whose place has to be named first, and at all.
-WANTED_FIRST, WANTED = 180, 180
+WANTED_FIRST, WANTED = 254, 255
+# The folders of files that were written later, as the table counts them.
+SETS = {"later": "*later*, as mended", "unseen": "*unseen*"}
 # What node prints of files: the places of each, as the libraries `yaml` and `js-yaml` tell them.
 NODE = """
 const fs = require("fs"), yaml = require("yaml"), js = require("js-yaml");
@@ -139,13 +144,17 @@ def others():
     yield from zip(("node-yaml", "js-yaml"), node_libraries())
 
 
+def set_of(name):
+    return SETS.get(name.partition("/")[0], "*the others*")
+
+
 def counts(places_of):
-    """The mistakes of each kind, how many are named first, and how many at all."""
+    """The mistakes of each kind and of each set, how many are named first, and how many at all."""
     found = collections.defaultdict(lambda: [0, 0, 0])
     for mistake in mistakes():
         places = places_of(mistake.name)
         one = (1, is_named(mistake, places[:1]), is_named(mistake, places))
-        for kind in (mistake.kind, "all"):
+        for kind in (mistake.kind, set_of(mistake.name), "all"):
             found[kind] = [count + add for count, add in zip(found[kind], one)]
     return found
 
@@ -154,10 +163,9 @@ def print_table():
     programs = {name: counts(places) for name, places in [("check_yaml", places_of_checker), *others()]}
     print("| mistakes | files | " + " | ".join(programs) + " |")
     print("|---|---|" + "---|" * len(programs))
-    for kind, (total, _, _) in programs["check_yaml"].items():
-        if kind != "all":
-            print_row(kind, total, [it[kind] for it in programs.values()])
-    print_row("all", programs["check_yaml"]["all"][0], [it["all"] for it in programs.values()])
+    kinds = dict.fromkeys(it.kind for it in mistakes())
+    for kind in (*kinds, "*the others*", *SETS.values(), "all"):
+        print_row(kind, programs["check_yaml"][kind][0], [it[kind] for it in programs.values()])
 
 
 def print_row(kind, total, found):
@@ -165,9 +173,9 @@ def print_row(kind, total, found):
 
 
 def print_each():
-    """The files of which another place comes first."""
+    """The files of which another place comes first, but for those that no one looks at."""
     for mistake in mistakes():
-        if not is_named(mistake, places_of_checker(mistake.name)[:1]):
+        if not mistake.name.startswith("unseen/") and not is_named(mistake, places_of_checker(mistake.name)[:1]):
             mends = ", ".join(f"{line}:{first}-{last}" for line, first, last in mistake.mends) or "nowhere"
             print(f"{mistake.name}: {mistake.what}; mended at {mends}")
             for line in re.findall(rf"^{re.escape(mistake.name)}:(.*)", PRINTED.read_text(encoding="utf-8"), re.M):

@@ -8,9 +8,9 @@ use Rattle.saphyr_parser.specs.Runs.{answer_of_text}
 use Rattle.saphyr_scalar.specs.declared.scalar.fault.ScanError.{ScanError}
 use Rattle.yaml_check.specs.declared.arguments.Options.{Options}
 use Rattle.yaml_check.specs.declared.finding.Findings.{Findings}
-use Rattle.yaml_check.specs.declared.finding.Verdict.TheVariants as verdict
 use Rattle.yaml_check.specs.declared.warning.PlacedWarning.{PlacedWarning}
 use Rattle.yaml_check.specs.Checked.{IsFound, IsFoundIn, NamesFault, NamesFindings, fault_found}
+use Rattle.yaml_check.specs.Encoding.{IsFoundInOther}
 use Rattle.yaml_check.specs.Found.{AreFindings}
 use Rattle.yaml_check.specs.Opened.{OpenStarts}
 
@@ -34,6 +34,6 @@ found_in (Ok found) options text bytes same utf8 fault findings = inl (
 found_in (Err e) options text bytes same utf8 fault findings = tt
 
 pub wrong_in : (r : Result Findings AllocError) (options : Options) (bytes : List ℕ) → ¬ IsUtf8 bytes
-    → IfOk r (λ found. found.verdict ≡ verdict.Wrong) → IfOk r (IsFoundIn options bytes)
+    → IfOk r (IsFoundInOther bytes) → IfOk r (IsFoundIn options bytes)
 wrong_in (Ok found) options bytes other wrong = inr (other, wrong)
 wrong_in (Err e) options bytes other wrong = tt

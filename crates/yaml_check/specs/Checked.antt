@@ -9,7 +9,7 @@ use Rattle.saphyr_parser.specs.Runs.{answer_of_text}
 use Rattle.saphyr_scalar.specs.declared.scalar.fault.ScanError.{ScanError}
 use Rattle.yaml_check.specs.declared.arguments.Options.{Options}
 use Rattle.yaml_check.specs.declared.finding.Findings.{Findings}
-use Rattle.yaml_check.specs.declared.finding.Verdict.TheVariants as verdict
+use Rattle.yaml_check.specs.Encoding.{IsFoundInOther}
 use Rattle.yaml_check.specs.Found.{AreFindings}
 use Rattle.yaml_check.specs.Opened.{nothing_open, open_on}
 use Rattle.yaml_check.specs.Warned.{nothing_seen, warnings_on}
@@ -33,10 +33,10 @@ pub record IsFound (options : Options) (bytes : List ℕ) (found : Findings) : T
   pub fault : NamesFault (answer_of_text bytes) found
   pub findings : NamesFindings options bytes found
 
--- The same of bytes: those that are no text are wrong.
+-- The same of bytes: in those that are no text one error is found.
 abbrev pub IsFoundIn : Options → List ℕ → Findings → Type 0
 IsFoundIn options bytes found =
-    (IsUtf8 bytes × IsFound options bytes found) ⊎ ((¬ IsUtf8 bytes) × (found.verdict ≡ verdict.Wrong))
+    (IsUtf8 bytes × IsFound options bytes found) ⊎ ((¬ IsUtf8 bytes) × IsFoundInOther bytes found)
 
 -- How reading all events ends. Memory may run out before any of them.
 abbrev pub EndsAs : Result (Unit {0}) Fault → Answer → Type 0

@@ -1,5 +1,5 @@
 -- What is found in a text: each finding by itself, what is told of a fault, and all of them by their places.
-use Rattle.std.specs.Prelude.{◌≡◌, ℕ, ◌-◌, true, false, if◌then◌else◌, nat_eq, List, [], ◌∷◌, ◌++◌, length, take, map, slice_get, All, Option, None, Some, option_map, codes, string_bytes, IsPermutation}
+use Rattle.std.specs.Prelude.{◌≡◌, ℕ, ◌-◌, true, false, if◌then◌else◌, nat_eq, List, [], ◌∷◌, ◌++◌, length, drop, take, map, slice_get, All, Option, None, Some, option_map, codes, string_bytes, IsPermutation}
 use Rattle.std.specs.Fmt.{decimal}
 use Rattle.std.specs.List.Sorted.{IsNonDecreasingBy}
 use Rattle.saphyr_parser.specs.Words.Marker.{Marker}
@@ -22,8 +22,9 @@ use Rattle.yaml_check.specs.declared.note.Note.{Note}
 use Rattle.yaml_check.specs.declared.warning.PlacedWarning.{PlacedWarning}
 use Rattle.yaml_check.specs.Helps.{Helps}
 use Rattle.yaml_check.specs.Mended.{mends}
-use Rattle.yaml_check.specs.Opened.{OpenStarts, opened_note}
+use Rattle.yaml_check.specs.Opened.{OpenStarts, closer, is_closed_by, opened_note}
 use Rattle.yaml_check.specs.Rules.{rule_name}
+use Rattle.yaml_check.specs.Shown.{place_index}
 use Rattle.yaml_check.specs.Texts.{remark_text, warning_text}
 use Rattle.yaml_check.specs.Warned.{rule_of}
 
@@ -105,16 +106,17 @@ abbrev pub told_by_help : Marker → Option Note → Note → FaultTold
 told_by_help fault opened n =
     if nat_eq n.place.index fault.index then told_here fault (Some n) opened else told_elsewhere fault n opened
 
--- no help tells where the text is mended: then the bracket that is open does
-abbrev pub told_by_bracket : Marker → Option Note → Option Note → FaultTold
-told_by_bracket fault None help = told_here fault help None
-told_by_bracket fault (Some n) help = told_elsewhere fault n help
+-- no help tells where the text is mended: then a bracket does that is open, and that no later one closes
+abbrev pub told_by_bracket : Marker → Option Note → Option ℕ → Option Note → FaultTold
+told_by_bracket fault None closer help = told_here fault help None
+told_by_bracket fault (Some n) closer help =
+    if is_closed_by n closer then told_here fault (Some n) help else told_elsewhere fault n help
 
--- what is told of a fault, of the bracket that is open there, and of the help on it
-abbrev pub fault_told : Marker → Option Note → Option Note → FaultTold
-fault_told fault opened None = told_by_bracket fault opened None
-fault_told fault opened (Some n) =
-    if mends n.remark then told_by_help fault opened n else told_by_bracket fault opened (Some n)
+-- what is told of a fault, of the bracket that is open there and the one that closes it, and of the help on the fault
+abbrev pub fault_told : Marker → Option Note → Option ℕ → Option Note → FaultTold
+fault_told fault opened closer None = told_by_bracket fault opened closer None
+fault_told fault opened closer (Some n) =
+    if mends n.remark then told_by_help fault opened n else told_by_bracket fault opened closer (Some n)
 
 -- help on a fault, where there is one
 abbrev pub IsHelp : List ℕ → OpenStarts → Marker → List ℕ → Option Note → Type 0
@@ -126,7 +128,7 @@ pub record IsToldOf (text : List ℕ) (o : OpenStarts) (place : Marker) (message
     Type 0 where
   pub help : Option Note
   pub is_help : IsHelp text o place message help
-  pub is : told ≡ fault_told place (opened_note text o place) help
+  pub is : told ≡ fault_told place (opened_note text o place) (closer (drop (place_index text place.index) text) 0) help
 
 -- ## All of them
 
@@ -145,7 +147,7 @@ pub record IsByPlace (all list : List Finding) : Type 0 where
   pub rise : IsNonDecreasingBy (λ (f : Finding). f.span.start.index) list
 
 -- what is found where the parser refuses a text: the warnings on the events before the fault, and one error
-pub record IsRefused (options : Options) (text : List ℕ) (ws : List PlacedWarning) (o : OpenStarts) (place : Marker)
+pub record TellsRefusal (options : Options) (text : List ℕ) (ws : List PlacedWarning) (o : OpenStarts) (place : Marker)
     (message : List ℕ) (found : Findings) : Type 0 where
   pub told : FaultTold
   pub is_told : IsToldOf text o place message told
@@ -177,5 +179,5 @@ pub record IsAccepted (options : Options) (text : List ℕ) (ws : List PlacedWar
 -- what is found, by the warnings on the events, by what is open behind them, and by the fault that ends them
 abbrev pub AreFindings : Options → List ℕ → List PlacedWarning → OpenStarts → Option Ending → Findings → Type 0
 AreFindings options text ws o None found = IsAccepted options text ws found
-AreFindings options text ws o (Some (Refused place message)) found = IsRefused options text ws o place message found
+AreFindings options text ws o (Some (Refused place message)) found = TellsRefusal options text ws o place message found
 AreFindings options text ws o (Some OutOfMemory) found = ⊥

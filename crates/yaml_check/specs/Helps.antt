@@ -6,7 +6,7 @@ use Rattle.yaml_check.specs.declared.note.Note.{Note}
 use Rattle.yaml_check.specs.declared.note.Remark.{Remark}
 use Rattle.yaml_check.specs.declared.note.Remark.TheVariants as remark
 use Rattle.yaml_check.specs.Mended.{is_at_fault, is_of_collection}
-use Rattle.yaml_check.specs.Opened.{OpenStarts, innermost, is_right_bracket, opened_note}
+use Rattle.yaml_check.specs.Opened.{OpenStarts, closer, innermost, opened_note}
 use Rattle.yaml_check.specs.Places.{IsLineStart, begins_line, is_space_or_tab, place_of_index}
 use Rattle.yaml_check.specs.Remarks.{remarks_on}
 use Rattle.yaml_check.specs.Shown.{is_end_of_line, place_index}
@@ -81,20 +81,35 @@ pub record IsBehindDashes (text : List ℕ) (start at : ℕ) : Type 0 where
       → ((slice_index text k == 45) || is_space_or_tab (slice_index text k)) ≡ true
 
 -- a colon, or the sign of a block scalar, before an index
-abbrev pub IsColonBefore : List ℕ → ℕ → ℕ → Type 0
-IsColonBefore text end at = (at < end) × (slice_index text at ≡ 58)
+abbrev pub IsColonAbove : List ℕ → ℕ → ℕ → Type 0
+IsColonAbove text end at = (at < end) × (slice_index text at ≡ 58)
+
+abbrev pub IsBlockScalarSign : List ℕ → ℕ → Type 0
+IsBlockScalarSign text at = (slice_index text at ≡ 124) ⊎ (slice_index text at ≡ 62)
 
 abbrev pub IsBlockScalarBefore : List ℕ → ℕ → ℕ → Type 0
-IsBlockScalarBefore text end at = (at < end) × ((slice_index text at ≡ 124) ⊎ (slice_index text at ≡ 62))
+IsBlockScalarBefore text end at = (at < end) × IsBlockScalarSign text at
+
+-- the sign of a block scalar is before an index
+abbrev pub IsBehindBlockScalar : List ℕ → ℕ → Type 0
+IsBehindBlockScalar text at = (sign : ℕ) × IsBlockScalarBefore text at sign
 
 -- the first character of the line of a place that is no blank
-pub record BeginsLine (text : List ℕ) (end at : ℕ) : Type 0 where
+pub record BeginsLineOf (text : List ℕ) (end at : ℕ) : Type 0 where
   pub start : ℕ
   pub last : ℕ
   pub line : IsLineStart text end start
   pub content : IsLineContent text start last at
 
--- Characters that look like another: spaces with another width or none, and quotes.
+-- that of some line
+abbrev pub BeginsSomeLine : List ℕ → ℕ → Type 0
+BeginsSomeLine text at = (near : ℕ) × BeginsLineOf text near at
+
+-- the first of the line of a place, or of one before
+abbrev pub IsNearLine : List ℕ → ℕ → ℕ → Type 0
+IsNearLine text end at = BeginsContent text end at ⊎ BeginsLineOf text end at
+
+-- Characters that look like another: spaces and colons with another width, spaces with none, and quotes.
 abbrev pub is_between : ℕ → ℕ → ℕ → Bool
 is_between first last c = nat_le first c && nat_le c last
 
@@ -104,6 +119,7 @@ is_sign remark.IdeographicSpace c = c == 0x3000
 is_sign remark.OtherSpace c = is_between 0x2000 0x200a c
 is_sign remark.ZeroWidth c = is_between 0x200b 0x200d c || (c == 0xfeff)
 is_sign remark.TypographersQuote c = is_between 0x2018 0x201f c
+is_sign remark.WideColon c = (c == 0xff1a) || (c == 0xfe55)
 is_sign _ c = false
 
 abbrev pub IsSignAt : Remark → List ℕ → ℕ → Type 0
@@ -112,18 +128,17 @@ IsSignAt r text at = (at < length text) × (is_sign r (slice_index text at) ≡ 
 abbrev pub IsTypographersQuote : List ℕ → ℕ → Type 0
 IsTypographersQuote text at = IsSignAt remark.TypographersQuote text at
 
+abbrev pub IsWideColon : List ℕ → ℕ → Type 0
+IsWideColon text at = IsSignAt remark.WideColon text at
+
 -- the brackets of a template
 abbrev pub IsTemplate : List ℕ → ℕ → Type 0
 IsTemplate text at = (IsCharacter 123 text at × (at + 1 < length text))
     × ((slice_index text (at + 1) ≡ 123) ⊎ (slice_index text (at + 1) ≡ 37))
 
--- a bracket closes from an index on
-abbrev pub IsClosedAt : List ℕ → ℕ → ℕ → Type 0
-IsClosedAt text end at = ((end ≤ at) × (at < length text)) × (is_right_bracket (slice_index text at) ≡ true)
-
--- some bracket closes there
-abbrev pub IsClosed : List ℕ → ℕ → Type 0
-IsClosed text end = (at : ℕ) × IsClosedAt text end at
+-- from an index on a bracket closes one before it
+abbrev pub has_closer : List ℕ → ℕ → Bool
+has_closer text end = is_some (closer (drop end text) 0)
 
 -- ## What help says
 
@@ -137,12 +152,14 @@ IsIndexOfHelp remark.ConflictMarker text end at = IsConflictBefore text end at
 IsIndexOfHelp remark.NoColon text end at =
     (start : ℕ) × BeginsContent text end start × IsBehindDashes text start at
 IsIndexOfHelp remark.ValueColumn text end at =
-    BeginsContent text end at × ((colon : ℕ) × IsColonBefore text at colon)
-IsIndexOfHelp remark.BlockScalarColumn text end at =
-    BeginsContent text end at × ((sign : ℕ) × IsBlockScalarBefore text at sign)
-IsIndexOfHelp remark.NoBlankBehindDash text end at = BeginsContent text end at × IsTight 45 text at
+    BeginsContent text end at × ((colon : ℕ) × IsColonAbove text at colon)
+IsIndexOfHelp remark.BlockScalarColumn text end at = IsNearLine text end at × IsBehindBlockScalar text at
+IsIndexOfHelp remark.NoBlankBehindDash text end at = IsNearLine text end at × IsTight 45 text at
 IsIndexOfHelp remark.NoBlankBehindColon text end at = IsTight 58 text at
-IsIndexOfHelp remark.TooFarRight text end at = BeginsLine text end at
+IsIndexOfHelp remark.TooFarRight text end at = BeginsLineOf text end at
+IsIndexOfHelp remark.OtherColumn text end at = (at < end) × BeginsSomeLine text at
+IsIndexOfHelp remark.NoDash text end at = (at < end) × BeginsSomeLine text at
+IsIndexOfHelp remark.OtherComment text end at = IsCharacter 47 text at
 IsIndexOfHelp remark.Template text end at = IsTemplate text at
 IsIndexOfHelp remark.QuotesEnd text end at = IsQuote text end at
 IsIndexOfHelp remark.Apostrophe text end at = IsCharacter 39 text at
@@ -167,9 +184,11 @@ IsPlaceOfCollection r text o place = IsInnermost o place
 -- what is so where a remark is told at the fault
 abbrev pub IsAtFault : Remark → List ℕ → OpenStarts → Marker → Type 0
 IsAtFault remark.Mixed text o fault = (s : Start) × (innermost o.starts ≡ Some s) × (s.span.start.col ≡ fault.col)
-IsAtFault remark.BracketColumn text o fault = IsClosed text (place_index text fault.index)
+IsAtFault remark.BracketColumn text o fault = has_closer text (place_index text fault.index) ≡ true
 IsAtFault remark.MissingComma text o fault =
-    (is_some (opened_note text o fault) ≡ true) × IsClosed text (place_index text fault.index)
+    (is_some (opened_note text o fault) ≡ true) × (has_closer text (place_index text fault.index) ≡ true)
+IsAtFault remark.CommaBehind text o fault =
+    (is_some (opened_note text o fault) ≡ false) × IsCharacter 44 text (place_index text fault.index)
 IsAtFault remark.AllowedColon text o fault = IsCharacter 58 text (place_index text fault.index)
 IsAtFault remark.AllowedDash text o fault = IsCharacter 45 text (place_index text fault.index)
 IsAtFault remark.AllowedQuestionMark text o fault =

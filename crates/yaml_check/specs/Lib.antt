@@ -4,6 +4,7 @@ pub mod CheckerSeen
 pub mod Checks
 pub mod Contents
 pub mod Counting
+pub mod Encoding
 pub mod Folders
 pub mod Found
 pub mod Helps

@@ -79,6 +79,12 @@ unclosed text start zero closed = None
 unclosed text start (suc at) closed =
     if nat_le start at then unclosed_step text at closed (λ k. unclosed text start at k) else None
 
+-- the bracket in a text that closes one before it, where so many are open inside that one
+abbrev pub closer : List ℕ → ℕ → Option ℕ
+closer [] inside = None
+closer (c ∷ cs) inside = if is_left_bracket c then closer cs (inside + 1)
+    else (if is_right_bracket c then (if inside == 0 then Some c else closer cs (inside - 1)) else closer cs inside)
+
 -- the first character that is no blank, no part of a break, no dash and no question mark opens a bracket
 abbrev pub is_passed : ℕ → Bool
 is_passed c = is_space_or_tab c || (is_end_of_line c || ((c == 45) || (c == 63)))
@@ -92,6 +98,17 @@ opens_bracket (c ∷ cs) = if is_passed c then opens_bracket cs else is_left_bra
 abbrev pub open_remark : Shape → Remark
 open_remark shape.Sequence = remark.SequenceOpen
 open_remark shape.Mapping = remark.MappingOpen
+
+-- brackets of one kind, where the first is told of
+abbrev pub is_pair : Remark → ℕ → Bool
+is_pair remark.SequenceOpen c = c == 93
+is_pair remark.MappingOpen c = c == 125
+is_pair _ c = false
+
+-- a bracket that is told of is closed by one of its kind
+abbrev pub is_closed_by : Note → Option ℕ → Bool
+is_closed_by n None = false
+is_closed_by n (Some c) = is_pair n.remark c
 
 abbrev pub shape_of : ℕ → Shape
 shape_of c = if c == 91 then shape.Sequence else shape.Mapping

@@ -52,7 +52,9 @@ remarks_on_signs m = if bytes_eq m (words fault.DashInsideFlow)
     then remark.AllowedLine ∷ []
     else (if bytes_eq m (words fault.CommentInsideText)
     then remark.CommentInText ∷ []
-    else [])))))
+    else (if bytes_eq m (words fault.BlockScalarHeaderEndExpected)
+    then remark.BlockScalarHeader ∷ []
+    else []))))))
 
 abbrev pub remarks_on_nodes : List ℕ → List Remark
 remarks_on_nodes m = if is_on_first_character m
@@ -64,25 +66,32 @@ remarks_on_nodes m = if is_on_first_character m
     else (if is_on_bracket_column m
     then remark.BracketColumn ∷ []
     else (if is_on_flow_entry m
-    then remark.AllowedColon ∷ remark.Template ∷ remark.MissingComma ∷ []
+    then remark.OtherComment ∷ remark.AllowedColon ∷ remark.Template ∷ remark.MissingComma ∷ []
     else (remarks_on_signs m)))))
 
 abbrev pub remarks_on_lines : List ℕ → List Remark
 remarks_on_lines m = if bytes_eq m (words fault.KeyWithoutColon)
     then remark.NoBreakSpace ∷ remark.IdeographicSpace ∷ remark.OtherSpace ∷ remark.ZeroWidth
-    ∷ remark.NoBlankBehindDash ∷ remark.NoBlankBehindColon ∷ remark.BlockScalarColumn
-    ∷ remark.ValueColumn ∷ remark.NoColon ∷ []
+    ∷ remark.OtherComment ∷ remark.WideColon ∷ remark.NoBlankBehindDash ∷ remark.NoBlankBehindColon
+    ∷ remark.BlockScalarColumn ∷ remark.ValueColumn ∷ remark.NoColon ∷ []
     else (if bytes_eq m (words fault.ValueNotAllowed)
-    then remark.TypographersQuote ∷ remark.ColonInText ∷ remark.NoBlankBehindDash ∷ remark.TooFarRight
-    ∷ remark.NoBreakSpace ∷ remark.IdeographicSpace ∷ remark.OtherSpace ∷ remark.ZeroWidth
-    ∷ remark.NoBlankBehindColon ∷ remark.BlockScalarColumn ∷ remark.ValueColumn ∷ remark.NoColon ∷ []
+    then remark.TypographersQuote ∷ remark.NoBreakSpace ∷ remark.IdeographicSpace ∷ remark.OtherSpace ∷ remark.ZeroWidth
+    ∷ remark.OtherComment ∷ remark.ColonInText ∷ remark.WideColon ∷ remark.NoBlankBehindDash ∷ remark.OtherColumn
+    ∷ remark.TooFarRight ∷ remark.NoBlankBehindColon ∷ remark.BlockScalarColumn ∷ remark.ValueColumn
+    ∷ remark.NoColon ∷ []
     else (if bytes_eq m (words fault.BlockMappingKeyExpected)
-    then remark.Template ∷ remark.KeyBeginsWithDash ∷ remark.Mixed ∷ remark.MappingColumn ∷ []
+    then remark.Template ∷ remark.NoBreakSpace ∷ remark.IdeographicSpace ∷ remark.OtherSpace ∷ remark.ZeroWidth
+    ∷ remark.KeyBeginsWithDash ∷ remark.BlockScalarColumn ∷ remark.NoDash ∷ remark.Mixed ∷ remark.OtherColumn
+    ∷ remark.MappingColumn ∷ []
     else (if bytes_eq m (words fault.SequenceEntryExpected)
-    then remark.Template ∷ remark.Mixed ∷ remark.SequenceColumn ∷ []
+    then remark.Template ∷ remark.NoBreakSpace ∷ remark.IdeographicSpace ∷ remark.OtherSpace ∷ remark.ZeroWidth
+    ∷ remark.NoBlankBehindDash ∷ remark.BlockScalarColumn ∷ remark.Mixed ∷ remark.OtherColumn
+    ∷ remark.SequenceColumn ∷ []
+    else (if bytes_eq m (words fault.DocumentStartExpected)
+    then remark.OtherColumn ∷ []
     else (if bytes_eq m (words fault.SequenceEntryNotAllowed)
     then remark.SequenceLine ∷ []
-    else (remarks_on_nodes m)))))
+    else (remarks_on_nodes m))))))
 
 abbrev pub remarks_on : List ℕ → List Remark
 remarks_on m = if is_on_quotes m
@@ -96,5 +105,6 @@ remarks_on m = if is_on_quotes m
     else (if is_behind_question_mark m
     then remark.AllowedQuestionMark ∷ remark.AllowedTab ∷ remark.Tab ∷ []
     else (if bytes_eq m (words fault.ContentAfterQuotes)
-    then remark.MissingComma ∷ remark.Apostrophe ∷ remark.JsonText ∷ remark.QuotesEnd ∷ []
+    then remark.OtherComment ∷ remark.CommaBehind ∷ remark.MissingComma ∷ remark.Apostrophe ∷ remark.JsonText
+    ∷ remark.QuotesEnd ∷ []
     else (remarks_on_lines m))))))

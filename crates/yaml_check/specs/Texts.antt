@@ -27,13 +27,21 @@ remark_text remark.NoColon =
 remark_text remark.ValueColumn = codes "indent a value further than its key"
 remark_text remark.BlockScalarColumn = codes "indent this as the first line of the text above it"
 remark_text remark.TooFarRight = codes "this is too far right for a key, and goes on with the text of the line before"
+remark_text remark.OtherColumn =
+    codes "this is in another column than the lines below, or a '-' before it is missing"
+remark_text remark.NoDash = codes "a '-' before this is missing, as the lines below have it"
 remark_text remark.NoBlankBehindDash = codes "write a blank behind this dash"
 remark_text remark.KeyBeginsWithDash = codes "write a blank behind this dash: it is a part of the key"
 remark_text remark.NoBlankBehindColon = codes "write a blank behind this colon"
+remark_text remark.WideColon =
+    codes "this is a colon of another width, which is a part of a text: write ':' and a blank"
 remark_text remark.ColonInText = codes "a text with ': ' in it needs quotes"
 remark_text remark.FirstCharacter = codes "a text that begins with this character needs quotes"
 remark_text remark.Template = codes "a text that begins with {{ or {% needs quotes"
 remark_text remark.CommentInText = codes "a text with ' #' in it needs quotes, and a comment ends a text"
+remark_text remark.OtherComment = codes "a comment begins with '#'"
+remark_text remark.BlockScalarHeader = codes "the text of a block scalar begins on the next line"
+remark_text remark.CommaBehind = codes "a ',' is between entries in brackets alone: take it away"
 remark_text remark.QuotesOpen = codes "these quotes are not closed, or a line in them is not indented"
 remark_text remark.QuotesEnd =
     codes "the quotes from here on end before that: is a quote, a comma, a colon or an escape missing?"

@@ -122,3 +122,33 @@ fn open_remark(shape: Shape) -> Remark
         Shape::Mapping => Remark::MappingOpen,
     }
 }
+
+/// The bracket that closes the one that is open before a part of the text.
+pub(crate) fn closer(part: &[char]) -> Option<char>
+    ensures { result ≡ spec.closer part.now 0 }
+{
+    let mut inside = 0usize;
+    for at in 0..part.len() {
+        let c = part[at];
+        if is_left_bracket(c) {
+            inside += 1;
+        } else if is_right_bracket(c) {
+            if inside == 0 {
+                return Some(c);
+            }
+            inside -= 1;
+        }
+    }
+    None
+}
+
+/// Whether the bracket that a note tells of is closed by one of its kind.
+pub(crate) fn is_closed_by(note: Note, closer: Option<char>) -> bool
+    ensures { result ≡ spec.is_closed_by note closer }
+{
+    match (note.remark, closer) {
+        (Remark::SequenceOpen, Some(c)) => c == ']',
+        (Remark::MappingOpen, Some(c)) => c == '}',
+        _ => false,
+    }
+}

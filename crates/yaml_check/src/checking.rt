@@ -6,22 +6,21 @@ ghost use Rattle.saphyr_parser.specs.Runs.{answer_of_text};
 ghost use Rattle.saphyr_parser.specs.Views.Events.{happening};
 ghost use Rattle.yaml_check.specs.Checked.{EndsAs, IsFoundIn, NamesFault, NamesFindings, OnceEnded, fault_found};
 ghost use Rattle.yaml_check.specs.Found as found;
-ghost use Rattle.yaml_check.specs.Found.{AreDepartures, AreFindings, IsAccepted, IsByPlace, IsRefused, IsToldOf};
+ghost use Rattle.yaml_check.specs.Found.{AreDepartures, AreFindings, IsAccepted, IsByPlace, TellsRefusal, IsToldOf};
 ghost use Rattle.yaml_check.specs.OpenSeen.{open_of};
-ghost use Rattle.yaml_check.specs.declared.finding.Verdict.TheVariants.{Wrong};
 ghost use Rattle.yaml_check.specs.Opened as opened;
 ghost use Rattle.yaml_check.specs.Warned as warned;
 
 use crate::arguments::Options;
-use crate::brackets::opened_note;
+use crate::brackets::{closer, opened_note};
 use crate::content::Content;
 use crate::counting::Count;
+use crate::encoding::not_utf8;
 use crate::finding::{Finding, Findings, Notes, Problem, Verdict};
 use crate::help::help_on;
 use crate::keys::Keys;
 use crate::mended::{FaultTold, tell_fault};
 use crate::open::Open;
-use crate::places::place_of_index;
 use crate::rules::RuleSet;
 use crate::sizes::Sizes;
 use crate::standard::departures;
@@ -97,37 +96,6 @@ pub fn check_bytes(alloc: Global, bytes: &[u8], options: Options) -> Result<Find
     }
 }
 
-/// What is found in bytes that are not UTF-8.
-pub(crate) fn not_utf8(alloc: Global, bytes: &[u8]) -> Result<Findings, AllocError>
-    ensures { IfOk result (λ found. found.verdict ≡ Wrong) }
-{
-    let text = characters(alloc, text_before(bytes))?;
-    let place = place_of_index(&text, text.len());
-    drop(text);
-    let problem = match bytes {
-        [0xfe, 0xff, ..] | [0xff, 0xfe, ..] => Problem::Utf16,
-        _ => Problem::NotUtf8,
-    };
-    let list = by_place(alloc, &[], 0, &[Finding::at(place, problem)])?;
-    Ok(Findings {
-        verdict: Verdict::Wrong,
-        list,
-        notes: Notes::NONE,
-        fault: None,
-    })
-}
-
-/// The text before the first byte that is not UTF-8.
-pub(crate) fn text_before(bytes: &[u8]) -> &str {
-    match str::from_utf8(bytes) {
-        Ok(text) => text,
-        Err(error) => {
-            let front = bytes.get(..error.valid_up_to()).unwrap_or(&[]);
-            str::from_utf8(front).unwrap_or("")
-        }
-    }
-}
-
 /// What is found in a text with these warnings, where the parser refuses it.
 fn refused(
     alloc: Global,
@@ -138,7 +106,7 @@ fn refused(
     options: Options,
 ) -> Result<Findings, AllocError>
     ensures fault { IfOk result (λ found. found.fault ≡ Some error) }
-    ensures told { IfOk result (IsRefused options (chars text.now) warnings.now
+    ensures told { IfOk result (TellsRefusal options (chars text.now) warnings.now
         (open_of collections.now) error.mark (string_bytes error.info)) }
 {
     let told = told_of(alloc, text, collections, &error);
@@ -174,9 +142,10 @@ fn told_of(
 {
     let text = characters(alloc, text)?;
     let opened = opened_note(&text, collections, error.mark);
+    let closer = closer(&text[error.mark.index.min(text.len())..]);
     let help = help_on(&text, collections, error);
     drop(text);
-    Ok(tell_fault(error.mark, opened, help))
+    Ok(tell_fault(error.mark, opened, closer, help))
 }
 
 /// What is found in a text with these warnings, where the parser reads it.

@@ -1,22 +1,26 @@
 //! A sentence of help on a fault, at the place where people mend it.
-ghost use Rattle.std.specs.Prelude.{◌≡◌, ◌≤◌, ◌<◌, length, string_bytes, IfSome, IsTrue};
+ghost use Rattle.std.specs.Prelude.{◌≡◌, ◌≤◌, ◌<◌, ℕ, length, string_bytes, IfSome, IsTrue};
 ghost use Rattle.yaml_check.specs.Helps as spec;
 ghost use Rattle.yaml_check.specs.OpenSeen.{open_of};
 
-use crate::brackets::opened_note;
+use crate::allowed::{
+    allowed_tab, colon_behind_tag, is_allowed_line, is_colon_below, is_dash_in_text,
+};
+use crate::brackets::{closer, opened_note};
+use crate::columns::{key_without_dash, stray_line};
 use crate::escapes::bad_escape;
 use crate::lines::{
-    behind_dashes, block_scalar_above, colon_above, conflict_marker, content, has_colon, has_key,
-    line_before, line_end, text_line,
+    behind_dashes, block_scalar_above, colon_above, column, conflict_marker, content, has_colon,
+    has_key, line_before, line_behind, line_end, text_line,
 };
 use crate::note::{Note, Remark};
 use crate::open::{Open, Shape};
 use crate::places::{line_start, place_of_index};
+use crate::quotes::{apostrophe, json_quote, quote_before, typographers_quote};
 use crate::remarks::remarks_on;
 use crate::signs::{
-    allowed_tab, apostrophe, closing_bracket, colon_behind_tag, colon_without_blank,
-    is_allowed_line, is_colon_below, is_dash_in_text, is_dash_without_blank, json_quote,
-    lacks_comma, quote_before, sign_between, tab_near, template_before, typographers_quote,
+    colon_without_blank, is_dash_without_blank, lacks_comma, other_comment, sign_between, tab_near,
+    template_before, wide_colon,
 };
 use saphyr_parser::{Marker, ScanError};
 
@@ -82,9 +86,12 @@ fn is_so_at_fault(remark: Remark, text: &[char], collections: &Open, fault: Mark
             Some(start) => start.span.start.col == fault.col && is_mixed(start.shape, text, end),
             None => false,
         },
-        Remark::BracketColumn => closing_bracket(text, end).is_some(),
+        Remark::BracketColumn => closer(&text[end..]).is_some(),
         Remark::MissingComma => {
             opened_note(text, collections, fault).is_some() && lacks_comma(text, end)
+        }
+        Remark::CommaBehind => {
+            opened_note(text, collections, fault).is_none() && end < text.len() && text[end] == ','
         }
         Remark::AllowedColon => is_colon_below(text, end),
         Remark::AllowedDash => is_dash_in_text(text, end),
@@ -129,27 +136,113 @@ fn index_of_help(remark: Remark, text: &[char], collections: &Open, end: usize) 
         Remark::JsonText => json_quote(text, end),
         Remark::Template => template_before(text, end),
         Remark::TypographersQuote => typographers_quote(text, end),
+        Remark::OtherComment => other_comment(text, end),
+        Remark::OtherColumn => stray_line(text, end),
+        Remark::NoDash => key_without_dash(text, end),
         Remark::TooFarRight => key_too_far(text, end),
         _ => index_on_line(remark, text, end),
     }
 }
 
-/// The same on the line of a text before the fault.
+/// The same on the line of a text before the fault, and for some remarks else on the fault's.
 fn index_on_line(remark: Remark, text: &[char], end: usize) -> Option<usize>
+    requires { end ≤ length text.now }
+    ensures within { IfSome result (λ at. at ≤ length text.now) }
+    ensures is { IfSome result (spec.IsIndexOfHelp remark text.now end) }
+{
+    match remark {
+        Remark::NoBreakSpace | Remark::IdeographicSpace | Remark::OtherSpace | Remark::ZeroWidth =>
+            sign_near(remark, text, end),
+        Remark::NoBlankBehindDash => dash_near(text, end),
+        Remark::BlockScalarColumn => block_line_near(text, end),
+        _ => index_before(remark, text, end),
+    }
+}
+
+/// The same on the line of a text before the fault.
+fn index_before(remark: Remark, text: &[char], end: usize) -> Option<usize>
     requires { end ≤ length text.now }
     ensures within { IfSome result (λ at. at ≤ length text.now) }
     ensures is { IfSome result (spec.IsIndexOfHelp remark text.now end) }
 {
     let at = text_line(text, end)?;
     match remark {
-        Remark::NoBreakSpace | Remark::IdeographicSpace | Remark::OtherSpace | Remark::ZeroWidth =>
-            sign_between(remark, text, line_start(text, at), line_end(text, at)),
-        Remark::NoBlankBehindDash if is_dash_without_blank(text, at) => Some(at),
+        Remark::WideColon => wide_colon(text, at),
         Remark::NoBlankBehindColon => colon_without_blank(text, behind_dashes(text, at)),
-        Remark::BlockScalarColumn if block_scalar_above(text, at).is_some() => Some(at),
         Remark::ValueColumn if colon_above(text, at).is_some() => Some(at),
         Remark::NoColon => Some(behind_dashes(text, at)),
         _ => None,
+    }
+}
+
+/// A character that a remark tells of, on one of these lines.
+fn sign_near(remark: Remark, text: &[char], end: usize) -> Option<usize>
+    requires { end ≤ length text.now }
+    ensures { IfSome result (spec.IsSignAt remark text.now) }
+{
+    if let Some(line) = text_line(text, end) {
+        let found = sign_between(remark, text, line_start(text, line), line_end(text, line));
+        if found.is_some() {
+            return found;
+        }
+    }
+    sign_between(remark, text, line_start(text, end), line_end(text, end))
+}
+
+/// A dash without a blank that begins one of these lines.
+fn dash_near(text: &[char], end: usize) -> Option<usize>
+    requires { end ≤ length text.now }
+    ensures near { IfSome result (spec.IsNearLine text.now end) }
+    ensures tight { IfSome result (spec.IsTight 45 text.now) }
+{
+    if let Some(line) = text_line(text, end) {
+        if is_dash_without_blank(text, line) {
+            return Some(line);
+        }
+    }
+    let line = content(text, line_start(text, end), line_end(text, end))?;
+    if is_dash_without_blank(text, line) {
+        Some(line)
+    } else {
+        None
+    }
+}
+
+/// One of these lines that is left of a block scalar above.
+fn block_line_near(text: &[char], end: usize) -> Option<usize>
+    requires { end ≤ length text.now }
+    ensures within { IfSome result (λ at. at ≤ length text.now) }
+    ensures near { IfSome result (spec.IsNearLine text.now end) }
+    ensures behind { IfSome result (spec.IsBehindBlockScalar text.now) }
+{
+    if let Some(line) = text_line(text, end) {
+        if is_block_line(text, line) {
+            return Some(line);
+        }
+    }
+    let line = content(text, line_start(text, end), line_end(text, end))?;
+    if is_block_line(text, line) {
+        Some(line)
+    } else {
+        None
+    }
+}
+
+/// Whether a line belongs to the block scalar above and is left of it: it is no key, or the text goes on behind it.
+fn is_block_line(text: &[char], line: usize) -> bool
+    requires { line < length text.now }
+    ensures { IsTrue result → spec.IsBehindBlockScalar text.now line }
+{
+    block_scalar_above(text, line).is_some() && (!has_key(text, line) || is_inside(text, line))
+}
+
+/// Whether the line behind one is not left of the line before it.
+fn is_inside(text: &[char], line: usize) -> bool
+    requires { line < length text.now }
+{
+    match (line_before(text, line), line_behind(text, line)) {
+        (Some(before), Some(behind)) => column(text, behind) >= column(text, before),
+        _ => false,
     }
 }
 
@@ -157,7 +250,7 @@ fn index_on_line(remark: Remark, text: &[char], end: usize) -> Option<usize>
 fn key_too_far(text: &[char], end: usize) -> Option<usize>
     requires { end ≤ length text.now }
     ensures within { IfSome result (λ at. at ≤ length text.now) }
-    ensures begins { IfSome result (spec.BeginsLine text.now end) }
+    ensures begins { IfSome result (spec.BeginsLineOf text.now end) }
 {
     let before = line_before(text, end)?;
     if has_key(text, before) {

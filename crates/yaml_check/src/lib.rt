@@ -1,11 +1,14 @@
 //! Checks texts of YAML for people: the parser's fault and warnings, each with its place and its line.
 #![tactic(auto)]
 
+mod allowed;
 mod arguments;
 mod brackets;
 mod checking;
+mod columns;
 mod content;
 mod counting;
+mod encoding;
 mod escapes;
 mod finding;
 mod folders;
@@ -17,6 +20,7 @@ mod mended;
 mod note;
 mod open;
 mod places;
+mod quotes;
 mod remarks;
 mod rules;
 mod run;

@@ -69,6 +69,23 @@ pub(crate) fn line_before(text: &[char], end: usize) -> Option<usize>
     None
 }
 
+/// Where the first line behind that of a place begins which has more than blanks and a comment.
+pub(crate) fn line_behind(text: &[char], place: usize) -> Option<usize>
+    requires { place < length text.now }
+    ensures within { IfSome result (λ at. at < length text.now) }
+    ensures behind { IfSome result (λ at. place < at) }
+{
+    let mut end = line_end(text, place);
+    while end < text.len() {
+        let start = end + 1;
+        end = line_end(text, start);
+        if let Some(at) = content(text, start, end) {
+            return Some(at);
+        }
+    }
+    None
+}
+
 /// Where the content of a line begins, if it has more than blanks and a comment.
 pub(crate) fn content(text: &[char], start: usize, end: usize) -> Option<usize>
     requires { end ≤ length text.now }
@@ -109,7 +126,7 @@ pub(crate) fn text_line(text: &[char], end: usize) -> Option<usize>
 }
 
 /// The last line above that of a place which is not further right.
-fn line_above(text: &[char], at: usize) -> Option<usize>
+pub(crate) fn line_above(text: &[char], at: usize) -> Option<usize>
     requires { at ≤ length text.now }
     ensures before { IfSome result (λ above. above < at) }
     ensures begins { IfSome result (spec.BeginsContent text.now at) }
@@ -162,6 +179,13 @@ pub(crate) fn has_key(text: &[char], start: usize) -> bool
     false
 }
 
+/// Whether an entry begins at a place.
+pub(crate) fn is_entry(text: &[char], at: usize) -> bool
+    requires { at < length text.now }
+{
+    text[at] == '-' && is_blank_behind(text, at)
+}
+
 /// What comes behind the dashes of entries that begin at a place.
 pub(crate) fn behind_dashes(text: &[char], start: usize) -> usize
     requires { start < length text.now }
@@ -179,7 +203,7 @@ pub(crate) fn behind_dashes(text: &[char], start: usize) -> usize
 /// The colon that ends the line above, if a place is in the column of that line.
 pub(crate) fn colon_above(text: &[char], at: usize) -> Option<usize>
     requires { at ≤ length text.now }
-    ensures { IfSome result (spec.IsColonBefore text.now at) }
+    ensures { IfSome result (spec.IsColonAbove text.now at) }
 {
     let above = line_above(text, at)?;
     if column(text, above) != column(text, at) || line_before(text, at) != Some(above) {
@@ -193,21 +217,50 @@ pub(crate) fn colon_above(text: &[char], at: usize) -> Option<usize>
     }
 }
 
-/// The sign of the block scalar above, if a place is left of its lines.
+/// The sign of the block scalar above, if a place is left of its lines: all lines between are right of the sign's.
 pub(crate) fn block_scalar_above(text: &[char], at: usize) -> Option<usize>
     requires { at ≤ length text.now }
     ensures { IfSome result (spec.IsBlockScalarBefore text.now at) }
 {
-    let above = line_above(text, at)?;
-    if line_before(text, at) == Some(above) {
-        return None;
+    let mut line = line_before(text, at)?;
+    let mut first = line;
+    let mut least = column(text, line);
+    while least > 0 {
+        line = line_before(text, line)?;
+        let here = column(text, line);
+        if here < least {
+            if let Some(sign) = header_sign(text, line) {
+                let is_left = sign < at && column(text, at) < column(text, first);
+                return if is_left { Some(sign) } else { None };
+            }
+        }
+        first = line;
+        least = least.min(here);
     }
-    let last = last_character(text, above, true)?;
-    let is_header = last > above && is_space_or_tab(text[last - 1]);
-    if is_header && last < at && (text[last] == '|' || text[last] == '>') {
+    None
+}
+
+/// The sign of a block scalar that ends a line.
+fn header_sign(text: &[char], line: usize) -> Option<usize>
+    requires { line ≤ length text.now }
+    ensures { IfSome result (spec.IsBlockScalarSign text.now) }
+{
+    let last = last_character(text, line, true)?;
+    let is_header = last > line && is_space_or_tab(text[last - 1]);
+    if is_header && (text[last] == '|' || text[last] == '>') {
         Some(last)
     } else {
         None
+    }
+}
+
+/// Whether a line ends with a colon, so that its value is below.
+pub(crate) fn has_value_below(text: &[char], at: usize) -> bool
+    requires { at < length text.now }
+{
+    match last_character(text, at, false) {
+        Some(last) => text[last] == ':',
+        None => false,
     }
 }
 

@@ -2,6 +2,7 @@
 ghost use Rattle.std.specs.Prelude.{◌≡◌};
 ghost use Rattle.yaml_check.specs.Found as spec;
 
+use crate::brackets::is_closed_by;
 use crate::finding::{Finding, Notes, Problem};
 use crate::note::Note;
 use saphyr_parser::Marker;
@@ -13,13 +14,18 @@ pub(crate) struct FaultTold {
     pub(crate) notes: Notes,
 }
 
-/// Tells a fault at a place, by the bracket that is open there and the help on it.
-pub(crate) fn tell_fault(fault: Marker, opened: Option<Note>, help: Option<Note>) -> FaultTold
-    ensures { result ≡ spec.fault_told fault opened help }
+/// Tells a fault at a place, by the bracket that is open there, the one that closes it, and the help on the fault.
+pub(crate) fn tell_fault(
+    fault: Marker,
+    opened: Option<Note>,
+    closer: Option<char>,
+    help: Option<Note>,
+) -> FaultTold
+    ensures { result ≡ spec.fault_told fault opened closer help }
 {
     match help {
         Some(note) if note.remark.mends() => tell_by_help(fault, opened, note),
-        _ => tell_by_bracket(fault, opened, help),
+        _ => tell_by_bracket(fault, opened, closer, help),
     }
 }
 
@@ -34,11 +40,17 @@ fn tell_by_help(fault: Marker, opened: Option<Note>, note: Note) -> FaultTold
     }
 }
 
-/// No help tells where.
-fn tell_by_bracket(fault: Marker, opened: Option<Note>, help: Option<Note>) -> FaultTold
-    ensures { result ≡ spec.told_by_bracket fault opened help }
+/// No help tells where: the text is mended at a bracket that is not closed.
+fn tell_by_bracket(
+    fault: Marker,
+    opened: Option<Note>,
+    closer: Option<char>,
+    help: Option<Note>,
+) -> FaultTold
+    ensures { result ≡ spec.told_by_bracket fault opened closer help }
 {
     match opened {
+        Some(note) if is_closed_by(note, closer) => tell_here(fault, opened, help),
         Some(note) => tell_elsewhere(fault, note, help),
         None => tell_here(fault, help, None),
     }

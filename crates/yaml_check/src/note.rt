@@ -23,16 +23,28 @@ pub enum Remark {
     BlockScalarColumn,
     /// A key is right of the column of its mapping.
     TooFarRight,
+    /// A line is in another column than those below it, which belong with it.
+    OtherColumn,
+    /// The dash before a key is missing, where entries follow.
+    NoDash,
     NoBlankBehindDash,
     /// A key begins with a dash that has no blank behind it.
     KeyBeginsWithDash,
     NoBlankBehindColon,
+    /// A colon of another width.
+    WideColon,
     ColonInText,
     /// No text without quotes begins with the character.
     FirstCharacter,
     /// A text without quotes begins with the brackets of a template.
     Template,
     CommentInText,
+    /// A comment begins as in another language.
+    OtherComment,
+    /// The first line of a block scalar stands behind its sign.
+    BlockScalarHeader,
+    /// A comma outside brackets.
+    CommaBehind,
     QuotesOpen,
     /// What is refused comes behind the quotes that begin here.
     QuotesEnd,
@@ -110,6 +122,7 @@ impl Remark {
             Remark::ColonInText | Remark::FirstCharacter | Remark::CommentInText => true,
             Remark::QuotesOpen | Remark::SequenceLine | Remark::UnknownAlias => true,
             Remark::Mixed | Remark::BracketColumn | Remark::MissingComma => true,
+            Remark::CommaBehind | Remark::BlockScalarHeader => true,
             Remark::AllowedColon | Remark::AllowedDash => true,
             Remark::AllowedLine | Remark::AllowedQuestionMark => true,
             _ => false,
@@ -146,15 +159,25 @@ impl Remark {
             Remark::TooFarRight => {
                 "this is too far right for a key, and goes on with the text of the line before"
             }
+            Remark::OtherColumn => {
+                "this is in another column than the lines below, or a '-' before it is missing"
+            }
+            Remark::NoDash => "a '-' before this is missing, as the lines below have it",
             Remark::NoBlankBehindDash => "write a blank behind this dash",
             Remark::KeyBeginsWithDash => "write a blank behind this dash: it is a part of the key",
             Remark::NoBlankBehindColon => "write a blank behind this colon",
+            Remark::WideColon => {
+                "this is a colon of another width, which is a part of a text: write ':' and a blank"
+            }
             Remark::ColonInText => "a text with ': ' in it needs quotes",
             Remark::FirstCharacter => "a text that begins with this character needs quotes",
             Remark::Template => "a text that begins with {{ or {% needs quotes",
             Remark::CommentInText => {
                 "a text with ' #' in it needs quotes, and a comment ends a text"
             }
+            Remark::OtherComment => "a comment begins with '#'",
+            Remark::BlockScalarHeader => "the text of a block scalar begins on the next line",
+            Remark::CommaBehind => "a ',' is between entries in brackets alone: take it away",
             Remark::QuotesOpen => "these quotes are not closed, or a line in them is not indented",
             Remark::QuotesEnd => {
                 "the quotes from here on end before that: is a quote, a comma, a colon or an escape missing?"

@@ -21,6 +21,8 @@ pub(crate) fn remarks_on(message: &str) -> &'static [Remark]
         &[Remark::AllowedQuestionMark, Remark::AllowedTab, Remark::Tab]
     } else if message == FaultText::ContentAfterQuotes.words() {
         &[
+            Remark::OtherComment,
+            Remark::CommaBehind,
             Remark::MissingComma,
             Remark::Apostrophe,
             Remark::JsonText,
@@ -41,6 +43,8 @@ fn remarks_on_lines(message: &str) -> &'static [Remark]
             Remark::IdeographicSpace,
             Remark::OtherSpace,
             Remark::ZeroWidth,
+            Remark::OtherComment,
+            Remark::WideColon,
             Remark::NoBlankBehindDash,
             Remark::NoBlankBehindColon,
             Remark::BlockScalarColumn,
@@ -50,13 +54,16 @@ fn remarks_on_lines(message: &str) -> &'static [Remark]
     } else if message == FaultText::ValueNotAllowed.words() {
         &[
             Remark::TypographersQuote,
-            Remark::ColonInText,
-            Remark::NoBlankBehindDash,
-            Remark::TooFarRight,
             Remark::NoBreakSpace,
             Remark::IdeographicSpace,
             Remark::OtherSpace,
             Remark::ZeroWidth,
+            Remark::OtherComment,
+            Remark::ColonInText,
+            Remark::WideColon,
+            Remark::NoBlankBehindDash,
+            Remark::OtherColumn,
+            Remark::TooFarRight,
             Remark::NoBlankBehindColon,
             Remark::BlockScalarColumn,
             Remark::ValueColumn,
@@ -65,12 +72,32 @@ fn remarks_on_lines(message: &str) -> &'static [Remark]
     } else if message == FaultText::BlockMappingKeyExpected.words() {
         &[
             Remark::Template,
+            Remark::NoBreakSpace,
+            Remark::IdeographicSpace,
+            Remark::OtherSpace,
+            Remark::ZeroWidth,
             Remark::KeyBeginsWithDash,
+            Remark::BlockScalarColumn,
+            Remark::NoDash,
             Remark::Mixed,
+            Remark::OtherColumn,
             Remark::MappingColumn,
         ]
     } else if message == FaultText::SequenceEntryExpected.words() {
-        &[Remark::Template, Remark::Mixed, Remark::SequenceColumn]
+        &[
+            Remark::Template,
+            Remark::NoBreakSpace,
+            Remark::IdeographicSpace,
+            Remark::OtherSpace,
+            Remark::ZeroWidth,
+            Remark::NoBlankBehindDash,
+            Remark::BlockScalarColumn,
+            Remark::Mixed,
+            Remark::OtherColumn,
+            Remark::SequenceColumn,
+        ]
+    } else if message == FaultText::DocumentStartExpected.words() {
+        &[Remark::OtherColumn]
     } else if message == FaultText::SequenceEntryNotAllowed.words() {
         &[Remark::SequenceLine]
     } else {
@@ -91,7 +118,12 @@ fn remarks_on_nodes(message: &str) -> &'static [Remark]
     } else if is_on_bracket_column(message) {
         &[Remark::BracketColumn]
     } else if is_on_flow_entry(message) {
-        &[Remark::AllowedColon, Remark::Template, Remark::MissingComma]
+        &[
+            Remark::OtherComment,
+            Remark::AllowedColon,
+            Remark::Template,
+            Remark::MissingComma,
+        ]
     } else {
         remarks_on_signs(message)
     }
@@ -113,6 +145,8 @@ fn remarks_on_signs(message: &str) -> &'static [Remark]
         &[Remark::AllowedLine]
     } else if message == FaultText::CommentInsideText.words() {
         &[Remark::CommentInText]
+    } else if message == FaultText::BlockScalarHeaderEndExpected.words() {
+        &[Remark::BlockScalarHeader]
     } else {
         &[]
     }

@@ -6,7 +6,8 @@ ghost use Rattle.yaml_check.specs.Statuses.{AllPass, OneUnchecked};
 ghost use Rattle.yaml_check.specs.Checks.{Checks, IsWrong, Judges, JudgesBytes, TellsUnread, WritesLines, WritesTold, events_asked, told_unless_quiet};
 
 use crate::arguments::Options;
-use crate::checking::{check_text, not_utf8, text_before};
+use crate::checking::check_text;
+use crate::encoding::{not_utf8, text_before};
 use crate::finding::Verdict;
 use crate::telling::{report, report_unread};
 use saphyr_parser::{DumpFault, Fault, Parser, dump};

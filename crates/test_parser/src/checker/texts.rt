@@ -98,9 +98,8 @@ const PRINTED: &[(&str, &str)] = &[
     // Faults. The error is where a person mends the text, if that is known, and findings come by their places.
     (
         "[a:[]]",
-        "f:1:1: error: the sequence that begins here is not closed yet\n[a:[]]\n^\n\
-        f:1:3: note: the parser stops here: ':' may not precede any of `[{` in flow mapping\n[a:[]]\n\
-        \u{20} ^\nwrong",
+        "f:1:3: error: ':' may not precede any of `[{` in flow mapping\n[a:[]]\n  ^\n\
+        f:1:1: note: the sequence that begins here is not closed yet\n[a:[]]\n^\nwrong",
     ),
     (
         "a: 1\na: *b\n",
@@ -108,7 +107,7 @@ const PRINTED: &[(&str, &str)] = &[
         f:2:4: error: while parsing node, found unknown anchor\na: *b\n   ^\n\
         f:2:4: note: no anchor has this name; a text that begins with * needs quotes\nwrong",
     ),
-    // A bracket is not closed: an outermost one, and one before a closing brace.
+    // A bracket is not closed: an outermost one, and one before a closing brace. Above, one is.
     (
         "[1, 2\nhost: y",
         "f:1:1: error: the sequence that begins here is not closed yet\n[1, 2\n^\n\
@@ -229,11 +228,11 @@ fn findings_as_json(rt: HostRuntime) {
         \"rule\":\"duplicate-key\",\"severity\":\"warning\",\
         \"message\":\"duplicate key; first at 1:2\"}\nwarned";
     assert!(rt; prints(rt.alloc(), b"{a: 1, a: 2}", json, warned));
-    let wrong = "{\"file\":\"f\",\"line\":1,\"column\":1,\"end\":{\"line\":1,\"column\":1},\
+    let wrong = "{\"file\":\"f\",\"line\":1,\"column\":2,\"end\":{\"line\":1,\"column\":2},\
         \"rule\":\"syntax\",\"severity\":\"error\",\
-        \"message\":\"the sequence that begins here is not closed yet\"}\n\
-        {\"file\":\"f\",\"line\":1,\"column\":2,\"end\":{\"line\":1,\"column\":2},\
+        \"message\":\"\\\"-\\\" is only valid inside a block\"}\n\
+        {\"file\":\"f\",\"line\":1,\"column\":1,\"end\":{\"line\":1,\"column\":1},\
         \"rule\":\"syntax\",\"severity\":\"note\",\
-        \"message\":\"the parser stops here: \\\"-\\\" is only valid inside a block\"}\nwrong";
+        \"message\":\"the sequence that begins here is not closed yet\"}\nwrong";
     assert!(rt; prints(rt.alloc(), b"[- a]", json, wrong));
 }

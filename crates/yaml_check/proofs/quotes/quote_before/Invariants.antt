@@ -1,5 +1,5 @@
 use Rattle.std.proofs.Common.{◌≤◌}
-use Rattle.yaml_check.proofs.signs.quote_before.Given as goal
+use Rattle.yaml_check.proofs.quotes.quote_before.Given as goal
 
 abbrev pub invariant-loop-close : goal.invariant-loop-close
 invariant-loop-close l = l.close ≤ l.end

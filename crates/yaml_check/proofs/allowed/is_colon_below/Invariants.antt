@@ -1,5 +1,5 @@
 use Rattle.std.proofs.Common.{◌≤◌}
-use Rattle.yaml_check.proofs.signs.is_colon_below.Given as goal
+use Rattle.yaml_check.proofs.allowed.is_colon_below.Given as goal
 
 abbrev pub invariant-loop-at : goal.invariant-loop-at
 invariant-loop-at l = l.at ≤ l.end

@@ -1,8 +1,8 @@
 use Rattle.std.proofs.Common.{◌≤◌}
-use Rattle.yaml_check.proofs.signs.opening_quote.Given as goal
+use Rattle.yaml_check.proofs.allowed.is_word.Given as goal
 
 abbrev pub invariant-loop-at : goal.invariant-loop-at
-invariant-loop-at l = l.at ≤ l.close
+invariant-loop-at l = l.at ≤ l.last
 
 abbrev pub decreases-loop-at : goal.decreases-loop-at
 decreases-loop-at l = l.at
