@@ -106,7 +106,7 @@ abbrev pub told_by_help : Marker → Option Note → Note → FaultTold
 told_by_help fault opened n =
     if nat_eq n.place.index fault.index then told_here fault (Some n) opened else told_elsewhere fault n opened
 
--- no help tells where the text is mended: then a bracket does that is open, and that no later one closes
+-- no help tells where the text is mended: then a bracket does that is open, if no closing one of its kind comes later
 abbrev pub told_by_bracket : Marker → Option Note → Option ℕ → Option Note → FaultTold
 told_by_bracket fault None closer help = told_here fault help None
 told_by_bracket fault (Some n) closer help =

@@ -81,8 +81,8 @@ pub record IsBehindDashes (text : List ℕ) (start at : ℕ) : Type 0 where
       → ((slice_index text k == 45) || is_space_or_tab (slice_index text k)) ≡ true
 
 -- a colon, or the sign of a block scalar, before an index
-abbrev pub IsColonAbove : List ℕ → ℕ → ℕ → Type 0
-IsColonAbove text end at = (at < end) × (slice_index text at ≡ 58)
+abbrev pub IsEarlierColon : List ℕ → ℕ → ℕ → Type 0
+IsEarlierColon text end at = (at < end) × (slice_index text at ≡ 58)
 
 abbrev pub IsBlockScalarSign : List ℕ → ℕ → Type 0
 IsBlockScalarSign text at = (slice_index text at ≡ 124) ⊎ (slice_index text at ≡ 62)
@@ -131,6 +131,15 @@ IsTypographersQuote text at = IsSignAt remark.TypographersQuote text at
 abbrev pub IsWideColon : List ℕ → ℕ → Type 0
 IsWideColon text at = IsSignAt remark.WideColon text at
 
+-- the line of a place begins with a dash
+abbrev pub IsDashLine : List ℕ → ℕ → Type 0
+IsDashLine text end = (line : ℕ) × BeginsLineOf text end line × IsCharacter 45 text line
+
+-- a comment as other languages have it
+abbrev pub IsOtherComment : List ℕ → ℕ → Type 0
+IsOtherComment text at = (IsCharacter 47 text at × (at + 1 < length text))
+    × ((slice_index text (at + 1) ≡ 47) ⊎ (slice_index text (at + 1) ≡ 42))
+
 -- the brackets of a template
 abbrev pub IsTemplate : List ℕ → ℕ → Type 0
 IsTemplate text at = (IsCharacter 123 text at × (at + 1 < length text))
@@ -152,14 +161,16 @@ IsIndexOfHelp remark.ConflictMarker text end at = IsConflictBefore text end at
 IsIndexOfHelp remark.NoColon text end at =
     (start : ℕ) × BeginsContent text end start × IsBehindDashes text start at
 IsIndexOfHelp remark.ValueColumn text end at =
-    BeginsContent text end at × ((colon : ℕ) × IsColonAbove text at colon)
+    BeginsContent text end at × ((colon : ℕ) × IsEarlierColon text at colon)
 IsIndexOfHelp remark.BlockScalarColumn text end at = IsNearLine text end at × IsBehindBlockScalar text at
 IsIndexOfHelp remark.NoBlankBehindDash text end at = IsNearLine text end at × IsTight 45 text at
 IsIndexOfHelp remark.NoBlankBehindColon text end at = IsTight 58 text at
 IsIndexOfHelp remark.TooFarRight text end at = BeginsLineOf text end at
 IsIndexOfHelp remark.OtherColumn text end at = (at < end) × BeginsSomeLine text at
-IsIndexOfHelp remark.NoDash text end at = (at < end) × BeginsSomeLine text at
-IsIndexOfHelp remark.OtherComment text end at = IsCharacter 47 text at
+IsIndexOfHelp remark.NoDash text end at = (at < end) × BeginsSomeLine text at × IsDashLine text end
+IsIndexOfHelp remark.OtherComment text end at =
+    IsOtherComment text at × ((at ≡ end) ⊎ ((at < end) × BeginsSomeLine text at))
+IsIndexOfHelp remark.WideColon text end at = (at < end) × IsWideColon text at
 IsIndexOfHelp remark.Template text end at = IsTemplate text at
 IsIndexOfHelp remark.QuotesEnd text end at = IsQuote text end at
 IsIndexOfHelp remark.Apostrophe text end at = IsCharacter 39 text at

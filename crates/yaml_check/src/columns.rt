@@ -33,6 +33,7 @@ pub(crate) fn key_without_dash(text: &[char], end: usize) -> Option<usize>
     requires { end ≤ length text.now }
     ensures before { IfSome result (λ at. at < end) }
     ensures begins { IfSome result (spec.BeginsSomeLine text.now) }
+    ensures entry { IfSome result (λ at. spec.IsDashLine text.now end) }
 {
     let line = content_at(text, end)?;
     let first = line_above(text, line)?;
@@ -49,7 +50,7 @@ pub(crate) fn key_without_dash(text: &[char], end: usize) -> Option<usize>
 }
 
 /// Where the content of the line of a place begins, if that is before another place.
-fn content_before(text: &[char], at: usize, end: usize) -> Option<usize>
+pub(crate) fn content_before(text: &[char], at: usize, end: usize) -> Option<usize>
     requires { at ≤ length text.now }
     ensures before { IfSome result (λ found. found < end) }
     ensures begins { IfSome result (spec.BeginsSomeLine text.now) }
@@ -62,7 +63,7 @@ fn content_before(text: &[char], at: usize, end: usize) -> Option<usize>
 fn content_at(text: &[char], at: usize) -> Option<usize>
     requires { at ≤ length text.now }
     ensures within { IfSome result (λ found. found < length text.now) }
-    ensures begins { IfSome result (spec.BeginsSomeLine text.now) }
+    ensures begins { IfSome result (spec.BeginsLineOf text.now at) }
 {
     content(text, line_start(text, at), line_end(text, at))
 }

@@ -167,7 +167,7 @@ fn index_before(remark: Remark, text: &[char], end: usize) -> Option<usize>
 {
     let at = text_line(text, end)?;
     match remark {
-        Remark::WideColon => wide_colon(text, at),
+        Remark::WideColon => wide_colon(text, at, end),
         Remark::NoBlankBehindColon => colon_without_blank(text, behind_dashes(text, at)),
         Remark::ValueColumn if colon_above(text, at).is_some() => Some(at),
         Remark::NoColon => Some(behind_dashes(text, at)),

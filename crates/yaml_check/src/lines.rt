@@ -182,6 +182,7 @@ pub(crate) fn has_key(text: &[char], start: usize) -> bool
 /// Whether an entry begins at a place.
 pub(crate) fn is_entry(text: &[char], at: usize) -> bool
     requires { at < length text.now }
+    ensures { IsTrue result → spec.IsCharacter 45 text.now at }
 {
     text[at] == '-' && is_blank_behind(text, at)
 }
@@ -203,7 +204,7 @@ pub(crate) fn behind_dashes(text: &[char], start: usize) -> usize
 /// The colon that ends the line above, if a place is in the column of that line.
 pub(crate) fn colon_above(text: &[char], at: usize) -> Option<usize>
     requires { at ≤ length text.now }
-    ensures { IfSome result (spec.IsColonAbove text.now at) }
+    ensures { IfSome result (spec.IsEarlierColon text.now at) }
 {
     let above = line_above(text, at)?;
     if column(text, above) != column(text, at) || line_before(text, at) != Some(above) {

@@ -1,8 +1,9 @@
 //! Signs of a text, such as tabs, dashes and brackets, by which help knows what was meant.
-ghost use Rattle.std.specs.Prelude.{◌≡◌, ◌<◌, ◌≤◌, length, slice_index, IfSome, IsTrue, true};
+ghost use Rattle.std.specs.Prelude.{◌≡◌, ◌⊎◌, ◌<◌, ◌≤◌, length, slice_index, IfSome, IsTrue, true};
 ghost use Rattle.yaml_check.specs.Helps as spec;
 
 use crate::brackets::{closer, is_left_bracket, is_right_bracket};
+use crate::columns::content_before;
 use crate::lines::{content, has_key, is_blank_behind, line_before, line_end};
 use crate::note::Remark;
 use crate::places::{is_space_or_tab, line_start};
@@ -34,12 +35,13 @@ fn may_begin_at(text: &[char], at: usize) -> bool
     }
 }
 
-/// The colon of another width on a line from a place on.
-pub(crate) fn wide_colon(text: &[char], start: usize) -> Option<usize>
+/// The colon of another width on a line from one place on, and before another.
+pub(crate) fn wide_colon(text: &[char], start: usize, end: usize) -> Option<usize>
     requires { start ≤ length text.now }
-    ensures { IfSome result (spec.IsWideColon text.now) }
+    ensures before { IfSome result (λ at. at < end) }
+    ensures is { IfSome result (spec.IsWideColon text.now) }
 {
-    for at in start..line_end(text, start) {
+    for at in start..line_end(text, start).min(end) {
         if is_sign(Remark::WideColon, text[at]) {
             return Some(at);
         }
@@ -50,7 +52,8 @@ pub(crate) fn wide_colon(text: &[char], start: usize) -> Option<usize>
 /// The slash that begins a comment of another language, at a place or on a line before it of the same text.
 pub(crate) fn other_comment(text: &[char], end: usize) -> Option<usize>
     requires { end ≤ length text.now }
-    ensures { IfSome result (spec.IsCharacter 47 text.now) }
+    ensures near { IfSome result (λ at. (at ≡ end) ⊎ ((at < end) × spec.BeginsSomeLine text.now at)) }
+    ensures is { IfSome result (spec.IsOtherComment text.now) }
 {
     if begins_other_comment(text, end) {
         return Some(end);
@@ -62,12 +65,17 @@ pub(crate) fn other_comment(text: &[char], end: usize) -> Option<usize>
         }
         at = line_before(text, at)?;
     }
-    Some(at)
+    let found = content_before(text, at, end)?;
+    if begins_other_comment(text, found) {
+        Some(found)
+    } else {
+        None
+    }
 }
 
 /// Whether a comment of another language begins at a place.
 fn begins_other_comment(text: &[char], at: usize) -> bool
-    ensures { IsTrue result → spec.IsCharacter 47 text.now at }
+    ensures { IsTrue result → spec.IsOtherComment text.now at }
 {
     at < text.len()
         && text[at] == '/'
