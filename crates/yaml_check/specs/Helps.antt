@@ -1,5 +1,5 @@
 -- Help on faults: what it says, and of which place.
-use Rattle.std.specs.Prelude.{ℕ, ◌+◌, ◌-◌, ◌<◌, ◌≤◌, ◌≡◌, ◌⊎◌, ◌==◌, ◌&&◌, ◌||◌, Bool, true, false, nat_le, List, length, drop, slice_get, slice_index, Option, Some, is_some}
+use Rattle.std.specs.Prelude.{ℕ, ◌+◌, ◌-◌, ◌<◌, ◌≤◌, ◌≡◌, ◌≢◌, ◌⊎◌, ◌==◌, ◌&&◌, ◌||◌, Bool, true, false, nat_le, List, length, drop, slice_get, slice_index, Option, Some, is_some}
 use Rattle.saphyr_parser.specs.Words.Marker.{Marker}
 use Rattle.yaml_check.specs.declared.open.Start.{Start}
 use Rattle.yaml_check.specs.declared.note.Note.{Note}
@@ -131,6 +131,20 @@ IsTypographersQuote text at = IsSignAt remark.TypographersQuote text at
 abbrev pub IsWideColon : List ℕ → ℕ → Type 0
 IsWideColon text at = IsSignAt remark.WideColon text at
 
+-- so many characters are before an index on its line
+abbrev pub IsColumn : List ℕ → ℕ → ℕ → Type 0
+IsColumn text at count = (start : ℕ) × IsLineStart text at start × (count ≡ at - start)
+
+-- an index is in another column than the line of a place begins
+pub record IsInOtherColumn (text : List ℕ) (end at : ℕ) : Type 0 where
+  pub line : ℕ
+  pub begins : BeginsLineOf text end line
+  pub here : ℕ
+  pub there : ℕ
+  pub is_here : IsColumn text line here
+  pub is_there : IsColumn text at there
+  pub other : here ≢ there
+
 -- the line of a place begins with a dash
 abbrev pub IsDashLine : List ℕ → ℕ → Type 0
 IsDashLine text end = (line : ℕ) × BeginsLineOf text end line × IsCharacter 45 text line
@@ -166,7 +180,7 @@ IsIndexOfHelp remark.BlockScalarColumn text end at = IsNearLine text end at × I
 IsIndexOfHelp remark.NoBlankBehindDash text end at = IsNearLine text end at × IsTight 45 text at
 IsIndexOfHelp remark.NoBlankBehindColon text end at = IsTight 58 text at
 IsIndexOfHelp remark.TooFarRight text end at = BeginsLineOf text end at
-IsIndexOfHelp remark.OtherColumn text end at = (at < end) × BeginsSomeLine text at
+IsIndexOfHelp remark.OtherColumn text end at = (at < end) × BeginsSomeLine text at × IsInOtherColumn text end at
 IsIndexOfHelp remark.NoDash text end at = (at < end) × BeginsSomeLine text at × IsDashLine text end
 IsIndexOfHelp remark.OtherComment text end at =
     IsOtherComment text at × ((at ≡ end) ⊎ ((at < end) × BeginsSomeLine text at))

@@ -14,6 +14,7 @@ pub(crate) fn stray_line(text: &[char], end: usize) -> Option<usize>
     requires { end ≤ length text.now }
     ensures before { IfSome result (λ at. at < end) }
     ensures begins { IfSome result (spec.BeginsSomeLine text.now) }
+    ensures other { IfSome result (spec.IsInOtherColumn text.now end) }
 {
     let line = content_at(text, end)?;
     let first = first_beside(text, line)?;
@@ -21,8 +22,12 @@ pub(crate) fn stray_line(text: &[char], end: usize) -> Option<usize>
         && !lacks_value(text, line)
         && is_lone(text, first, line)
         && is_in_other_column(text, first, line);
-    if is_stray {
-        content_before(text, first, end)
+    if !is_stray {
+        return None;
+    }
+    let found = content_before(text, first, end)?;
+    if column(text, found) != column(text, line) {
+        Some(found)
     } else {
         None
     }

@@ -141,6 +141,7 @@ pub(crate) fn line_above(text: &[char], at: usize) -> Option<usize>
 /// The column of the character at an index.
 pub(crate) fn column(text: &[char], at: usize) -> usize
     requires { at ≤ length text.now }
+    ensures { spec.IsColumn text.now at result }
 {
     at - line_start(text, at)
 }
