@@ -33,7 +33,7 @@ from release_pages import block, blocks, files_below, read, wrong_links, wrong_m
 TEXT = b"name: &it !!str 'parser'\nports: [80, \"443\", *it]\n"
 SCALARS = b"1:1 name\n1:7 parser\n2:1 ports\n2:9 80\n2:13 443\n"
 FIRST = b"1:1 ports\n1:9 80\n1:13 443\n"  # what the programs of the README print
-CALLS = ["add", "anchored", "check_standard", "clone", "count", "describe", "expanded", "free", "get", "item",
+CALLS = ["add", "anchored", "check_standard", "clone", "count", "describe", "expanded", "follow", "free", "get", "item",
          "keep_tags", "key", "load", "load_next", "new", "new_pieces", "new_utf8", "next", "peek", "root", "valid_up_to",
          "value", "version"]
 # What the example `config` prints. The last item is an alias.

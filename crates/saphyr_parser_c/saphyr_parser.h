@@ -383,13 +383,21 @@ saphyr_node saphyr_value(saphyr_parser *parser, saphyr_node node, size_t index);
 
 /*
  * Returns the value in a mapping whose key is a scalar with the text of `len` bytes at `key`, whatever its style and
- * tag: the first if there are several, and SAPHYR_NO_NODE if there is none. It looks at one key after the other.
+ * tag: the first if there are several, and SAPHYR_NO_NODE if there is none. An alias stands for the node that it names:
+ * one that `node` is, and one that is a key. The value may be an alias. It looks at one key after the other.
  */
 saphyr_node saphyr_get(saphyr_parser *parser, saphyr_node node, const char *key, size_t len);
 
 /*
+ * Of an alias, returns the node that it names, which is no alias; of any other node, the node itself; and
+ * SAPHYR_NO_NODE if there is no node with this number. An alias may be inside the node that it names: saphyr_expanded
+ * says how many nodes a walk meets that follows each alias.
+ */
+saphyr_node saphyr_follow(saphyr_parser *parser, saphyr_node node);
+
+/*
  * Returns the node whose anchor has this id, so the one that an alias names, or SAPHYR_NO_NODE. An alias may be inside
- * the node that it names. It looks at one node after the other.
+ * the node that it names.
  */
 saphyr_node saphyr_anchored(saphyr_parser *parser, size_t id);
 

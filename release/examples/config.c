@@ -22,12 +22,6 @@ struct path {
 static saphyr_parser trees; /* Zeroed, as what is static is. */
 static saphyr_event event;
 
-/* The node that an alias names, and any other node itself. */
-static saphyr_node followed(saphyr_node node) {
-    saphyr_describe(&trees, node, &event);
-    return event.kind == SAPHYR_ALIAS ? saphyr_anchored(&trees, event.anchor) : node;
-}
-
 static void print_path(const struct path *path) {
     if (path) {
         print_path(path->before);
@@ -41,7 +35,7 @@ static void print_path(const struct path *path) {
 
 /* Follows aliases, and ends since the nodes were counted with each alias as a copy. */
 static void print(saphyr_node node, const struct path *path) {
-    node = followed(node);
+    node = saphyr_follow(&trees, node);
     saphyr_describe(&trees, node, &event);
     if (event.kind == SAPHYR_SCALAR) {
         print_path(path);
@@ -50,7 +44,7 @@ static void print(saphyr_node node, const struct path *path) {
     }
     for (size_t index = 0; index < saphyr_count(&trees, node); index++) {
         saphyr_node value = saphyr_value(&trees, node, index);
-        saphyr_describe(&trees, followed(saphyr_key(&trees, node, index)), &event);
+        saphyr_describe(&trees, saphyr_follow(&trees, saphyr_key(&trees, node, index)), &event);
         struct path longer = {path, event.value, index};
         print(value == SAPHYR_NO_NODE ? saphyr_item(&trees, node, index) : value, &longer);
     }

@@ -21,15 +21,9 @@ struct merge {
 static saphyr_parser trees; /* Zeroed, as what is static is. */
 static saphyr_event event;
 
-/* The node that an alias names, and any other node itself. */
-static saphyr_node followed(saphyr_node node) {
-    saphyr_describe(&trees, node, &event);
-    return event.kind == SAPHYR_ALIAS ? saphyr_anchored(&trees, event.anchor) : node;
-}
-
 /* Whether a key is `<<`, without quotes and without a tag. */
 static bool is_merge(saphyr_node key) {
-    saphyr_describe(&trees, followed(key), &event);
+    saphyr_describe(&trees, saphyr_follow(&trees, key), &event);
     return event.kind == SAPHYR_SCALAR && event.style == SAPHYR_PLAIN && !event.has_tag && event.value.len == 2 &&
            !memcmp(event.value.at, "<<", 2);
 }
@@ -38,11 +32,11 @@ static void merge_one(struct merge *merge, saphyr_node mapping);
 
 /* Merges what a key `<<` names: a mapping, or a sequence of mappings. */
 static void merge_named(struct merge *merge, saphyr_node named) {
-    named = followed(named);
+    named = saphyr_follow(&trees, named);
     saphyr_describe(&trees, named, &event);
     if (event.kind == SAPHYR_SEQUENCE_START) {
         for (size_t at = 0; at < saphyr_count(&trees, named); at++) {
-            merge_one(merge, followed(saphyr_item(&trees, named, at)));
+            merge_one(merge, saphyr_follow(&trees, saphyr_item(&trees, named, at)));
         }
     } else {
         merge_one(merge, named);
@@ -76,7 +70,7 @@ static void merge_one(struct merge *merge, saphyr_node mapping) {
 static saphyr_node merged_get(saphyr_node mapping, const char *key) {
     struct merge merge = {NULL, 0};
     saphyr_node found = SAPHYR_NO_NODE;
-    merge_one(&merge, followed(mapping));
+    merge_one(&merge, saphyr_follow(&trees, mapping));
     for (size_t at = 0; at < merge.count && found == SAPHYR_NO_NODE; at++) {
         found = saphyr_get(&trees, merge.mappings[at], key, strlen(key));
     }
@@ -137,7 +131,7 @@ int main(int count, char **keys) {
     for (int at = 1; at < count; at++) {
         node = merged_get(node, keys[at]);
     }
-    saphyr_describe(&trees, followed(node), &event);
+    saphyr_describe(&trees, saphyr_follow(&trees, node), &event);
     if (!failed && event.kind != SAPHYR_SCALAR) {
         fputs("no scalar is there\n", stderr);
         failed = 1;

@@ -1,7 +1,7 @@
 /*
  * Trees through the C face. Reads framed texts as `cases` does, loads each, and compares its trees with its events:
- * what is told of each node, its places, its parts by index and by key, and the nodes of anchors; loaded at once, and
- * document by document. Loads each short text, in both ways, with every request for memory refused in turn. Misuses the
+ * what is told of each node, its places, its parts by index and by key, the nodes of anchors, and where aliases lead;
+ * loaded at once, and document by document. Loads each short text, in both ways, with every request for memory refused in turn. Misuses the
  * calls. Prints what is wrong, and how many nodes there were, and how many requests were refused. It is linked with
  * --wrap for malloc, realloc and free.
  */
@@ -69,23 +69,53 @@ static bool is_same(const saphyr_event *a, const saphyr_event *b) {
            is_same_text(a->tag_handle, b->tag_handle) && is_same_text(a->tag_suffix, b->tag_suffix);
 }
 
-/* Looks up each key of a mapping. The first of equal keys counts. */
-static void check_keys(saphyr_parser *trees, saphyr_node node) {
+/* What is told of a key, or of the node that it names. */
+static saphyr_event told_of_key(saphyr_parser *trees, saphyr_node node, size_t at) {
+    saphyr_event event = {0};
+    saphyr_describe(trees, saphyr_key(trees, node, at), &event);
+    if (event.kind == SAPHYR_ALIAS) {
+        saphyr_describe(trees, saphyr_anchored(trees, event.anchor), &event);
+    }
+    return event;
+}
+
+/* Looks up each key of a mapping, that `of` is or names. The first of equal keys counts. */
+static void check_keys(saphyr_parser *trees, saphyr_node of, saphyr_node node) {
     for (size_t at = 0; at < saphyr_count(trees, node); at++) {
-        saphyr_event key = {0}, other = {0};
-        saphyr_describe(trees, saphyr_key(trees, node, at), &key);
+        saphyr_event key = told_of_key(trees, node, at), other;
         if (key.kind != SAPHYR_SCALAR) {
             continue;
         }
         size_t first = 0;
-        while (saphyr_describe(trees, saphyr_key(trees, node, first), &other) == SAPHYR_EVENT &&
-               !(other.kind == SAPHYR_SCALAR && is_same_text(key.value, other.value))) {
-            first++;
-        }
-        saphyr_node found = saphyr_get(trees, node, (const char *)key.value.at, key.value.len);
-        if (found != saphyr_value(trees, node, first)) {
+        do {
+            other = told_of_key(trees, node, first++);
+        } while (other.kind != SAPHYR_SCALAR || !is_same_text(key.value, other.value));
+        saphyr_node found = saphyr_get(trees, of, (const char *)key.value.at, key.value.len);
+        if (found != saphyr_value(trees, node, first - 1)) {
             fail("a key is looked up wrongly");
         }
+    }
+}
+
+/* An alias leads to a node with its anchor, which began before it, and any other node to itself. */
+static void check_followed(saphyr_parser *trees, saphyr_node node, const saphyr_event *event) {
+    saphyr_event named = {0};
+    saphyr_node found = saphyr_follow(trees, node);
+    if (event->kind != SAPHYR_ALIAS) {
+        if (found != node) {
+            fail("a node that is no alias leads to another");
+        }
+        return;
+    }
+    saphyr_describe(trees, found, &named);
+    if (named.anchor != event->anchor || named.kind == SAPHYR_ALIAS || named.kind == SAPHYR_NOTHING ||
+        named.start.index > event->start.index) {
+        fail("an alias leads to another node");
+    }
+    check_keys(trees, node, found);
+    if (saphyr_count(trees, node) != 0 || saphyr_item(trees, node, 0) != SAPHYR_NO_NODE ||
+        saphyr_key(trees, node, 0) != SAPHYR_NO_NODE || saphyr_value(trees, node, 0) != SAPHYR_NO_NODE) {
+        fail("a walk follows an alias");
     }
 }
 
@@ -101,6 +131,7 @@ static void check_node(saphyr_parser *trees, saphyr_node node, saphyr_parser *pa
     if (event.anchor && event.kind != SAPHYR_ALIAS && saphyr_anchored(trees, event.anchor) != node) {
         fail("an anchor leads to another node");
     }
+    check_followed(trees, node, &event);
     if (event.kind == SAPHYR_SEQUENCE_START || event.kind == SAPHYR_MAPPING_START) {
         bool pairs = event.kind == SAPHYR_MAPPING_START;
         size_t count = saphyr_count(trees, node);
@@ -115,7 +146,7 @@ static void check_node(saphyr_parser *trees, saphyr_node node, saphyr_parser *pa
             saphyr_value(trees, node, SIZE_MAX) != SAPHYR_NO_NODE) {
             fail("a part is found that isn't there");
         }
-        check_keys(trees, node);
+        check_keys(trees, node, node);
         saphyr_next(parser, &event);
         if (event.kind != (pairs ? SAPHYR_MAPPING_END : SAPHYR_SEQUENCE_END)) {
             fail("a collection has other parts");
@@ -264,6 +295,7 @@ static void expect_no_trees(saphyr_parser *trees, int32_t status) {
     expect(saphyr_value(trees, SAPHYR_NO_NODE, 0) == SAPHYR_NO_NODE, true, "a value of no node");
     expect(saphyr_get(trees, 0, "a", 1) == SAPHYR_NO_NODE, true, "a look-up in no node");
     expect(saphyr_get(trees, 0, NULL, 0) == SAPHYR_NO_NODE, true, "a look-up of nothing in no node");
+    expect(saphyr_follow(trees, 0) == SAPHYR_NO_NODE, true, "a node that is followed in no trees");
     expect(saphyr_anchored(trees, 1) == SAPHYR_NO_NODE, true, "the node of an anchor in no trees");
 }
 
@@ -325,11 +357,92 @@ static void misuse_each(void) {
     saphyr_free(&trees);
 }
 
+/* Looks up a path of keys, each by one letter. */
+static saphyr_node lead(saphyr_parser *trees, const char *keys) {
+    saphyr_node node = saphyr_root(trees, 0);
+    for (; *keys; keys++) {
+        node = saphyr_get(trees, node, keys, 1);
+    }
+    return node;
+}
+
+/* Look-ups by name follow aliases, walks do not: also inside the node that is named. */
+static void follow(void) {
+    saphyr_parser trees = {0};
+    saphyr_event event = {0};
+    expect(load("&a [*a]", 9, 9, &trees, &event), SAPHYR_OK, "a sequence in itself");
+    saphyr_node root = saphyr_root(&trees, 0), item = saphyr_item(&trees, root, 0);
+    expect(saphyr_follow(&trees, item) == root, true, "an alias in its node");
+    expect(saphyr_follow(&trees, root) == root, true, "a node with an anchor");
+    expect(saphyr_item(&trees, item, 0) == SAPHYR_NO_NODE, true, "an item of an alias");
+    expect(saphyr_expanded(&trees, 0) == UINT64_MAX, true, "nodes without end");
+    expect(saphyr_follow(&trees, SAPHYR_NO_NODE) == SAPHYR_NO_NODE, true, "the node of no node");
+    expect(load("a: &a {b: *a, &c d : 1, *c : 2}\nd: *a\n", 99, 9, &trees, &event), SAPHYR_OK, "a mapping in itself");
+    expect(lead(&trees, "dbbd") == lead(&trees, "ad"), true, "a key through aliases");
+    expect(saphyr_describe(&trees, lead(&trees, "dd"), &event), SAPHYR_EVENT, "the first of equal keys");
+    expect(event.value.len == 1 && *event.value.at == '1', true, "its value");
+    expect(load("a: &a x\n*a : 1\nb: *a\n", 9, 9, &trees, &event), SAPHYR_OK, "an alias as a key");
+    expect(lead(&trees, "x") == saphyr_value(&trees, saphyr_root(&trees, 0), 1), true, "its value by its node's text");
+    expect(lead(&trees, "bx") == SAPHYR_NO_NODE, true, "a key in an alias of a scalar");
+    saphyr_free(&trees);
+}
+
+/* Each anchor is of a mapping with aliases of the last two, so a walk through aliases would have no end in sight. */
+static void follow_bomb(void) {
+    char text[4096];
+    size_t len = (size_t)sprintf(text, "- &a0 {a: x}\n- &a1 {a: *a0}\n");
+    for (int at = 2; at < 60; at++) {
+        len += (size_t)sprintf(text + len, "- &a%d {a: *a%d, b: [*a%d, *a%d]}\n", at, at - 1, at - 2, at - 2);
+    }
+    saphyr_parser trees = {0};
+    saphyr_event event = {0};
+    expect(load(text, LARGE, 9, &trees, &event), SAPHYR_OK, "a bomb");
+    saphyr_node node = saphyr_item(&trees, saphyr_root(&trees, 0), 59);
+    for (int at = 0; at < 60; at++) {
+        node = saphyr_get(&trees, node, "a", 1);
+    }
+    saphyr_describe(&trees, node, &event);
+    expect(event.value.len == 1 && *event.value.at == 'x', true, "the innermost value of a bomb");
+    saphyr_free(&trees);
+}
+
+/* Follows many aliases, each of an anchor of its own. */
+static void follow_many(void) {
+    enum { MANY = 16000, LINE = 20 };
+    char *text = malloc((size_t)MANY * LINE * 2);
+    if (!text) {
+        fail("no memory");
+        return;
+    }
+    size_t len = 0;
+    for (int at = 0; at < MANY; at++) {
+        len += (size_t)sprintf(text + len, "- &a%d %d\n", at, at);
+    }
+    for (int at = 0; at < MANY; at++) {
+        len += (size_t)sprintf(text + len, "- *a%d\n", MANY - 1 - at);
+    }
+    saphyr_parser trees = {0};
+    saphyr_event event = {0};
+    expect(load(text, LARGE, 1, &trees, &event), SAPHYR_OK, "many aliases");
+    saphyr_node root = saphyr_root(&trees, 0);
+    int wrong = 0;
+    for (size_t at = 0; at < MANY; at++) {
+        saphyr_node item = saphyr_item(&trees, root, MANY + at);
+        wrong += saphyr_follow(&trees, item) != saphyr_item(&trees, root, MANY - 1 - at);
+    }
+    expect(wrong, 0, "aliases that lead elsewhere");
+    saphyr_free(&trees);
+    free(text);
+}
+
 int main(void) {
     int keeps_tags;
     size_t len;
     misuse();
     misuse_each();
+    follow();
+    follow_bomb();
+    follow_many();
     while (scanf("%d %zu", &keeps_tags, &len) == 2 && getchar() == '\n') {
         uint8_t *text = malloc(len + 1);
         if (text == NULL || fread(text, 1, len, stdin) != len) {

@@ -5,13 +5,14 @@ use Rattle.std.specs.declared.boxed.Box.{Box}
 use Rattle.std.specs.Global.{Global}
 use Rattle.saphyr_parser.specs.Cursor.{keeping_tags}
 use Rattle.saphyr_pieces.specs.Pieces.{at}
+use Rattle.yaml_tree.specs.Tables.{IsEmptyTable}
 use Rattle.saphyr_parser_c.specs.declared.coming.Coming.{Coming}
 use Rattle.saphyr_parser_c.specs.declared.inner.Inner.{Inner}
 use Rattle.saphyr_parser_c.specs.declared.source.Source.{Source}
 use Rattle.saphyr_parser_c.specs.declared.source.Source.TheVariants as source
 use Rattle.saphyr_parser_c.specs.Coming.{IsOfNothing, at_bytes}
 use Rattle.saphyr_parser_c.specs.Coming.{IsCopyOfPieces, KeepsRest}
-use Rattle.saphyr_parser_c.specs.Inner.{IsCopyOfParser, IsEmpty, IsFresh, IsOfPieces, IsShownCopy, IsSourceCopy, IsSourceOf, KeepsFrom}
+use Rattle.saphyr_parser_c.specs.Inner.{IsCopyOfParser, IsFresh, IsOfPieces, IsShownCopy, IsSourceCopy, IsSourceOf, KeepsFrom}
 
 pub made_of_pieces : (keep : Bool) (characters bytes : ℕ) (coming : Coming) (s : Source) (inner : Inner)
     → IsOfNothing keep characters bytes coming → IsSourceOf coming s → inner.source ≡ s → IsFresh inner
@@ -50,5 +51,5 @@ pub copied : (inner before after : Inner) (s : Source) → before.source ≡ s �
 copied inner before after s is (none, empty) same stays trees shown = (
   subst (IsSourceCopy inner.source) (sym (stays ∙ is)) same,
   shown (none, empty),
-  subst IsEmpty (sym trees) empty,
+  subst IsEmptyTable (sym trees) empty,
 )

@@ -15,7 +15,7 @@ use Rattle.saphyr_parser.specs.Calls.{EndsTheStream, GivesNext, Peeks, item_at}
 use Rattle.saphyr_parser.specs.Cursor.{EventCursor, HandsOutNext, at_start, event_of, keeping_tags, to_come}
 use Rattle.saphyr_parser.specs.Promises.{KeepsSpans, ReadsClosedYaml, ReadsJson, ReadsYaml, TakesEvents}
 use Rattle.saphyr_pieces.specs.Pieces.{wants_more}
-use Rattle.yaml_tree.specs.declared.table.NodeTable.{NodeTable}
+use Rattle.yaml_tree.specs.Tables.{IsEmptyTable}
 use Rattle.saphyr_parser_c.specs.declared.coming.Coming.{Coming}
 use Rattle.saphyr_parser_c.specs.declared.inner.Inner.{Inner}
 use Rattle.saphyr_parser_c.specs.declared.shown.CEvent.{CEvent}
@@ -46,13 +46,9 @@ pub record Promises (text : List ℕ) (parser : EventCursor) : Type 0 where
 abbrev pub KeepsNone : Inner → Type 0
 KeepsNone inner = (handed inner ≡ None) × (inner.shown ≡ false)
 
--- no trees are loaded
-abbrev pub IsEmpty : NodeTable → Type 0
-IsEmpty table = (table.entries.items ≡ []) × (table.roots.items ≡ [])
-
 -- nothing was handed out, shown or loaded here
 abbrev pub IsFresh : Inner → Type 0
-IsFresh inner = KeepsNone inner × IsEmpty inner.table
+IsFresh inner = KeepsNone inner × IsEmptyTable inner.table
 
 -- a parser at the start of a text in UTF-8, which keeps the prefixes of tags or not, and no event yet
 pub record IsOverText (text : List ℕ) (keep : Bool) (inner : Inner) : Type 0 where
@@ -202,7 +198,7 @@ IsShownCopy true inner copy = (copy.shown ≡ true) × IsSameItem (handed inner)
 -- a parser at the same place, which handed out nothing and has no trees
 abbrev pub IsCopyOfParser : Inner → Inner → Type 0
 IsCopyOfParser inner copy =
-    IsSourceCopy inner.source copy.source × IsShownCopy inner.shown inner copy × IsEmpty copy.table
+    IsSourceCopy inner.source copy.source × IsShownCopy inner.shown inner copy × IsEmptyTable copy.table
 
 abbrev pub KeepsFrom : Source → Bool → Source → Type 0
 KeepsFrom (source.Whole old) keep new = new ≡ source.Whole (keeping_tags keep old)

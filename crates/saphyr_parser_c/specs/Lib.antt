@@ -1,6 +1,7 @@
 pub mod Coming
 pub mod Encoding
 pub mod Exports
+pub mod Followed
 pub mod Held
 pub mod Inner
 pub mod Same

@@ -1,28 +1,20 @@
 -- What C's calls on trees do and tell.
-use Rattle.std.specs.Prelude.{◌≡◌, ◌⊎◌, ℕ, ℤ, ◌-◌, ◌^◌, List, [], ◌∷◌, ◌++◌, slice_get, Some, None, Result, Ok, Err, option_map, string_bytes, IsUtf8}
+use Rattle.std.specs.Prelude.{◌≡◌, ℕ, ℤ, ◌-◌, ◌^◌, List, slice_get, Some, None, Result, Ok, Err, option_map, IsUtf8}
 use Rattle.std.specs.Prelude as std
 use mathlib.Core.Option.{Option, none, some}
 use Rattle.saphyr_scalar.specs.declared.scalar.position.Marker.{Marker}
-use Rattle.saphyr_scalar.specs.declared.scalar.position.Span.{Span}
 use Rattle.saphyr_parser.specs.Types.Fault.{Fault}
 use Rattle.saphyr_parser.specs.Cursor.{EventCursor, to_come}
-use Rattle.saphyr_parser.specs.Events.{Happening, Alias, Scalar, SequenceStart, MappingStart}
-use Rattle.saphyr_parser.specs.Views.Events.{resolved_tag}
 use Rattle.yaml_tree.specs.declared.fault.TreeFault.{TreeFault}
 use Rattle.yaml_tree.specs.declared.fault.TreeFault.TheVariants as tree
-use Rattle.yaml_tree.specs.declared.node.Node.{Node, out-Node}
-use Rattle.yaml_tree.specs.declared.node.Node.TheOpen.{Node-F}
 use Rattle.yaml_tree.specs.declared.paths.Step.{Step}
 use Rattle.yaml_tree.specs.declared.tally.Limits.{Limits}
-use Rattle.yaml_tree.specs.declared.table.Content.{Content}
-use Rattle.yaml_tree.specs.declared.table.Content.TheVariants as content
-use Rattle.yaml_tree.specs.declared.table.Entry.{Entry}
 use Rattle.yaml_tree.specs.declared.table.NodeTable.{NodeTable}
 use Rattle.yaml_tree.specs.declared.table.Root.{Root}
 use Rattle.yaml_tree.specs.DocumentLoading.{LeavesBehindDocument}
-use Rattle.yaml_tree.specs.Following.{step_at_key}
 use Rattle.yaml_tree.specs.Leaving.{LeavesParser}
-use Rattle.yaml_tree.specs.Numbering.{Placed, FindsNumber, HasNoNode, HasNodes, HasNumber, IsNodeAt, LoadsNextTable, LoadsTable, count_of_parts}
+use Rattle.yaml_tree.specs.TableLoading.{LoadsNextTable, LoadsTable}
+use Rattle.yaml_tree.specs.Tables.{CountsParts, Event, FindsAnchor, HasNoNode, IsEmptyTable, IsMadeOf, IsTable, LeadsTo, OfNode}
 use Rattle.saphyr_parser_c.specs.declared.inner.Inner.{Inner}
 use Rattle.saphyr_parser_c.specs.declared.shown.CEvent.{CEvent}
 use Rattle.saphyr_parser_c.specs.declared.source.Source.{Source}
@@ -30,7 +22,7 @@ use Rattle.saphyr_parser_c.specs.declared.source.Source.TheVariants as source
 use Rattle.saphyr_parser_c.specs.declared.status.Status.{Status}
 use Rattle.saphyr_parser_c.specs.declared.status.Status.TheVariants as status
 use Rattle.saphyr_parser_c.specs.Exports.{WritesNone}
-use Rattle.saphyr_parser_c.specs.Inner.{IsEmpty}
+use Rattle.saphyr_parser_c.specs.Followed.{Follows, GetsFollowed}
 use Rattle.saphyr_parser_c.specs.Same.{IsSameFault}
 use Rattle.saphyr_parser_c.specs.Shown.{HasFields, WritesFault, no_fields, nowhere, fields_of_event}
 use Rattle.saphyr_parser_c.specs.Status.{code_of}
@@ -70,12 +62,12 @@ KeepsButItem before after =
 -- the documents are those of `load_table`, or there are none
 abbrev pub WritesLoaded : Result NodeTable TreeFault → Status → CEvent → Inner → Type 0
 WritesLoaded (Ok table) s c after = (s ≡ status.Done) × IsEmptyEvent c × (after.table ≡ table)
-WritesLoaded (Err f) s c after = WritesUnloaded f s c × IsEmpty after.table
+WritesLoaded (Err f) s c after = WritesUnloaded f s c × IsEmptyTable after.table
 
 -- Of a text in pieces no trees are loaded. What was shown stays to be handed out.
 abbrev pub DropsTrees : Inner → Status → CEvent → Inner → Type 0
 DropsTrees before s c after =
-    (s ≡ status.Late) × IsEmptyEvent c × IsEmpty after.table × (after ≡ record before { table = after.table })
+    (s ≡ status.Late) × IsEmptyEvent c × IsEmptyTable after.table × (after ≡ record before { table = after.table })
 
 abbrev pub LoadsFrom : Limits → Source → Inner → Status → CEvent → Inner → Type 0
 LoadsFrom limits (source.Whole old) before s c after =
@@ -94,8 +86,8 @@ LoadsTrees limits (some old) code c new =
 -- the table is that of the next document by `load_next_table`, or there is none
 abbrev pub WritesNext : Result (std.Option NodeTable) TreeFault → Status → CEvent → Inner → Type 0
 WritesNext (Ok (Some table)) s c after = (s ≡ status.Loaded) × IsEmptyEvent c × (after.table ≡ table)
-WritesNext (Ok None) s c after = (s ≡ status.End) × IsEmptyEvent c × IsEmpty after.table
-WritesNext (Err f) s c after = WritesUnloaded f s c × IsEmpty after.table
+WritesNext (Ok None) s c after = (s ≡ status.End) × IsEmptyEvent c × IsEmptyTable after.table
+WritesNext (Err f) s c after = WritesUnloaded f s c × IsEmptyTable after.table
 
 abbrev pub LoadsNextFrom : Limits → Source → Inner → Status → CEvent → Inner → Type 0
 LoadsNextFrom limits (source.Whole old) before s c after = (new : EventCursor)
@@ -123,8 +115,8 @@ abbrev pub number_in : std.Option Root → std.Option ℕ
 number_in root = option_map (λ (r : Root). r.number) root
 
 -- the root of the document with this index
-abbrev pub IsRootAt : ℕ → ℕ → NodeTable → Type 0
-IsRootAt index result table = IsNumberOf (number_in (slice_get table.roots.items index)) result
+abbrev pub TellsRoot : ℕ → ℕ → NodeTable → Type 0
+TellsRoot index result table = IsNumberOf (number_in (slice_get table.roots.items index)) result
 
 abbrev pub expanded_in : std.Option Root → ℕ
 expanded_in (Some root) = root.expanded
@@ -134,75 +126,56 @@ abbrev pub Expands : ℕ → ℕ → NodeTable → Type 0
 Expands index result table = result ≡ expanded_in (slice_get table.roots.items index)
 
 -- how many items or pairs the node has
-abbrev pub CountsParts : ℕ → ℕ → NodeTable → Type 0
-CountsParts number result table = ((all : List Placed) (p : Placed) → HasNodes all table → IsNodeAt all number p
-    → result ≡ count_of_parts p.0) × (HasNoNode number table → result ≡ 0)
+abbrev pub CountsAt : ℕ → ℕ → NodeTable → Type 0
+CountsAt number result table = OfNode table number (λ own. CountsParts own result) × (HasNoNode number table → result ≡ 0)
 
 -- It is the number of the part to which a step leads from the node with this number. If there is no such part, or no
 -- such node, it is none.
-abbrev pub FindsPart : (Node → std.Option Step) → ℕ → std.Option ℕ → NodeTable → Type 0
-FindsPart step number found table = ((all : List Placed) (whole : Placed) → HasNodes all table
-    → IsNodeAt all number whole → HasNumber all whole (step whole.0) found) × (HasNoNode number table → found ≡ None)
-
--- the part to which a step leads
 abbrev pub LeadsToPart : ℕ → Step → ℕ → NodeTable → Type 0
-LeadsToPart number step result table =
-    (found : std.Option ℕ) × IsNumberOf found result × FindsPart (λ node. Some step) number found table
+LeadsToPart number step result table = (found : std.Option ℕ) × IsNumberOf found result
+    × OfNode table number (λ own. LeadsTo own number step found) × (HasNoNode number table → found ≡ None)
 
 -- the value of a key, which is none if the bytes are no text
 abbrev pub Gets : ℕ → List ℕ → ℕ → NodeTable → Type 0
 Gets number key result table = (found : std.Option ℕ) × IsNumberOf found result
-    × (IsUtf8 key → FindsPart (step_at_key key) number found table) × ((IsUtf8 key → ⊥) → found ≡ None)
+    × (IsUtf8 key → GetsFollowed number key found table) × ((IsUtf8 key → ⊥) → found ≡ None)
+
+-- the node that an alias names, and any other node itself
+abbrev pub LeadsOn : ℕ → ℕ → NodeTable → Type 0
+LeadsOn number result table = (found : std.Option ℕ) × IsNumberOf found result × Follows number found table
 
 -- the node of an anchor
 abbrev pub Finds : ℕ → ℕ → NodeTable → Type 0
 Finds id result table = (found : std.Option ℕ) × IsNumberOf found result
-    × ((all : List Placed) → HasNodes all table → FindsNumber id all found)
+    × ((es : List Event) → IsTable es table → FindsAnchor es id found)
 
 -- ## What is told of a node
 
-abbrev pub happening_in : Content → Happening
-happening_in (content.Alias id) = Alias id
-happening_in (content.Scalar text style id tag) = Scalar (string_bytes text) style id (option_map resolved_tag tag)
-happening_in (content.Sequence id tag parts) = SequenceStart id (option_map resolved_tag tag)
-happening_in (content.Mapping id tag parts) = MappingStart id (option_map resolved_tag tag)
-
-abbrev pub WritesSome : std.Option Entry → Status → CEvent → Type 0
-WritesSome (Some entry) s c = (s ≡ status.Event)
-    × HasFields (fields_of_event (happening_in entry.content)) entry.start.start entry.end.end c
-WritesSome None s c = (s ≡ status.End) × IsEmptyEvent c
-
-abbrev pub WritesEntry : NodeTable → ℕ → Status → CEvent → Type 0
-WritesEntry table number s c = WritesSome (slice_get table.entries.items number) s c
-
--- the event with which a node begins
-abbrev pub first_in_layer : Node-F Node → Happening
-first_in_layer (Node-F.Alias id) = Alias id
-first_in_layer (Node-F.Scalar text style id tag) = Scalar (string_bytes text) style id (option_map resolved_tag tag)
-first_in_layer (Node-F.Seq id tag nodes) = SequenceStart id (option_map resolved_tag tag)
-first_in_layer (Node-F.Map id tag pairs) = MappingStart id (option_map resolved_tag tag)
-
-abbrev pub first_event : Node → Happening
-first_event node = first_in_layer (out-Node node)
-
--- the first of these spans, and the last
-abbrev pub AreEnds : List Span → Span → Span → Type 0
-AreEnds spans start end =
-    ((spans ≡ start ∷ []) × (end ≡ start)) ⊎ ((inner : List Span) × (spans ≡ start ∷ (inner ++ end ∷ [])))
+-- only the anchor and what is told of the tag are written
+abbrev pub IsSameButProperties : CEvent → CEvent → Type 0
+IsSameButProperties old new = new ≡ record old {
+  anchor = new.anchor;
+  has_tag = new.has_tag;
+  tag_handle = new.tag_handle;
+  tag_suffix = new.tag_suffix;
+}
 
 -- its first event, from the start of its first span to the end of its last
-pub record WritesPlaced (p : Placed) (s : Status) (c : CEvent) : Type 0 where
-  pub start : Span
-  pub end : Span
+pub record WritesPlaced (s : Status) (c : CEvent) (own : List Event) : Type 0 where
+  pub first : Event
+  pub parts : List (List Event)
+  pub last : Event
+  pub made : IsMadeOf own first parts last
   pub is_there : s ≡ status.Event
-  pub ends : AreEnds p.1 start end
-  pub fields : HasFields (fields_of_event (first_event p.0)) start.start end.end c
+  pub fields : HasFields (fields_of_event first.0) first.1.start last.1.end c
+
+abbrev pub WritesNothing : Status → CEvent → Type 0
+WritesNothing s c = (s ≡ status.End) × IsEmptyEvent c
 
 abbrev pub WritesNode : ℕ → Status → CEvent → NodeTable → Type 0
-WritesNode number s c table = (all : List Placed) (p : Placed) → HasNodes all table → IsNodeAt all number p
-    → WritesPlaced p s c
+WritesNode number s c table = OfNode table number (WritesPlaced s c) × (HasNoNode number table → WritesNothing s c)
 
 abbrev pub WritesAt : ℕ → Option Inner → ℤ → CEvent → Option Inner → Type 0
 WritesAt number none code c new = WritesNone code c new
-WritesAt number (some old) code c new = (s : Status) × (new ≡ some old) × (code ≡ code_of s)
-    × WritesNode number s c old.table × WritesEntry old.table number s c
+WritesAt number (some old) code c new =
+    (s : Status) × (new ≡ some old) × (code ≡ code_of s) × WritesNode number s c old.table

@@ -10,6 +10,7 @@ ghost use Rattle.saphyr_parser_c.specs.Exports as spec;
 mod answer;
 mod coming;
 mod encoding;
+mod following;
 mod handle;
 mod inner;
 mod nodes;

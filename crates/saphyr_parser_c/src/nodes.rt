@@ -1,7 +1,9 @@
 //! Nodes as C sees them: a number, and what is told of it.
 
-ghost use Rattle.std.specs.Prelude.{◌≡◌};
-ghost use Rattle.saphyr_parser_c.specs.Shown.{HasFields, fields_of_event};
+ghost use Rattle.std.specs.Prelude.{◌≡◌, ℕ, None};
+ghost use Rattle.saphyr_parser.specs.Events.{Happening as Told};
+ghost use Rattle.yaml_tree.specs.Tables.{HasProperties, MaybeTag, TellsFirst, marker_of, store_of};
+ghost use Rattle.saphyr_parser_c.specs.Shown.{HasFields, HasTag, fields_of_event};
 ghost use Rattle.saphyr_parser_c.specs.Trees as spec;
 
 use crate::answer::write_fault;
@@ -9,7 +11,7 @@ use crate::inner::Inner;
 use crate::shown::{CEvent, bare, blank, style_code};
 use crate::source::Source;
 use crate::status::Status;
-use crate::texts::{lend_tag, lent};
+use crate::texts::lent_bytes;
 use saphyr_parser::{Marker, Progress};
 use std::alloc::Global;
 use yaml_tree::{Content, Entry, Limits, NodeTable, TreeFault, load_next_table, load_table};
@@ -25,34 +27,47 @@ pub fn number_of(node: Option<usize>) -> usize
 }
 
 /// Writes what a node is.
-pub fn write_entry(entry: &Entry, out: &mut CEvent)
-    ensures { HasFields (fields_of_event (spec.happening_in entry.now.content))
-        entry.now.start.start entry.now.end.end out.new }
+pub fn write_entry(table: &NodeTable, entry: Entry, out: &mut CEvent)
+    ensures { (h : Told) → TellsFirst (store_of table.now) entry.content h
+        → HasFields (fields_of_event h) (marker_of entry.start) (marker_of entry.end) out.new }
 {
-    let start = entry.start.start;
-    let end = entry.end.end;
-    match &entry.content {
+    let start = entry.start.marker();
+    let end = entry.end.marker();
+    match entry.content {
         Content::Alias(id) => {
             *out = bare(5, start, end);
-            out.anchor = *id;
+            out.anchor = id as usize;
         }
-        Content::Scalar(text, style, id, tag) => {
+        Content::Scalar(style, text, properties) => {
             *out = bare(6, start, end);
-            out.style = style_code(*style);
-            out.anchor = *id;
-            out.value = lent(text.as_str());
-            lend_tag(tag, out);
+            out.style = style_code(style);
+            out.value = lent_bytes(table.text(text));
+            write_properties(table, properties, out);
         }
-        Content::Sequence(id, tag, _) => {
+        Content::Sequence(_, properties) => {
             *out = bare(7, start, end);
-            out.anchor = *id;
-            lend_tag(tag, out);
+            write_properties(table, properties, out);
         }
-        Content::Mapping(id, tag, _) => {
+        Content::Mapping(_, properties) => {
             *out = bare(9, start, end);
-            out.anchor = *id;
-            lend_tag(tag, out);
+            write_properties(table, properties, out);
         }
+    }
+}
+
+// Writes the anchor and the tag of a node, where `out` has none.
+fn write_properties(table: &NodeTable, properties: u32, out: &mut CEvent)
+    ensures same { spec.IsSameButProperties out.old out.new }
+    ensures anchor { (id : ℕ) (tag : MaybeTag) → HasProperties table.now properties id tag
+        → out.new.anchor ≡ id }
+    ensures tag { (id : ℕ) (tag : MaybeTag) → HasProperties table.now properties id tag
+        → HasTag None out.old → HasTag tag out.new }
+{
+    out.anchor = table.anchor(properties);
+    if let Some(tag) = table.tag(properties) {
+        out.has_tag = 1;
+        out.tag_handle = lent_bytes(table.text(tag.handle));
+        out.tag_suffix = lent_bytes(table.text(tag.suffix));
     }
 }
 
@@ -133,11 +148,11 @@ impl Inner {
 
     /// Writes what a node is, if there is one with this number.
     pub fn write_node(&self, number: usize, out: &mut CEvent) -> Status
-        ensures { spec.WritesEntry self.now.table number result out.new }
+        ensures { spec.WritesNode number result out.new self.now.table }
     {
         match self.table.entry(number) {
             Some(entry) => {
-                write_entry(entry, out);
+                write_entry(&self.table, *entry, out);
                 Status::Event
             }
             None => {

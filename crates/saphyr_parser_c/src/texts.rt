@@ -24,8 +24,15 @@ fn address(bytes: &[u8]) -> *const u8
 pub fn lent(text: &str) -> CText
     ensures { spec.HasText (Some text.now) result }
 {
+    lent_bytes(text.as_bytes())
+}
+
+/// The same of its bytes.
+pub fn lent_bytes(text: &[u8]) -> CText
+    ensures { spec.HasText (Some text.now) result }
+{
     CText {
-        at: address(text.as_bytes()),
+        at: address(text),
         len: text.len(),
     }
 }

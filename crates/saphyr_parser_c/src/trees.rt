@@ -5,6 +5,7 @@ ghost use Rattle.yaml_tree.specs.declared.paths.Step.TheVariants as steps;
 ghost use Rattle.yaml_tree.specs.declared.tally.Limits.{Limits as Most};
 ghost use Rattle.saphyr_parser_c.specs.Trees as spec;
 
+use crate::following::{follow, get_by_bytes};
 use crate::handle::Handle;
 use crate::nodes::{number_of, write_entry};
 use crate::shown::{CEvent, blank};
@@ -69,7 +70,7 @@ pub extern "C" fn saphyr_load_next(
 /// The root of a document, by its index.
 #[unsafe(no_mangle)]
 pub extern "C" fn saphyr_root(alloc: Global, parser: &mut Handle, index: usize) -> usize
-    ensures { spec.Asks (spec.IsRootAt index result) (spec.IsNowhere result)
+    ensures { spec.Asks (spec.TellsRoot index result) (spec.IsNowhere result)
         parser.old.value parser.new.value }
 {
     let Some(inner) = take(alloc, parser) else {
@@ -122,7 +123,7 @@ pub extern "C" fn saphyr_describe(
 /// How many items a sequence has, or how many pairs a mapping.
 #[unsafe(no_mangle)]
 pub extern "C" fn saphyr_count(alloc: Global, parser: &mut Handle, node: usize) -> usize
-    ensures { spec.Asks (spec.CountsParts node result) (result ≡ 0) parser.old.value
+    ensures { spec.Asks (spec.CountsAt node result) (result ≡ 0) parser.old.value
         parser.new.value }
 {
     let Some(inner) = take(alloc, parser) else {
@@ -183,7 +184,7 @@ fn part(alloc: Global, parser: &mut Handle, node: usize, step: Step) -> usize
     number_of(part)
 }
 
-/// The value in a mapping whose key is a scalar with this text.
+/// The value in a mapping whose key is a scalar with this text. An alias stands for the node that it names.
 #[unsafe(no_mangle)]
 pub extern "C" fn saphyr_get(alloc: Global, parser: &mut Handle, node: usize, key: &[u8]) -> usize
     ensures { spec.Asks (spec.Gets node key.now result) (spec.IsNowhere result)
@@ -192,12 +193,23 @@ pub extern "C" fn saphyr_get(alloc: Global, parser: &mut Handle, node: usize, ke
     let Some(inner) = take(alloc, parser) else {
         return usize::MAX;
     };
-    let value = match str::from_utf8(key) {
-        Ok(key) => inner.table.get(node, key),
-        Err(_) => None,
-    };
+    let value = get_by_bytes(&inner.table, node, key);
     put_back(parser, inner);
     number_of(value)
+}
+
+/// The node that an alias names, and any other node itself.
+#[unsafe(no_mangle)]
+pub extern "C" fn saphyr_follow(alloc: Global, parser: &mut Handle, node: usize) -> usize
+    ensures { spec.Asks (spec.LeadsOn node result) (spec.IsNowhere result)
+        parser.old.value parser.new.value }
+{
+    let Some(inner) = take(alloc, parser) else {
+        return usize::MAX;
+    };
+    let followed = follow(&inner.table, node);
+    put_back(parser, inner);
+    number_of(followed)
 }
 
 /// The node with this anchor.

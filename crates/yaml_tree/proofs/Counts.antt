@@ -68,6 +68,13 @@ counts_node = of_node Grows (record {
   mapping = λ id tag inner e h. record { by = λ c. around inner e MappingEnd id c h (λ d. refl) };
 })
 
+-- from nothing the count is that of the tree
+pub counts_root : (root : Node) → (counted_all (node_events root) (record { nodes = 0; sizes = no_sizes; levels = [] })).nodes
+    ≡ (expanded root no_sizes).nodes
+counts_root root =
+    let none : Count = record { nodes = 0; sizes = no_sizes; levels = [] } in
+    let all = ap (λ (c : Count). c.nodes) ((counts_node root).by none) in omega (arith, all)
+
 pub counts_none : (root : Node) (to_come : List Happening) (counter : Counter)
     → HoldsCount counter (record { nodes = 0; sizes = no_sizes; levels = [] }) → to_come ≡ node_events root
     → IsCounting root to_come counter

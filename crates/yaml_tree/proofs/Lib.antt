@@ -21,9 +21,11 @@ pub mod AnchorSearch
 pub mod LastItems
 pub mod Counts
 pub mod Leads
-pub mod PartNumbers
-pub mod Tables
-pub mod NumberedEntries
-pub mod NumberedParts
-pub mod Numbers
-pub mod Roots
+pub mod Stores
+pub mod Grown
+pub mod Growths
+pub mod Expands
+pub mod Entries
+pub mod TablesRead
+pub mod Places
+pub mod LookUps

@@ -46,15 +46,15 @@ pub counted_more : (events : List Happening) (h : Happening) (t : Tally) (d : Co
     → d ≡ counts_behind_all (events ++ h ∷ []) no_nodes
 counted_more events h t d e f = f ∙ ap (counts_behind h) e ∙ sym (counts_behind_all-append events (h ∷ []) no_nodes)
 
-fits_more : (l m : Limits) (a b : Counts) (h : Happening) → l ≡ m → a ≡ b → Fits l (counts_behind h a)
+pub fits_more : (l m : Limits) (a b : Counts) (h : Happening) → l ≡ m → a ≡ b → Fits l (counts_behind h a)
     → Fits m (counts_behind h b)
 fits_more l m a b h e f x = subst (λ (k : Limits). Fits k (counts_behind h b)) e
     (subst (λ (d : Counts). Fits l (counts_behind h d)) f x)
 
-fits_along : (l m : Limits) (a b : Counts) → l ≡ m → a ≡ b → Fits l a → Fits m b
+pub fits_along : (l m : Limits) (a b : Counts) → l ≡ m → a ≡ b → Fits l a → Fits m b
 fits_along l m a b e f x = subst (λ (k : Limits). Fits k b) e (subst (λ (d : Counts). Fits l d) f x)
 
-exceeds_more : (f : TreeFault) (l m : Limits) (a b : Counts) (place : Marker) → l ≡ m → a ≡ b → Exceeds f l a place
+pub exceeds_more : (f : TreeFault) (l m : Limits) (a b : Counts) (place : Marker) → l ≡ m → a ≡ b → Exceeds f l a place
     → Exceeds f m b place
 exceeds_more f l m a b place e g x = subst (λ (k : Limits). Exceeds f k b place) e
     (subst (λ (d : Counts). Exceeds f l d place) g x)

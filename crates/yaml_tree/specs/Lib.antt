@@ -18,5 +18,7 @@ pub mod Expanding
 pub mod CounterSeen
 pub mod Following
 pub mod NodeLayer
-pub mod Numbering
-pub mod NumberingSeen
+pub mod Tables
+pub mod TableLoading
+pub mod GrowerSeen
+pub mod TableSeen

@@ -14,9 +14,9 @@ use std::mem;
 
 /// The nodes so far, at most `u64::MAX`.
 #[derive(Drop)]
-struct Counter {
+pub(crate) struct Counter {
     /// Those of the innermost collection that is open, including itself.
-    nodes: u64,
+    pub(crate) nodes: u64,
     /// How many the node of each anchor has, once it has ended.
     sizes: BTreeMap<usize, u64>,
     /// For each collection that is open, the id of its anchor and the nodes so far of what is around it.
@@ -41,7 +41,7 @@ impl Document {
 }
 
 impl Counter {
-    fn new(alloc: Global) -> Counter
+    pub(crate) fn new(alloc: Global) -> Counter
         ensures { HoldsCount result (record { nodes = 0; sizes = no_sizes; levels = [] }) }
     {
         Counter {
@@ -79,7 +79,7 @@ impl Counter {
     }
 
     // The innermost collection ends.
-    fn leave(&mut self) -> Result<(), AllocError>
+    pub(crate) fn leave(&mut self) -> Result<(), AllocError>
         ensures { OnOk result ((c : Count) → HoldsCount self.old c → HoldsCount self.new (left c)) }
     {
         match self.levels.pop() {
@@ -91,7 +91,7 @@ impl Counter {
         }
     }
 
-    fn begin(&mut self, id: usize) -> Result<(), AllocError>
+    pub(crate) fn begin(&mut self, id: usize) -> Result<(), AllocError>
         ensures { OnOk result ((c : Count) → HoldsCount self.old c
             → HoldsCount self.new (begun id c)) }
     {
@@ -101,7 +101,7 @@ impl Counter {
     }
 
     // A node with this anchor ended, which has this many nodes.
-    fn add(&mut self, id: usize, nodes: u64) -> Result<(), AllocError>
+    pub(crate) fn add(&mut self, id: usize, nodes: u64) -> Result<(), AllocError>
         ensures { OnOk result ((c : Count) (n : ℕ) → nodes ≡ min most n → HoldsCount self.old c
             → HoldsCount self.new (with_nodes id n c)) }
     {
@@ -112,7 +112,7 @@ impl Counter {
         Ok(())
     }
 
-    fn size_of(&self, id: usize) -> u64
+    pub(crate) fn size_of(&self, id: usize) -> u64
         ensures { result ≡ size_in self.now.sizes id }
     {
         match self.sizes.get(&id) {

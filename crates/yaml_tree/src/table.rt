@@ -1,31 +1,61 @@
-//! Trees as one list of nodes that are known by their numbers, for callers that can't hold references into a tree.
-ghost use Rattle.std.specs.Prelude.{◌≡◌, ◌↔◌, ◌+◌, ◌*◌, ℕ, IsTrue, List, None as none, Some, option_copied, option_map, slice_get};
-ghost use Rattle.yaml_tree.specs.declared.node.Node.{Node as Tree};
-ghost use Rattle.yaml_tree.specs.Accessing.{anchor_of_node, first_pair, is_this_text, text_of_node};
-ghost use Rattle.yaml_tree.specs.Following.{step_at_key};
-ghost use Rattle.yaml_tree.specs.Numbering.{FindsNumber, HasNoNode, HasNodes, HasNumber, HasParts, IsNodeAt};
-ghost use Rattle.yaml_tree.specs.Numbering.{Placed, both_parts, count_of_parts};
+//! Trees as one list of nodes that are known by their numbers, for callers that can't hold references into a tree
+//! (YAML 1.2.2, 3.2.1).
+ghost use Rattle.std.specs.Prelude.{◌≡◌, ◌<◌, ◌+◌, ◌*◌, ℕ, suc, true, false, IfOk, List, None as none, option_copied, slice_get};
+ghost use Rattle.saphyr_parser.specs.Events.{Happening as Told};
+ghost use Rattle.yaml_tree.specs.Tables as spec;
 
-use crate::accessors::anchor_of_id;
-use crate::parts::Parts;
 use crate::paths::Step;
-use saphyr_parser::{ScalarStyle, Span, Tag};
+use saphyr_parser::{Marker, ScalarStyle};
+use std::alloc::{AllocError, Global};
 
-/// What a node is, with its parts by their numbers. Those of a mapping are keys and values in turn.
-#[derive(Drop)]
-pub enum Content {
-    Alias(usize),
-    Scalar(String, ScalarStyle, usize, Option<Tag>),
-    Sequence(usize, Option<Tag>, Parts),
-    Mapping(usize, Option<Tag>, Parts),
+/// A place of a text, as a `Marker` is, in half the memory.
+#[derive(Clone, Copy)]
+pub struct Mark {
+    index: u32,
+    line: u32,
+    col: u32,
 }
 
-/// A node, and the spans of its first and its last event. Only a collection has two.
-#[derive(Drop)]
+/// Numbers in a row, or bytes of a text: where they begin in the table's, and how many there are.
+#[derive(Clone, Copy)]
+pub struct Row {
+    pub first: u32,
+    pub count: u32,
+}
+
+/// What a node is. The last number of a scalar or a collection is that of its properties, or 0 if it has none.
+#[derive(Clone, Copy)]
+pub enum Content {
+    /// The id of the anchor that an alias names.
+    Alias(u32),
+    /// How a scalar is written, and its text.
+    Scalar(ScalarStyle, Row, u32),
+    /// The numbers of a sequence's nodes.
+    Sequence(Row, u32),
+    /// The numbers of a mapping's nodes, keys and values in turn.
+    Mapping(Row, u32),
+}
+
+/// A node, where it starts and where it ends.
+#[derive(Clone, Copy)]
 pub struct Entry {
     pub content: Content,
-    pub start: Span,
-    pub end: Span,
+    pub start: Mark,
+    pub end: Mark,
+}
+
+/// The texts of a tag.
+#[derive(Clone, Copy)]
+pub struct TagRows {
+    pub handle: Row,
+    pub suffix: Row,
+}
+
+/// The id of a node's anchor, or 0, and its tag.
+#[derive(Clone, Copy)]
+pub(crate) struct Properties {
+    pub(crate) anchor: u32,
+    pub(crate) tag: Option<TagRows>,
 }
 
 /// The root of a document: its number, and how many nodes the document has once its aliases are expanded.
@@ -35,14 +65,70 @@ pub struct Root {
     pub expanded: u64,
 }
 
-/// The nodes of documents, each known by its number. A number that no node has leads nowhere.
+/// The nodes of documents in the order in which they begin, each known by its number. A number that no node has leads
+/// nowhere.
 #[derive(Drop)]
 pub struct NodeTable {
     pub(crate) entries: Vec<Entry>,
+    /// The numbers of each collection's parts in a row.
+    pub(crate) parts: Vec<u32>,
+    /// The texts of scalars and of tags, in UTF-8.
+    pub(crate) texts: Vec<u8>,
+    /// Those of the nodes that have any.
+    pub(crate) properties: Vec<Properties>,
     pub(crate) roots: Vec<Root>,
+    /// The numbers of nodes with anchors, where the ids of these are in a row, and the first id.
+    pub(crate) anchored: Vec<u32>,
+    pub(crate) first_anchor: usize,
+}
+
+impl Mark {
+    // The place, if it fits.
+    pub(crate) fn of(marker: Marker) -> Result<Mark, AllocError>
+        ensures { IfOk result (λ mark. spec.marker_of mark ≡ marker) }
+    {
+        Ok(Mark {
+            index: narrow(marker.index)?,
+            line: narrow(marker.line)?,
+            col: narrow(marker.col)?,
+        })
+    }
+
+    /// The same place.
+    #[must_use]
+    pub fn marker(self) -> Marker
+        ensures { result ≡ spec.marker_of self }
+    {
+        Marker::new(self.index as usize, self.line as usize, self.col as usize)
+    }
+}
+
+// The number in half the memory, if it fits. There is no table of a text with larger ones.
+pub(crate) fn narrow(number: usize) -> Result<u32, AllocError>
+    ensures { IfOk result (λ narrowed. narrowed ≡ number) }
+{
+    match u32::try_from(number) {
+        Ok(narrowed) => Ok(narrowed),
+        Err(_) => Err(AllocError),
+    }
 }
 
 impl NodeTable {
+    /// A table without nodes.
+    pub fn new(alloc: Global) -> NodeTable
+        ensures { spec.IsEmptyTable result }
+    {
+        NodeTable {
+            entries: Vec::new(alloc),
+            parts: Vec::new(alloc),
+            texts: Vec::new(alloc),
+            properties: Vec::new(alloc),
+            roots: Vec::new(alloc),
+            anchored: Vec::new(alloc),
+            first_anchor: 0,
+        }
+    }
+
     /// The node with this number.
     #[must_use]
     pub fn entry(&self, number: usize) -> Option<&Entry>
@@ -59,15 +145,61 @@ impl NodeTable {
         Some(*self.roots.get(index)?)
     }
 
+    /// The bytes of a text.
+    #[must_use]
+    pub fn text(&self, row: Row) -> &[u8]
+        ensures { (text : List ℕ) → spec.StandIn text row self.now.texts.items
+            → result.now ≡ text }
+    {
+        let first = row.first as usize;
+        match self.texts.get(first..first + row.count as usize) {
+            Some(text) => text,
+            None => &[],
+        }
+    }
+
+    /// The id of the anchor that a node with these properties has, or 0.
+    #[must_use]
+    pub fn anchor(&self, properties: u32) -> usize
+        ensures { (id : ℕ) (tag : spec.MaybeTag) → spec.HasProperties self.now properties id tag
+            → result ≡ id }
+    {
+        match self.find_properties(properties) {
+            Some(properties) => properties.anchor as usize,
+            None => 0,
+        }
+    }
+
+    /// The tag that a node with these properties has.
+    #[must_use]
+    pub fn tag(&self, properties: u32) -> Option<TagRows>
+        ensures { (id : ℕ) (tag : spec.MaybeTag) → spec.HasProperties self.now properties id tag
+            → spec.IsTag self.now.texts.items result tag }
+    {
+        self.find_properties(properties)?.tag
+    }
+
+    fn find_properties(&self, number: u32) -> Option<Properties>
+        ensures none { number ≡ 0 → result ≡ none }
+        ensures some { (n : ℕ) → number ≡ suc n
+            → result ≡ slice_get self.now.properties.items n }
+    {
+        let before = (number as usize).checked_sub(1)?;
+        Some(*self.properties.get(before)?)
+    }
+
     /// How many items a sequence has, or how many pairs a mapping.
     #[must_use]
     pub fn count(&self, number: usize) -> usize
-        ensures counts { (all : List Placed) (p : Placed) → HasNodes all self.now
-            → IsNodeAt all number p → result ≡ count_of_parts p.0 }
-        ensures no_node { HasNoNode number self.now → result ≡ 0 }
+        ensures counts { spec.OfNode self.now number (λ own. spec.CountsParts own result) }
+        ensures no_node { spec.HasNoNode number self.now → result ≡ 0 }
     {
         match self.entry(number) {
-            Some(entry) => entry.content.count(),
+            Some(entry) => match entry.content {
+                Content::Sequence(row, _) => row.count as usize,
+                Content::Mapping(row, _) => row.count as usize / 2,
+                _ => 0,
+            },
             None => 0,
         }
     }
@@ -75,148 +207,98 @@ impl NodeTable {
     /// The number of a part.
     #[must_use]
     pub fn part(&self, number: usize, step: Step) -> Option<usize>
-        ensures leads { (all : List Placed) (whole : Placed) → HasNodes all self.now
-            → IsNodeAt all number whole → HasNumber all whole (Some step) result }
-        ensures no_node { HasNoNode number self.now → result ≡ none }
+        ensures leads { spec.OfNode self.now number (λ own. spec.LeadsTo own number step result) }
+        ensures no_node { spec.HasNoNode number self.now → result ≡ none }
     {
-        self.entry(number)?.content.part(step)
-    }
-
-    /// The number of the value in a mapping whose key is a scalar with this text. If there are several, the first.
-    #[must_use]
-    pub fn get(&self, number: usize, key: &str) -> Option<usize>
-        ensures finds { (all : List Placed) (whole : Placed) → HasNodes all self.now
-            → IsNodeAt all number whole
-            → HasNumber all whole (step_at_key key.now whole.0) result }
-        ensures no_node { HasNoNode number self.now → result ≡ none }
-    {
-        let parts = self.entry(number)?.content.pairs()?;
-        self.value_of(parts, key)
-    }
-
-    // The value of the first of these pairs whose key is a scalar with this text.
-    fn value_of(&self, parts: Parts, key: &str) -> Option<usize>
-        ensures { (all : List Placed) (pairs : List (Tree × Tree)) → HasNodes all self.now
-            → HasParts parts (both_parts pairs) all → result
-            ≡ option_map (λ (n : ℕ). parts.first + (2 * n + 1)) (first_pair key.now pairs) }
-    {
-        for index in 0..parts.count / 2 {
-            let number = parts.first + 2 * index;
-            if self.has_text(number, key) {
-                return Some(number + 1);
-            }
+        match self.entry(number)?.content {
+            Content::Sequence(row, _) => match step {
+                Step::Index(index) => self.in_row(row, index),
+                _ => None,
+            },
+            Content::Mapping(row, _) => match step {
+                Step::Key(index) => self.in_pair(row, index, 0),
+                Step::Value(index) => self.in_pair(row, index, 1),
+                Step::Index(_) => None,
+            },
+            _ => None,
         }
-        None
     }
 
-    // Whether the node is a scalar with this text.
-    fn has_text(&self, number: usize, text: &str) -> bool
-        ensures { (all : List Placed) (p : Placed) → HasNodes all self.now
-            → IsNodeAt all number p → result ≡ is_this_text text.now (text_of_node p.0) }
+    // The number behind so many others of a row.
+    fn in_row(&self, row: Row, before: usize) -> Option<usize>
+        ensures { (numbers : List ℕ) → spec.StandIn numbers row self.now.parts.items
+            → result ≡ slice_get numbers before }
     {
-        match self.entry(number) {
-            Some(entry) => entry.content.has_text(text),
-            None => false,
+        if before < row.count as usize {
+            Some(*self.parts.get(row.first as usize + before)? as usize)
+        } else {
+            None
+        }
+    }
+
+    // The number of the key of the pair with this index, or one more on, of its value.
+    fn in_pair(&self, row: Row, index: usize, more: usize) -> Option<usize>
+        requires { more < 2 }
+        ensures { (numbers : List ℕ) → spec.StandIn numbers row self.now.parts.items
+            → result ≡ slice_get numbers (2 * index + more) }
+    {
+        if index < row.count as usize {
+            self.in_row(row, 2 * index + more)
+        } else {
+            None
         }
     }
 
     /// The number of a node with this anchor. In documents of one text there is at most one.
     #[must_use]
     pub fn with_anchor(&self, id: usize) -> Option<usize>
-        ensures { (all : List Placed) → HasNodes all self.now → FindsNumber id all result }
+        ensures { (es : List spec.Event) → spec.IsTable es self.now → spec.FindsAnchor es id result }
     {
+        if id == 0 {
+            return None;
+        }
+        if let Some(number) = self.expected_at(id) {
+            if self.has_anchor(number, id) {
+                return Some(number);
+            }
+        }
         for number in 0..self.entries.len() {
-            if self.entries[number].content.has_anchor(id) {
+            if self.has_anchor(number, id) {
                 return Some(number);
             }
         }
         None
     }
-}
 
-impl Content {
-    ghost use Rattle.yaml_tree.specs.Numbering.{Leads, anchor_in, count_in, pairs_in, text_of_scalar};
-
-    /// The text of a scalar.
-    #[must_use]
-    pub fn text(&self) -> Option<&str>
-        ensures { option_copied result ≡ text_of_scalar self.now }
-    {
-        match self {
-            Content::Scalar(text, _, _, _) => Some(text.as_str()),
-            _ => None,
-        }
+    // The number of the node with this anchor, where the ids of the table's anchors are numbers in a row.
+    fn expected_at(&self, id: usize) -> Option<usize> {
+        let index = id.checked_sub(self.first_anchor)?;
+        Some(*self.anchored.get(index)? as usize)
     }
 
-    /// The id of a node's anchor.
-    #[must_use]
-    pub fn anchor(&self) -> Option<usize>
-        ensures { result ≡ anchor_in self.now }
+    // Whether there is a node with this number, and it has this anchor.
+    fn has_anchor(&self, number: usize, id: usize) -> bool
+        ensures here { result ≡ true → (es : List spec.Event) → spec.IsTable es self.now
+            → (own : List spec.Event) × spec.IsNodeAt es number own × (spec.anchor_in own ≡ id) }
+        ensures not_here { result ≡ false → (es own : List spec.Event) → spec.IsTable es self.now
+            → spec.IsNodeAt es number own → spec.anchor_in own ≡ id → id ≡ 0 }
     {
-        match self {
-            Content::Alias(_) => None,
-            Content::Scalar(_, _, id, _) => anchor_of_id(*id),
-            Content::Sequence(id, _, _) => anchor_of_id(*id),
-            Content::Mapping(id, _, _) => anchor_of_id(*id),
-        }
-    }
-
-    // How many items a sequence has, or how many pairs a mapping.
-    fn count(&self) -> usize
-        ensures { result ≡ count_in self.now }
-    {
-        match self {
-            Content::Sequence(_, _, parts) => parts.count,
-            Content::Mapping(_, _, parts) => parts.count / 2,
-            _ => 0,
-        }
-    }
-
-    // The keys and values of a mapping.
-    fn pairs(&self) -> Option<Parts>
-        ensures { result ≡ pairs_in self.now }
-    {
-        match self {
-            Content::Mapping(_, _, parts) => Some(*parts),
-            _ => None,
-        }
-    }
-
-    // The number of the part to which a step leads.
-    fn part(&self, step: Step) -> Option<usize>
-        ensures { Leads self.now step result }
-    {
-        match self {
-            Content::Alias(_) => None,
-            Content::Scalar(_, _, _, _) => None,
-            Content::Sequence(_, _, parts) => match step {
-                Step::Index(index) => parts.item(index),
-                Step::Key(_) => None,
-                Step::Value(_) => None,
-            },
-            Content::Mapping(_, _, parts) => match step {
-                Step::Index(_) => None,
-                Step::Key(index) => parts.key(index),
-                Step::Value(index) => parts.value(index),
-            },
-        }
-    }
-
-    fn has_text(&self, text: &str) -> bool
-        ensures { result ≡ is_this_text text.now (text_of_scalar self.now) }
-    {
-        match self.text() {
-            Some(own) => own == text,
+        match self.entry(number) {
+            Some(entry) => self.tells_anchor(entry.content, id),
             None => false,
         }
     }
 
-    fn has_anchor(&self, id: usize) -> bool
-        ensures { IsTrue result ↔ anchor_in self.now ≡ Some id }
+    // Whether the node of a content has this anchor.
+    fn tells_anchor(&self, content: Content, id: usize) -> bool
+        ensures { (h : Told) → spec.TellsFirst (spec.store_of self.now) content h
+            → spec.IsAnchor id (spec.anchor_of h) result }
     {
-        match self.anchor() {
-            Some(own) => own == id,
-            None => false,
+        match content {
+            Content::Alias(_) => false,
+            Content::Scalar(_, _, properties) => self.anchor(properties) == id,
+            Content::Sequence(_, properties) => self.anchor(properties) == id,
+            Content::Mapping(_, properties) => self.anchor(properties) == id,
         }
     }
 }

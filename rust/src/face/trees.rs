@@ -37,6 +37,8 @@ extern "C" {
     fn saphyr_item(parser: *mut Handle, node: usize, index: usize) -> usize;
     fn saphyr_key(parser: *mut Handle, node: usize, index: usize) -> usize;
     fn saphyr_value(parser: *mut Handle, node: usize, index: usize) -> usize;
+    fn saphyr_get(parser: *mut Handle, node: usize, key: *const u8, len: usize) -> usize;
+    fn saphyr_follow(parser: *mut Handle, node: usize) -> usize;
     fn saphyr_anchored(parser: *mut Handle, id: usize) -> usize;
 }
 
@@ -382,12 +384,9 @@ impl Node {
     /// ```
     #[must_use]
     pub fn followed(&self) -> &Node {
-        let Some(id) = self.as_alias() else {
-            return self;
-        };
         // SAFETY: the handle has a parser, which no other call uses.
         self.kept()
-            .node(|handle| unsafe { saphyr_anchored(handle, id) })
+            .node(|handle| unsafe { saphyr_follow(handle, self.number) })
             .expect("the node of an alias is in its trees")
     }
 
@@ -488,9 +487,10 @@ impl Node {
     /// the first. An alias stands for its node: one that this is asked of, and one that is a key.
     #[must_use]
     pub fn get(&self, key: &str) -> Option<&Node> {
-        let mut pairs = self.followed().pairs();
-        let (_, value) = pairs.find(|(it, _)| it.followed().as_str() == Some(key))?;
-        Some(value)
+        // SAFETY: the handle has a parser, which no other call uses, and the key's bytes may be read.
+        self.kept().node(|handle| unsafe {
+            saphyr_get(handle, self.number, key.as_ptr(), key.len())
+        })
     }
 
     /// The keys and values of a mapping, with those of the mappings that its keys `<<` name, as YAML 1.1 has them: its

@@ -3,13 +3,13 @@
 use crate::trees::loaded::WIDE;
 use saphyr_parser::Parser;
 use std::alloc::Global;
-use yaml_tree::{NodeTable, Step, load_next_table, load_table};
+use yaml_tree::{Content, NodeTable, Step, load_next_table, load_table};
 
 // A text, the index of a document, and steps from its root.
 type Place = (&'static str, usize, &'static [Step]);
 
 // Of the node there: the text of a scalar, how many parts it has, and the first and the last index of its place.
-type Told = (Option<&'static str>, usize, usize, usize);
+type Told = (Option<&'static [u8]>, usize, usize, usize);
 
 // The number of the node at the end of steps from a document's root.
 fn number_at(table: &NodeTable, index: usize, path: &[Step]) -> Option<usize> {
@@ -20,15 +20,23 @@ fn number_at(table: &NodeTable, index: usize, path: &[Step]) -> Option<usize> {
     Some(number)
 }
 
+// The text of a scalar.
+fn text_of<'a>(table: &'a NodeTable, content: &Content) -> Option<&'a [u8]> {
+    match content {
+        Content::Scalar(_, row, _) => Some(table.text(*row)),
+        _ => None,
+    }
+}
+
 // What a table tells of a node.
 fn is_told(table: &NodeTable, number: usize, (text, count, start, end): Told) -> bool {
     let Some(entry) = table.entry(number) else {
         return false;
     };
-    entry.content.text() == text
+    text_of(table, &entry.content) == text
         && table.count(number) == count
-        && entry.start.start.index() == start
-        && entry.end.end.index() == end
+        && entry.start.marker().index() == start
+        && entry.end.marker().index() == end
 }
 
 // Whether a table tells this of the node at the end of steps, or there is none.
@@ -81,17 +89,17 @@ const TWO: &str = "--- |\na\n---\nb\n";
 
 const ROWS: &[(Place, Option<Told>)] = &[
     ((JSON, 0, &[]), Some((None, 1, 0, 14))),
-    ((JSON, 0, &[Step::Key(0)]), Some((Some("a"), 0, 1, 4))),
+    ((JSON, 0, &[Step::Key(0)]), Some((Some(b"a"), 0, 1, 4))),
     ((JSON, 0, &[Step::Value(0)]), Some((None, 2, 5, 13))),
     (
         (JSON, 0, &[Step::Value(0), Step::Index(1)]),
-        Some((Some("true"), 0, 8, 12)),
+        Some((Some(b"true"), 0, 8, 12)),
     ),
     ((JSON, 0, &[Step::Value(0), Step::Index(2)]), None),
     ((JSON, 0, &[Step::Value(1)]), None),
     ((JSON, 1, &[]), None),
-    ((TWO, 0, &[]), Some((Some("a\n"), 0, 6, 8))),
-    ((TWO, 1, &[]), Some((Some("b"), 0, 12, 13))),
+    ((TWO, 0, &[]), Some((Some(b"a\n"), 0, 6, 8))),
+    ((TWO, 1, &[]), Some((Some(b"b"), 0, 12, 13))),
     ((TWO, 1, &[Step::Index(0)]), None),
     ((TWO, 2, &[]), None),
 ];

@@ -1,22 +1,25 @@
-use Rattle.std.proofs.Common.{arith, sym, true≢false, ◌∙◌}
-use Rattle.yaml_tree.proofs.Tables.{at_entry, node_here, not_behind, not_here}
+use Rattle.std.proofs.Common.{arith}
+use Rattle.yaml_tree.proofs.LookUps.{finds_none, finds_some, none_further}
 use Rattle.yaml_tree.proofs.table.NodeTable.with_anchor.Goals as goal
 
 pub returns-then-has_anchor : goal.returns-then-has_anchor
-returns-then-has_anchor c = λ all h.
-    let entry = c.index.result.now in
-    node_here c.args.self.now all c.loop-number.number c.args.id entry h
-    (at_entry c.args.self.now.entries.items c.loop-number.number entry (omega arith) c.index.ensures)
-    (c.has_anchor.ensures.0 c.if-has_anchor.true)
+returns-then-has_anchor c = λ es t.
+    let here = c.has_anchor.ensures.here c.if-has_anchor.true es t in
+    finds_some es here.0 c.args.id c.in-Some.number (λ zero. omega (arith, c.if-id-eq0.false, zero)) here.1 here.2
+
+pub returns-then-has_anchor-2 : goal.returns-then-has_anchor-2
+returns-then-has_anchor-2 c = λ es t.
+    let here = c.has_anchor-in-loop-number.ensures.here c.if-has_anchor-2.true es t in
+    finds_some es here.0 c.args.id c.loop-number.number (λ zero. omega (arith, c.if-id-eq0.false, zero)) here.1 here.2
 
 pub loop-number-preserved : goal.loop-number-preserved
-loop-number-preserved c = λ all i p h less k a.
-    let entry = c.index.result.now in
-    not_here c.args.self.now all c.loop-number.number i c.args.id entry p h
-    (at_entry c.args.self.now.entries.items c.loop-number.number entry (omega arith) c.index.ensures)
-    (λ e. true≢false (sym (c.has_anchor.ensures.1 e) ∙ c.if-has_anchor.false)) less k a
-    (c.loop-number.invariant all i p h)
+loop-number-preserved c = none_further c.args.self.now c.args.id c.loop-number.number c.loop-number.invariant
+    (λ es own t at has. let zero = c.has_anchor-in-loop-number.ensures.not_here c.if-has_anchor-2.false es own t at has in
+    omega (arith, c.if-id-eq0.false, zero))
 
 pub returns : goal.returns
-returns c = λ all h number p k a. not_behind c.args.self.now all number p h k
-    (λ less. c.loop-number.invariant all number p h (omega arith) k a)
+returns c = λ es t.
+    let long = c.len-number-end.ensures in
+    let end = c.loop-number-test.false in
+    finds_none c.args.self.now c.args.id c.loop-number.number es (λ zero. omega (arith, c.if-id-eq0.false, zero))
+    (omega (arith, long, end)) c.loop-number.invariant t

@@ -1,0 +1,347 @@
+-- Nodes as they begin and end, event after event.
+use Rattle.std.proofs.Common.{arith, ◌≡◌, ◌∙◌, refl, sym, ap, subst, inl, inr, ℕ, suc, ◌+◌, List, [], ◌∷◌, ◌++◌, Some, length, append_assoc, append-nil}
+use Rattle.std.proofs.lemmas.List.{length-append}
+use Rattle.saphyr_scalar.specs.declared.scalar.position.Marker.{Marker}
+use Rattle.saphyr_parser.specs.Events.{Happening, Alias, Scalar, SequenceStart, SequenceEnd, MappingStart, MappingEnd}
+use Rattle.yaml_tree.specs.declared.growing.Level.{Level}
+use Rattle.yaml_tree.specs.declared.table.Content.{Content}
+use Rattle.yaml_tree.specs.declared.table.Content.TheVariants as content
+use Rattle.yaml_tree.specs.declared.table.Entry.{Entry}
+use Rattle.yaml_tree.specs.declared.table.Mark.{Mark}
+use Rattle.yaml_tree.specs.declared.table.Row.{Row}
+use Rattle.yaml_tree.specs.Tables.{AreEntriesFrom, AreNodes, Event, HasParts, IsEnd, IsEntryAt, IsLeaf, IsMadeOf, IsNode, IsNodeAt, IsStart, StandIn, Store, Tells, TellsFirst, all_of, beginning, begun, leaf, marker_of, none, numbers, one_more, whole}
+use Rattle.yaml_tree.specs.GrowerSeen.{Holds, Inside, IsMore, IsOpen, closed}
+use Rattle.yaml_tree.proofs.Stores.{more_none, parts_closed, parts_more, stands_last, told_closed, told_more}
+
+-- ## Events
+
+pub begun-append : (xs ys : List Event) → begun (xs ++ ys) ≡ begun xs + begun ys
+begun-append [] ys = omega arith
+begun-append (x ∷ xs) ys = let e = begun-append xs ys in omega (arith, e)
+
+all_of-snoc : (ps : List (List Event)) (own : List Event) → all_of (ps ++ own ∷ []) ≡ all_of ps ++ own
+all_of-snoc [] own = append-nil own
+all_of-snoc (p ∷ ps) own =
+    ap (λ (es : List Event). p ++ es) (all_of-snoc ps own) ∙ sym (append_assoc p (all_of ps) own)
+
+nodes-snoc : (ps : List (List Event)) (own : List Event) → AreNodes ps → IsNode own → AreNodes (ps ++ own ∷ [])
+nodes-snoc [] own none n = one_more own [] n none
+nodes-snoc (p ∷ ps) own (one_more _ _ m h) n = one_more p (ps ++ own ∷ []) m (nodes-snoc ps own h n)
+
+numbers-snoc : (n : ℕ) (ps : List (List Event)) (own : List Event)
+    → numbers n (ps ++ own ∷ []) ≡ numbers n ps ++ (n + begun (all_of ps)) ∷ []
+numbers-snoc n [] own = let e : n ≡ n + 0 = omega arith in ap (λ (m : ℕ). m ∷ []) e
+numbers-snoc n (p ∷ ps) own =
+    let long = begun-append p (all_of ps) in
+    let e : (n + begun p) + begun (all_of ps) ≡ n + begun (p ++ all_of ps) = omega (arith, long) in
+    ap (λ (ms : List ℕ). n ∷ ms)
+    (numbers-snoc (n + begun p) ps own ∙ ap (λ (m : ℕ). numbers (n + begun p) ps ++ m ∷ []) e)
+
+leaf_begins : (h : Happening) → IsLeaf h → beginning h ≡ 1
+leaf_begins (Alias id) l = refl
+leaf_begins (Scalar text style id tag) l = refl
+leaf_begins _ l = absurd l
+
+start_begins : (h : Happening) → IsStart h → beginning h ≡ 1
+start_begins (SequenceStart id tag) l = refl
+start_begins (MappingStart id tag) l = refl
+start_begins _ l = absurd l
+
+end_begins : (h : Happening) → IsEnd h → beginning h ≡ 0
+end_begins SequenceEnd l = refl
+end_begins MappingEnd l = refl
+end_begins _ l = absurd l
+
+begun_one : (e : Event) → begun (e ∷ []) ≡ beginning e.0
+begun_one e = omega arith
+
+-- ## More events, more in the store
+
+tells_more : (a b : Store) (n : ℕ) (e : Entry) (own : List Event) → IsMore a b → Tells a n e own → Tells b n e own
+tells_more a b n e own more t = record {
+  first = t.first;
+  parts = t.parts;
+  last = t.last;
+  made = t.made;
+  told = told_more a b e.content t.first.0 more t.told;
+  row = parts_more a b e.content (numbers (suc n) t.parts) more t.row;
+  start = t.start;
+  end = t.end;
+}
+
+node_more : (es fs : List Event) (n : ℕ) (own : List Event) → IsNodeAt es n own → IsNodeAt (es ++ fs) n own
+node_more es fs n own p = record {
+  front = p.front;
+  behind = p.behind ++ fs;
+  split = ap (λ (ds : List Event). ds ++ fs) p.split ∙ append_assoc p.front (own ++ p.behind) fs
+      ∙ ap (λ (ds : List Event). p.front ++ ds) (append_assoc own p.behind fs);
+  first = p.first;
+  node = p.node;
+}
+
+pub entries_more : (es fs : List Event) (a b : Store) (n : ℕ) (xs : List Entry) → IsMore a b → AreEntriesFrom es a n xs
+    → AreEntriesFrom (es ++ fs) b n xs
+entries_more es fs a b n [] more h = tt
+entries_more es fs a b n (x ∷ xs) more ((own, at, tells), h) = (
+  (own, node_more es fs n own at, tells_more a b n x own more tells),
+  entries_more es fs a b (suc n) xs more h,
+)
+
+entries_store : (es : List Event) (a b : Store) (n : ℕ) (xs : List Entry) → IsMore a b → AreEntriesFrom es a n xs
+    → AreEntriesFrom es b n xs
+entries_store es a b n xs more h =
+    subst (λ (ds : List Event). AreEntriesFrom ds b n xs) (append-nil es) (entries_more es [] a b n xs more h)
+
+pub entries_both : (es : List Event) (s : Store) (n m : ℕ) (xs ys : List Entry) → AreEntriesFrom es s n xs
+    → m ≡ n + length xs → AreEntriesFrom es s m ys → AreEntriesFrom es s n (xs ++ ys)
+entries_both es s n m [] ys h e k = let same : m ≡ n = omega arith in
+    subst (λ (i : ℕ). AreEntriesFrom es s i ys) same k
+entries_both es s n m (x ∷ xs) ys h e k = (h.0, entries_both es s (suc n) m xs ys h.1 (omega arith) k)
+
+inside_store : (es base : List Event) (a b : Store) (waiting before : List ℕ) (entries outer : List Entry)
+    → IsMore a b → Inside es base a waiting before entries outer → Inside es base b waiting before entries outer
+inside_store es base a b waiting before entries outer more i = record {
+  parts = i.parts;
+  inner = i.inner;
+  events = i.events;
+  nodes = i.nodes;
+  waits = i.waits;
+  split = i.split;
+  first = i.first;
+  count = i.count;
+  told = entries_store es a b (begun base) i.inner more i.told;
+}
+
+open_store : (a b : Store) (x : Event) (e : Entry) → IsMore a b → IsOpen a x e → IsOpen b x e
+open_store a b x e more o = record {
+  start = o.start;
+  told = told_more a b e.content x.0 more o.told;
+  place = o.place;
+}
+
+pub holds_store : (doc es : List Event) (a b : Store) (ls : List Level) (waiting : List ℕ) (entries : List Entry)
+    → IsMore a b → Holds doc es a ls waiting entries → Holds doc es b ls waiting entries
+holds_store doc es a b [] waiting entries more (outer, i, h) =
+    (outer, inside_store es doc a b waiting [] entries outer more i, entries_store doc a b 0 outer more h)
+holds_store doc es a b (l ∷ ls) waiting entries more (x, around, before, e, outer, i, o, n, w, h) = (
+  x,
+  around,
+  before,
+  e,
+  outer,
+  inside_store es (around ++ x ∷ []) a b waiting before entries (outer ++ e ∷ []) more i,
+  open_store a b x e more o,
+  n,
+  w,
+  holds_store doc around a b ls before outer more h,
+)
+
+-- ## A node more
+
+inside_count : (es base : List Event) (s : Store) (waiting before : List ℕ) (entries outer : List Entry)
+    → Inside es base s waiting before entries outer → length entries ≡ begun es
+inside_count es base s waiting before entries outer i =
+    ap (λ (xs : List Entry). length xs) i.split ∙ length-append outer i.inner
+    ∙ (let a = i.first in let b = i.count in
+    let e : length outer + length i.inner ≡ begun base + begun (all_of i.parts) = omega (arith, a, b) in e)
+    ∙ sym (begun-append base (all_of i.parts)) ∙ ap begun (sym i.events)
+
+inside_adds : (es own base : List Event) (s : Store) (waiting before : List ℕ) (entries outer more : List Entry)
+    → Inside es base s waiting before entries outer → IsNode own → length more ≡ begun own
+    → AreEntriesFrom (es ++ own) s (begun es) more
+    → Inside (es ++ own) base s (waiting ++ begun es ∷ []) before (entries ++ more) outer
+inside_adds es own base s waiting before entries outer more i node long told =
+    let n = begun base in
+    let here : begun es ≡ n + begun (all_of i.parts) = ap begun i.events ∙ begun-append base (all_of i.parts) in
+    let inner = i.count in
+    record {
+      parts = i.parts ++ own ∷ [];
+      inner = i.inner ++ more;
+      events = ap (λ (ds : List Event). ds ++ own) i.events ∙ append_assoc base (all_of i.parts) own
+          ∙ ap (λ (ds : List Event). base ++ ds) (sym (all_of-snoc i.parts own));
+      nodes = nodes-snoc i.parts own i.nodes node;
+      waits = ap (λ (ns : List ℕ). ns ++ begun es ∷ []) i.waits
+          ∙ append_assoc before (numbers n i.parts) (begun es ∷ [])
+          ∙ ap (λ (m : ℕ). before ++ (numbers n i.parts ++ m ∷ [])) here
+          ∙ ap (λ (ns : List ℕ). before ++ ns) (sym (numbers-snoc n i.parts own));
+      split = ap (λ (xs : List Entry). xs ++ more) i.split ∙ append_assoc outer i.inner more;
+      first = i.first;
+      count = length-append i.inner more
+          ∙ (let e : length i.inner + length more ≡ begun (all_of i.parts) + begun own = omega (arith, inner, long) in e)
+          ∙ sym (begun-append (all_of i.parts) own) ∙ ap begun (sym (all_of-snoc i.parts own));
+      told = entries_both (es ++ own) s n (begun es) i.inner more
+          (entries_more es own s s n i.inner (more_none s) i.told) (omega (arith, here, inner)) told;
+    }
+
+pub holds_count : (doc es : List Event) (s : Store) (ls : List Level) (waiting : List ℕ) (entries : List Entry)
+    → Holds doc es s ls waiting entries → length entries ≡ begun es
+holds_count doc es s [] waiting entries (outer, i, h) = inside_count es doc s waiting [] entries outer i
+holds_count doc es s (l ∷ ls) waiting entries (x, around, before, e, outer, i, o, n, w, h) =
+    inside_count es (around ++ x ∷ []) s waiting before entries (outer ++ e ∷ []) i
+
+adds : (doc es own : List Event) (s : Store) (ls : List Level) (waiting : List ℕ) (entries more : List Entry)
+    → Holds doc es s ls waiting entries → IsNode own → length more ≡ begun own
+    → AreEntriesFrom (es ++ own) s (begun es) more
+    → Holds doc (es ++ own) s ls (waiting ++ begun es ∷ []) (entries ++ more)
+adds doc es own s [] waiting entries more (outer, i, h) node long told =
+    (outer, inside_adds es own doc s waiting [] entries outer more i node long told, h)
+adds doc es own s (l ∷ ls) waiting entries more (x, around, before, e, outer, i, o, n, w, h) node long told = (
+  x,
+  around,
+  before,
+  e,
+  outer,
+  inside_adds es own (around ++ x ∷ []) s waiting before entries (outer ++ e ∷ []) more i node long told,
+  o,
+  n,
+  w,
+  h,
+)
+
+leaf_parts : (s : Store) (c : Content) (h : Happening) → TellsFirst s c h → IsLeaf h → HasParts s c []
+leaf_parts s (content.Alias id) h t l = refl
+leaf_parts s (content.Scalar style row number) h t l = refl
+leaf_parts s (content.Sequence row number) h (id, tag, e, k) l = absurd (subst IsLeaf e l)
+leaf_parts s (content.Mapping row number) h (id, tag, e, k) l = absurd (subst IsLeaf e l)
+
+pub adds_leaf : (doc es : List Event) (x : Event) (s : Store) (ls : List Level) (waiting : List ℕ)
+    (entries : List Entry) (e : Entry) → Holds doc es s ls waiting entries → IsLeaf x.0 → TellsFirst s e.content x.0
+    → marker_of e.start ≡ x.1.start → marker_of e.end ≡ x.1.end
+    → Holds doc (es ++ x ∷ []) s ls (waiting ++ begun es ∷ []) (entries ++ e ∷ [])
+adds_leaf doc es x s ls waiting entries e h l told start end =
+    let one = leaf_begins x.0 l in
+    let node : IsNode (x ∷ []) = leaf x l in
+    adds doc es (x ∷ []) s ls waiting entries (e ∷ []) h node (omega (arith, one)) (
+      (
+        x ∷ [],
+        record { front = es; behind = []; split = refl; first = refl; node = node },
+        record {
+          first = x;
+          parts = [];
+          last = x;
+          made = inl (l, refl, refl, refl);
+          told = told;
+          row = leaf_parts s e.content x.0 told l;
+          start = start;
+          end = end;
+        },
+      ),
+      tt,
+    )
+
+-- ## A collection begins, and ends
+
+pub begins : (doc es : List Event) (x : Event) (s : Store) (l : Level) (ls : List Level) (waiting : List ℕ)
+    (entries : List Entry) (e : Entry) → l.number ≡ length entries → l.waiting ≡ length waiting → IsOpen s x e
+    → Holds doc es s ls waiting entries → Holds doc (es ++ x ∷ []) s (l ∷ ls) waiting (entries ++ e ∷ [])
+begins doc es x s l ls waiting entries e number at o h =
+    let long = holds_count doc es s ls waiting entries h in
+    let more = begun-append es (x ∷ []) in
+    let longer = length-append entries (e ∷ []) in
+    let one = start_begins x.0 o.start in (
+      x,
+      es,
+      waiting,
+      e,
+      entries,
+      record {
+        parts = [];
+        inner = [];
+        events = sym (append-nil (es ++ x ∷ []));
+        nodes = none;
+        waits = sym (append-nil waiting);
+        split = sym (append-nil (entries ++ e ∷ []));
+        first = omega (arith, long, more, longer, one);
+        count = refl;
+        told = tt;
+      },
+      o,
+      number,
+      at,
+      h,
+    )
+
+-- the innermost collection is whole
+pub record Ended (doc es : List Event) (y : Event) (a b : Store) (end : Mark) (row : Row) (l : Level)
+    (ls : List Level) (waiting : List ℕ) (entries : List Entry) : Type 0 where
+  pub before : List ℕ
+  pub own : List ℕ
+  pub waits : waiting ≡ before ++ own
+  pub at : l.waiting ≡ length before
+  pub outer : List Entry
+  pub inner : List Entry
+  pub entry : Entry
+  pub split : entries ≡ outer ++ (entry ∷ inner)
+  pub number : l.number ≡ length outer
+  pub holds : b.parts ≡ a.parts ++ own → row.first ≡ length a.parts → row.count ≡ length own
+      → Holds doc (es ++ y ∷ []) b ls (before ++ l.number ∷ []) (outer ++ (closed row end entry ∷ inner))
+
+pub ends : (doc es : List Event) (y : Event) (a b : Store) (end : Mark) (row : Row) (l : Level) (ls : List Level)
+    (waiting : List ℕ) (entries : List Entry) → IsEnd y.0 → marker_of end ≡ y.1.end → IsMore a b
+    → Holds doc es a (l ∷ ls) waiting entries → Ended doc es y a b end row l ls waiting entries
+ends doc es y a b end row l ls waiting entries is_end place more (x, around, before, e, outer, i, o, n, w, h) =
+    let base = around ++ x ∷ [] in
+    let own = numbers (begun base) i.parts in
+    let all : List Event = x ∷ (all_of i.parts ++ y ∷ []) in
+    let node : IsNode all = whole x i.parts y o.start i.nodes is_end in
+    let done = closed row end e in
+    let here = holds_count doc around a ls before outer h in
+    let events : es ++ y ∷ [] ≡ around ++ all =
+    ap (λ (ds : List Event). ds ++ y ∷ []) i.events ∙ append_assoc base (all_of i.parts) (y ∷ [])
+    ∙ append_assoc around (x ∷ []) (all_of i.parts ++ y ∷ []) in
+    let one = start_begins x.0 o.start in
+    let zero_more = end_begins y.0 is_end in
+    let longer = begun-append around (x ∷ []) in
+    let next : begun base ≡ suc (begun around) = omega (arith, longer, one) in
+    let count = i.count in
+    let ended = begun-append (all_of i.parts) (y ∷ []) in
+    let long : length (done ∷ i.inner) ≡ begun all = omega (arith, count, ended, one, zero_more) in
+    let number : l.number ≡ begun around = n ∙ here in record {
+      before = before;
+      own = own;
+      waits = i.waits;
+      at = w;
+      outer = outer;
+      inner = i.inner;
+      entry = e;
+      split = i.split ∙ append_assoc outer (e ∷ []) i.inner;
+      number = n;
+      holds = λ parts first row_count.
+          let numbers_next : own ≡ numbers (suc (begun around)) i.parts =
+          ap (λ (m : ℕ). numbers m i.parts) next in
+          let stands : StandIn (numbers (suc (begun around)) i.parts) row b.parts =
+          subst (λ (ns : List ℕ). StandIn ns row b.parts) numbers_next
+          (subst (StandIn own row) (sym parts) (stands_last own row a.parts first row_count)) in
+          let told = told_closed b e.content row x.0 (told_more a b e.content x.0 more o.told) in
+          let first_is : IsEntryAt (around ++ all) b (begun around) done = (
+            all,
+            record {
+              front = around;
+              behind = [];
+              split = ap (λ (ds : List Event). around ++ ds) (sym (append-nil all));
+              first = refl;
+              node = node;
+            },
+            record {
+              first = x;
+              parts = i.parts;
+              last = y;
+              made = inr (o.start, refl, i.nodes, is_end);
+              told = told;
+              row = parts_closed b e.content row x.0 (numbers (suc (begun around)) i.parts)
+                  (told_more a b e.content x.0 more o.told) o.start stands;
+              start = o.place;
+              end = place;
+            },
+          ) in
+          let others : AreEntriesFrom (around ++ all) b (suc (begun around)) i.inner =
+          subst (λ (m : ℕ). AreEntriesFrom (around ++ all) b m i.inner) next
+          (subst (λ (ds : List Event). AreEntriesFrom ds b (begun base) i.inner) events
+          (entries_more es (y ∷ []) a b (begun base) i.inner more i.told)) in
+          subst (λ (m : ℕ). Holds doc (es ++ y ∷ []) b ls (before ++ m ∷ []) (outer ++ (done ∷ i.inner)))
+          (sym number)
+          (subst (λ (ds : List Event). Holds doc ds b ls (before ++ begun around ∷ []) (outer ++ (done ∷ i.inner)))
+          (sym events)
+          (adds doc around all b ls before outer (done ∷ i.inner)
+          (holds_store doc around a b ls before outer more h) node long (first_is, others)));
+    }

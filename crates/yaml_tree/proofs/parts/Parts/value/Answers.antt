@@ -1,8 +1,0 @@
-use Rattle.std.proofs.Common.{arith}
-use Rattle.yaml_tree.proofs.parts.Parts.value.Goals as goal
-
-pub returns-then-index-self : goal.returns-then-index-self
-returns-then-index-self c = λ pairs even. (omega arith, omega arith)
-
-pub returns-else-index-self : goal.returns-else-index-self
-returns-else-index-self c = λ pairs even. omega arith
