@@ -42,22 +42,35 @@
  *     if (saphyr_check_standard(text, len, &deviation) == SAPHYR_DEVIATES)
  *         ... deviation.rule is broken at deviation.place, and deviation.sentence is what it asks ...
  *
+ * What the program check_yaml finds in a text:
+ *
+ *     saphyr_findings findings = {0};
+ *     saphyr_finding finding = {0}, note = {0};
+ *     saphyr_check(text, len, NULL, &findings);
+ *     while (saphyr_next_finding(&findings, &finding) == SAPHYR_FINDING) {
+ *         ... finding.message says what is wrong at finding.start ...
+ *         while (saphyr_next_note(&findings, &note) == SAPHYR_FINDING)
+ *             ... note.message says more of it ...
+ *     }
+ *     saphyr_free_findings(&findings);
+ *
  * What the caller must do. Nothing checks these rules, and all that the library promises depends on them:
  *
- *  - Zero a saphyr_parser, a saphyr_event and a saphyr_deviation, as by {0}, and in C++ by {}, before you first pass
- *    them to a call.
- *  - Pass no NULL, but for bytes of which there are 0, and to saphyr_free. The pointer of a text may be read for the
- *    text's length. No two pointers of one call point to the same memory.
- *  - Change a saphyr_parser only by these calls. Don't copy it as a struct: saphyr_clone makes a copy.
- *  - Use a saphyr_parser in one call at a time, and a saphyr_event and a saphyr_deviation too. Between calls a parser
- *    may go from one thread to another, if a lock or the thread's start or end orders the calls.
+ *  - Zero each structure, as by {0}, and in C++ by {}, before you first pass it to a call.
+ *  - Pass no NULL, but for bytes of which there are 0, for options, and to saphyr_free and saphyr_free_findings. The
+ *    pointer of a text may be read for the text's length. No two pointers of one call point to the same memory.
+ *  - Change a saphyr_parser and a saphyr_findings only by these calls. Don't copy them as structs: saphyr_clone makes a
+ *    copy of a parser.
+ *  - Use each structure in one call at a time. Between calls a saphyr_parser and a saphyr_findings may go from one
+ *    thread to another, if a lock or the thread's start or end orders the calls.
  *  - Keep the text where it is, unchanged, until every parser over it is freed: that of saphyr_new or saphyr_new_utf8,
  *    and its clones. The bytes that saphyr_add was given are copied.
  *  - Give saphyr_new_utf8 only a text in UTF-8.
  *  - malloc, realloc and free belong to one allocator. Make no call from a signal handler, or from the forked
  *    child of a process with threads.
  *
- * What the library does. The texts of an event may be read until the next call with the same parser, and no longer.
+ * What the library does. The texts of an event may be read until the next call with the same parser, and no longer; so
+ * may those of a finding or a note until the next call with the same saphyr_findings.
  * Those that saphyr_describe gave may be read until saphyr_load, saphyr_load_next or saphyr_free gets the parser, or a
  * call that makes another parser in its handle. For saphyr_next the contract says that the addresses are those of
  * memory that the parser keeps until then. Only the code shows the same of saphyr_peek and saphyr_describe, and that no
@@ -84,10 +97,12 @@ extern "C" {
 /* What a call returns. Below 0, the call failed. */
 enum saphyr_status {
     /* saphyr_new, saphyr_new_utf8, saphyr_new_pieces, saphyr_add, saphyr_clone, saphyr_keep_tags, saphyr_load: done.
-       saphyr_check_standard: the text is YAML 1.2.2. */
+       saphyr_check_standard: the text is YAML 1.2.2. saphyr_check: it has no error and, if the options are strict, no
+       warning. */
     SAPHYR_OK = 0,
     /* saphyr_next, saphyr_peek: no event is left. The end of the stream or a fault was handed out before.
-       saphyr_load_next: no document is left. saphyr_describe: there is no node with this number. */
+       saphyr_load_next: no document is left. saphyr_describe: there is no node with this number.
+       saphyr_next_finding: no finding is left. saphyr_next_note: no note on the last finding is. */
     SAPHYR_END = 0,
     /* saphyr_next, saphyr_peek, saphyr_describe: the event is written. */
     SAPHYR_EVENT = 1,
@@ -98,12 +113,17 @@ enum saphyr_status {
     SAPHYR_LOADED = 3,
     /* saphyr_check_standard: the parser reads the text, but it is not YAML 1.2.2. */
     SAPHYR_DEVIATES = 4,
+    /* saphyr_next_finding, saphyr_next_note: the finding or the note is written. */
+    SAPHYR_FINDING = 5,
+    /* saphyr_check: the text has an error or, if the options are strict, a warning. */
+    SAPHYR_WRONG = 6,
     /* saphyr_next, saphyr_peek, saphyr_load, saphyr_load_next: the text is refused. `value` says why, and `start`
        where. No event follows. saphyr_check_standard: the parser refuses the text. `place` says where. */
     SAPHYR_REFUSED = -1,
     /* Out of memory. From saphyr_next and saphyr_peek: no event follows, whatever is added. From saphyr_add: the text
        is lost, and saphyr_next says so too. From saphyr_new, saphyr_new_pieces and saphyr_clone: no parser is made.
-       From saphyr_load and saphyr_load_next: there are no trees. From saphyr_check_standard: there is no answer. */
+       From saphyr_load and saphyr_load_next: there are no trees. From saphyr_check_standard and saphyr_check: there is
+       no answer. From saphyr_next_finding and saphyr_next_note: nothing is handed out. The next call tries it again. */
     SAPHYR_NO_MEMORY = -2,
     /* saphyr_new, saphyr_check_standard: the text is not UTF-8. saphyr_valid_up_to returns the index of the first wrong
        byte. saphyr_add: the bytes, behind those that came before, are not, whatever follows; or the text ends inside a
@@ -125,7 +145,17 @@ enum saphyr_status {
     SAPHYR_TOO_LARGE = -8,
     /* saphyr_load: the parser has handed out events already. saphyr_load_next: it is inside a document. Both: its text
        comes in pieces. */
-    SAPHYR_LATE = -9
+    SAPHYR_LATE = -9,
+    /* saphyr_next_finding, saphyr_next_note: the handle is empty, as no text was checked or it was freed. */
+    SAPHYR_NOT_CHECKED = -10
+};
+
+/* How bad a finding is. */
+enum saphyr_severity {
+    SAPHYR_ERROR = 1,
+    SAPHYR_WARNING = 2,
+    /* It says more of an error, or how many warnings are left out. */
+    SAPHYR_NOTE = 3
 };
 
 /* What happens in the text. */
@@ -229,6 +259,48 @@ typedef struct saphyr_deviation {
     /* The production of the standard, and what it asks. */
     saphyr_text sentence;
 } saphyr_deviation;
+
+/* A handle: what was found in a text, or nothing. Start with {0}. */
+typedef struct saphyr_findings {
+    /* The library's own. NULL if no text was checked. */
+    void *at;
+} saphyr_findings;
+
+/* How a text is checked, by the names of the options of check_yaml. All 0 are the options of a call without any, but
+   that it prints at most 100 warnings. */
+typedef struct saphyr_check_options {
+    /* Also find where the text departs from YAML 1.2.2. */
+    bool standard;
+    /* Let a warning count as an error in what saphyr_check returns. */
+    bool strict;
+    /* Leave out the warnings of these rules. */
+    struct {
+        bool alias_in_itself, duplicate_key, empty_document, max_depth, max_nodes, wide_alias;
+    } disable;
+    /* Warn where more collections are open at once. 0 sets no limit. */
+    size_t max_depth;
+    /* Find at most so many warnings, and with `standard` so many places, and how many more there are of the warnings.
+       0 sets no limit. */
+    size_t max_findings;
+    /* Warn of more nodes. 0 sets no limit. */
+    size_t max_nodes;
+} saphyr_check_options;
+
+/* A finding, or a note on one. Each call that takes one writes all of its fields, whatever it returns: 0 and NULL if
+   there is none. */
+typedef struct saphyr_finding {
+    /* A saphyr_severity. */
+    int32_t severity;
+    /* Where it is. */
+    saphyr_marker start;
+    /* Where that ends: of a warning the end of the event that it is on, and else the start again. */
+    saphyr_marker end;
+    /* The name of the rule, as `duplicate-key`: `syntax` of a text that is refused, `encoding` of bytes that are not
+       UTF-8. The page CHECK_YAML.md has them. */
+    saphyr_text rule;
+    /* What it says. */
+    saphyr_text message;
+} saphyr_finding;
 
 /*
  * Makes a parser of the `len` bytes at `text`, and puts it into `parser`. Frees what `parser` held, whatever it
@@ -413,6 +485,37 @@ saphyr_node saphyr_anchored(saphyr_parser *parser, size_t id);
 int32_t saphyr_check_standard(const uint8_t *text, size_t len, saphyr_deviation *deviation);
 
 /*
+ * Checks the `len` bytes at `text`, as the program check_yaml does, and puts what is found into `findings`. Frees what
+ * `findings` held, whatever it returns. Bytes that are not UTF-8 are a finding. The text is not needed after this call.
+ * NULL for `options` sets none.
+ *
+ * Returns SAPHYR_OK if the text passes, or SAPHYR_WRONG; or SAPHYR_NO_MEMORY, and then `findings` is empty.
+ */
+int32_t saphyr_check(const uint8_t *text, size_t len, const saphyr_check_options *options, saphyr_findings *findings);
+
+/*
+ * Hands out the next finding: errors and warnings, in the order of their places. The notes that were left on the
+ * finding before it are passed over.
+ *
+ * Returns SAPHYR_FINDING, SAPHYR_END, SAPHYR_NO_MEMORY or SAPHYR_NOT_CHECKED.
+ */
+int32_t saphyr_next_finding(saphyr_findings *findings, saphyr_finding *finding);
+
+/*
+ * Hands out the next note on the finding that was handed out last, such as what to write in place of an error, or the
+ * words of the parser's fault. There may be none, and never more than two.
+ *
+ * Returns SAPHYR_FINDING, SAPHYR_END, SAPHYR_NO_MEMORY or SAPHYR_NOT_CHECKED.
+ */
+int32_t saphyr_next_note(saphyr_findings *findings, saphyr_finding *note);
+
+/*
+ * Frees what was found, and leaves the handle empty. Does nothing to an empty handle, and nothing if `findings` is
+ * NULL.
+ */
+void saphyr_free_findings(saphyr_findings *findings);
+
+/*
  * Frees the parser and the texts of its last event, and leaves the handle empty. Does nothing to an empty handle, and
  * nothing if `parser` is NULL.
  */
@@ -429,11 +532,13 @@ uint32_t saphyr_version(void);
  */
 static inline const char *saphyr_status_text(int32_t status) {
     switch (status) {
-    case SAPHYR_OK: return "done, no event is left, or the text is YAML 1.2.2";
+    case SAPHYR_OK: return "done, nothing is left, or the text is YAML 1.2.2 or passes";
     case SAPHYR_EVENT: return "an event";
     case SAPHYR_MORE: return "the next event waits for bytes that did not come";
     case SAPHYR_LOADED: return "the next document is loaded";
     case SAPHYR_DEVIATES: return "the text is read, and is not YAML 1.2.2";
+    case SAPHYR_FINDING: return "a finding";
+    case SAPHYR_WRONG: return "the text has an error, or a warning that counts as one";
     case SAPHYR_REFUSED: return "the text is refused";
     case SAPHYR_NO_MEMORY: return "out of memory";
     case SAPHYR_NOT_UTF8: return "the text is not UTF-8";
@@ -443,6 +548,7 @@ static inline const char *saphyr_status_text(int32_t status) {
     case SAPHYR_TOO_MUCH: return "more bytes wait for the next event than may";
     case SAPHYR_TOO_LARGE: return "the trees would be larger than allowed";
     case SAPHYR_LATE: return "no trees begin where the parser is, or its text comes in pieces";
+    case SAPHYR_NOT_CHECKED: return "no text is checked";
     default: return "no status";
     }
 }
@@ -462,6 +568,9 @@ extern size_t saphyr_valid_up_to_at(const uint8_t *, size_t) __asm__("saphyr_val
 extern void saphyr_free_at(saphyr_parser *) __asm__("saphyr_free");
 extern saphyr_node saphyr_get_at(saphyr_parser *, saphyr_node, const char *, size_t) __asm__("saphyr_get");
 extern int32_t saphyr_check_standard_at(const uint8_t *, size_t, saphyr_deviation *) __asm__("saphyr_check_standard");
+extern int32_t saphyr_check_at(const uint8_t *, size_t, const saphyr_check_options *, saphyr_findings *)
+    __asm__("saphyr_check");
+extern void saphyr_free_findings_at(saphyr_findings *) __asm__("saphyr_free_findings");
 
 SAPHYR_INLINE int32_t saphyr_new(const uint8_t *text, size_t len, bool keep_tags, saphyr_parser *parser) {
     return saphyr_new_at(text ? text : (const uint8_t *)"", len, keep_tags, parser);
@@ -485,6 +594,22 @@ SAPHYR_INLINE saphyr_node saphyr_get(saphyr_parser *parser, saphyr_node node, co
 
 SAPHYR_INLINE int32_t saphyr_check_standard(const uint8_t *text, size_t len, saphyr_deviation *deviation) {
     return saphyr_check_standard_at(text ? text : (const uint8_t *)"", len, deviation);
+}
+
+SAPHYR_INLINE int32_t saphyr_check(const uint8_t *text, size_t len, const saphyr_check_options *options,
+                                   saphyr_findings *findings) {
+#ifdef __cplusplus
+    const saphyr_check_options none = {};
+#else
+    const saphyr_check_options none = {0};
+#endif
+    return saphyr_check_at(text ? text : (const uint8_t *)"", len, options ? options : &none, findings);
+}
+
+SAPHYR_INLINE void saphyr_free_findings(saphyr_findings *findings) {
+    if (findings) {
+        saphyr_free_findings_at(findings);
+    }
 }
 
 SAPHYR_INLINE void saphyr_free(saphyr_parser *parser) {

@@ -46,6 +46,9 @@ taken_are_added bytes old new status.TooMuch taken = taken
 taken_are_added bytes old new status.TooLarge taken = taken
 taken_are_added bytes old new status.Late taken = taken
 taken_are_added bytes old new status.Deviates taken = taken
+taken_are_added bytes old new status.Finding taken = taken
+taken_are_added bytes old new status.Wrong taken = taken
+taken_are_added bytes old new status.NotChecked taken = taken
 
 not_all : (e : Extent) (bytes : List ℕ) (old new : Coming) (s : Status) → (e ≡ extent.All → ⊥) → 0 < length bytes
     → AddsSome bytes old s new → AddsBytes e bytes old s new

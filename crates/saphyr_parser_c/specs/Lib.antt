@@ -1,7 +1,9 @@
+pub mod Check
 pub mod Coming
 pub mod Encoding
 pub mod Exports
 pub mod Followed
+pub mod Found
 pub mod Held
 pub mod Inner
 pub mod Same

@@ -1,7 +1,7 @@
 -- The numbers of statuses in C.
 use Rattle.std.specs.Prelude.{ℤ, pos, negsuc}
 use Rattle.saphyr_parser_c.specs.declared.status.Status.{Status}
-use Rattle.saphyr_parser_c.specs.declared.status.Status.TheVariants.{Done, End, Event, Refused, NoMemory, NotUtf8, NoParser, Utf16, More, Loaded, Whole, TooMuch, TooLarge, Late, Deviates}
+use Rattle.saphyr_parser_c.specs.declared.status.Status.TheVariants.{Done, End, Event, Refused, NoMemory, NotUtf8, NoParser, Utf16, More, Loaded, Whole, TooMuch, TooLarge, Late, Deviates, Finding, Wrong, NotChecked}
 
 -- `negsuc n` is -(n + 1)
 abbrev pub code_of : Status → ℤ
@@ -20,3 +20,6 @@ code_of TooMuch = negsuc 6
 code_of TooLarge = negsuc 7
 code_of Late = negsuc 8
 code_of Deviates = pos 4
+code_of Finding = pos 5
+code_of Wrong = pos 6
+code_of NotChecked = negsuc 9

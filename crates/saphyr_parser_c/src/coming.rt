@@ -23,7 +23,7 @@ pub enum Extent {
 const MOST_CHARACTERS: usize = 4294967295;
 
 // A limit that a caller sets, up to the most that there may be. 0 sets none.
-fn bounded(limit: usize, most: usize) -> usize
+pub(crate) fn bounded(limit: usize, most: usize) -> usize
     ensures { result ≡ spec.bounded limit most }
 {
     if limit == 0 { most } else { limit.min(most) }

@@ -6,6 +6,7 @@ ghost use Rattle.saphyr_parser_c.specs.Inner.{RefusesText};
 use crate::answer::{write_event, write_fault, write_lent};
 use crate::coming::Coming;
 use crate::encoding::begins_as_utf16;
+use crate::found::Found;
 use crate::shown::{CEvent, blank};
 use crate::source::Source;
 use crate::status::Status;
@@ -38,6 +39,8 @@ pub struct Inner {
     pub(super) shown: bool,
     // The trees of its text, once they are loaded.
     pub(super) table: NodeTable,
+    // What is found in a text. The parser then reads no text: one type of handle serves both.
+    pub(super) found: Option<Box<Found, Global>>,
 }
 
 impl Inner {
@@ -56,6 +59,7 @@ impl Inner {
             progress: Progress::Over,
             shown: false,
             table: NodeTable::new(alloc),
+            found: None,
         };
         match Box::new(alloc, inner) {
             Ok(inner) => Ok(inner),

@@ -8,9 +8,11 @@ ghost use Rattle.saphyr_parser_c.specs.Encoding.{BeginsAsUtf16, IsUtf8Front};
 ghost use Rattle.saphyr_parser_c.specs.Exports as spec;
 
 mod answer;
+mod check;
 mod coming;
 mod encoding;
 mod following;
+mod found;
 mod handle;
 mod inner;
 mod nodes;

@@ -36,6 +36,12 @@ pub enum Status {
     Late,
     /// The text is read, and is not YAML 1.2.2.
     Deviates,
+    /// There is a finding.
+    Finding,
+    /// The text has an error, or a warning that counts as one.
+    Wrong,
+    /// No text is checked.
+    NotChecked,
 }
 
 impl Status {
@@ -59,6 +65,9 @@ impl Status {
             Status::TooLarge => -8,
             Status::Late => -9,
             Status::Deviates => 4,
+            Status::Finding => 5,
+            Status::Wrong => 6,
+            Status::NotChecked => -10,
         }
     }
 }
