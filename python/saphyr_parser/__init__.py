@@ -23,11 +23,13 @@ from typing import (Any, Callable, Dict, Iterable, Iterator, List, NamedTuple, O
 from . import _saphyr_parser
 from ._saphyr_parser import Mapping, Scalar, Sequence
 
-__all__ = ["Deviation", "Event", "File", "Kind", "Mapping", "Marker", "Node", "NotUtf8", "Reader", "Refused", "Scalar",
-           "Sequence", "Style", "Text", "TooLarge", "check_standard", "events", "load", "load_all", "merged"]
+__all__ = ["Deviation", "Event", "File", "Finding", "Findings", "Kind", "Mapping", "Marker", "Node", "NotUtf8",
+           "Reader", "Refused", "Scalar", "Sequence", "Severity", "Style", "Text", "TooLarge", "check",
+           "check_standard", "events", "load", "load_all", "merged"]
 __version__: str = _saphyr_parser.VERSION
 
 COLUMNS = 200  # of a fault's line, at most
+RULES = ("alias-in-itself", "duplicate-key", "empty-document", "max-depth", "max-nodes", "wide-alias")
 MERGE_TAGS = (None, "tag:yaml.org,2002:merge")
 
 T = TypeVar("T", covariant=True)
@@ -101,6 +103,32 @@ class Deviation(NamedTuple):
     place: Marker
     rule: str
     sentence: str
+
+
+class Severity(enum.IntEnum):
+    """How bad a finding is."""
+    ERROR = 1
+    WARNING = 2
+    NOTE = 3
+
+
+class Finding(NamedTuple):
+    """What is found in a text, or a note on that. The place of a warning is an event; another has no width."""
+    severity: Severity
+    rule: str  # its name. `syntax` of a text that is refused, and `encoding` of bytes that are not UTF-8
+    message: str
+    start: Marker
+    end: Marker
+    notes: Tuple["Finding", ...] = ()
+
+    def __str__(self) -> str:
+        """A line as `check_yaml` prints it, without the file's name."""
+        return f"{self.start}: {self.severity.name.lower()}: {self.message}"
+
+
+class Findings(List[Finding]):
+    """What is found in a text, by places. `passed` tells whether that has no error and, if strict, no warning."""
+    passed: bool
 
 
 class _Fault(ValueError):
@@ -234,21 +262,53 @@ def load(text: Text, **options: Any) -> Optional[Node]:
     return roots[0] if roots else None
 
 
+def _whole(text: Text, name: Optional[str]) -> Tuple[Union[str, bytes, bytearray, memoryview], Optional[str]]:
+    """All of a text, and what it is called."""
+    if isinstance(text, os.PathLike):
+        with open(text, "rb") as file:
+            return file.read(), name or os.fspath(text)
+    if hasattr(text, "read"):
+        return text.read(-1), name or getattr(text, "name", None)
+    return text, name
+
+
 def check_standard(text: Text, *, name: Optional[str] = None) -> Optional[Deviation]:
     """None if the text is YAML 1.2.2, or where it departs from it. Raises `Refused` or `NotUtf8` if it isn't read."""
-    if isinstance(text, os.PathLike):
-        name = name or os.fspath(text)
-        with open(text, "rb") as file:
-            text = file.read()
-    elif hasattr(text, "read"):
-        name = name or getattr(text, "name", None)
-        text = text.read(-1)
+    text, name = _whole(text, name)
     answer = _saphyr_parser.standard(text)
     if isinstance(answer, int):
         for _ in events(text, name=name):
             pass
         raise MemoryError("there is no memory to tell whether the text is YAML 1.2.2")
     return answer and Deviation(*answer)
+
+
+def _finding(severity: int, rule: str, message: str, start: Marker, end: Marker, notes: List[Any]) -> Finding:
+    return Finding(Severity(severity), rule, message, start, end, tuple(_finding(*it) for it in notes))
+
+
+def _rule(name: str) -> int:
+    """The bit of the rule with this name."""
+    if name not in RULES:
+        raise ValueError(f"there is no rule {name!r}: the rules are {', '.join(RULES)}")
+    return 1 << RULES.index(name)
+
+
+def check(text: Text, *, standard: bool = False, strict: bool = False, disable: Iterable[str] = (),
+          max_depth: Optional[int] = None, max_findings: Optional[int] = None,
+          max_nodes: Optional[int] = None) -> Findings:
+    """What the program `check_yaml` finds in a text: errors and warnings, in the order of their places.
+
+    The options have the names of the program's: `standard` also finds where the text departs from YAML 1.2.2, `strict`
+    lets a warning count as an error in `passed`, and `disable` leaves out the warnings of some rules. `max_findings` is
+    how many warnings are found at most, and with `standard` how many places. A limit of 0 counts as 1.
+    """
+    disabled = sum(_rule(name) for name in set(disable))
+    limits = (0 if most is None else max(most, 1) for most in (max_depth, max_findings, max_nodes))
+    passed, found = _saphyr_parser.check(_whole(text, None)[0], standard, strict, disabled, *limits)
+    findings = Findings(_finding(*it) for it in found)
+    findings.passed = passed
+    return findings
 
 
 def _is_merge(key: Node) -> bool:

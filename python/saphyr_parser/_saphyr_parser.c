@@ -790,6 +790,76 @@ static PyObject *standard(PyObject *module, PyObject *text) {
     return Py_BuildValue("NNN", marker_of(place_of(found.place)), text_of(found.rule), text_of(found.sentence));
 }
 
+static int next_found(saphyr_findings *found, saphyr_finding *it, bool is_note) {
+    int32_t status = is_note ? saphyr_next_note(found, it) : saphyr_next_finding(found, it);
+    if (status == SAPHYR_NO_MEMORY) {
+        PyErr_NoMemory();
+        return -1;
+    }
+    return status == SAPHYR_FINDING;
+}
+
+/* The findings that are left, or the notes on the last, each as a tuple of the fields of `Finding`. */
+static PyObject *list_found(saphyr_findings *found, bool are_notes) {
+    PyObject *list = PyList_New(0);
+    saphyr_finding it = {0};
+    int is_there = 0;
+    while (list && (is_there = next_found(found, &it, are_notes)) > 0) {
+        PyObject *rule = text_of(it.rule), *message = text_of(it.message);
+        PyObject *start = marker_of(place_of(it.start)), *end = marker_of(place_of(it.end));
+        PyObject *notes = are_notes ? PyList_New(0) : list_found(found, true);
+        PyObject *one = Py_BuildValue("iNNNNN", (int)it.severity, rule, message, start, end, notes);
+        if (!one || PyList_Append(list, one)) {
+            Py_CLEAR(list);
+        }
+        Py_XDECREF(one);
+    }
+    if (is_there < 0) {
+        Py_CLEAR(list);
+    }
+    return list;
+}
+
+/* check(text, standard, strict, disabled, most_depth, most_findings, most_nodes): whether the text passes, and what is
+   found. `disabled` has the bit of each rule that is off, in the order of the header. */
+static PyObject *check(PyObject *module, PyObject *args) {
+    (void)module;
+    PyObject *text, *bytes, *list;
+    int standard_too, strict;
+    unsigned int disabled;
+    Py_ssize_t depth, findings, nodes, len;
+    char *at;
+    if (!PyArg_ParseTuple(args, "OppInnn", &text, &standard_too, &strict, &disabled, &depth, &findings, &nodes)) {
+        return NULL;
+    }
+    saphyr_check_options options = {0};
+    options.standard = standard_too;
+    options.strict = strict;
+    bool *const rules[] = {&options.disable.alias_in_itself, &options.disable.duplicate_key,
+                           &options.disable.empty_document,  &options.disable.max_depth,
+                           &options.disable.max_nodes,       &options.disable.wide_alias};
+    for (size_t i = 0; i < sizeof rules / sizeof *rules; i++) {
+        *rules[i] = disabled >> i & 1;
+    }
+    options.max_depth = (size_t)depth;
+    options.max_findings = (size_t)findings;
+    options.max_nodes = (size_t)nodes;
+    bytes = bytes_of(text);
+    if (!bytes || PyBytes_AsStringAndSize(bytes, &at, &len)) {
+        Py_XDECREF(bytes);
+        return NULL;
+    }
+    saphyr_findings found = {0};
+    int32_t status;
+    Py_BEGIN_ALLOW_THREADS
+    status = saphyr_check((const uint8_t *)at, (size_t)len, &options, &found);
+    Py_END_ALLOW_THREADS
+    Py_DECREF(bytes);
+    list = status == SAPHYR_NO_MEMORY ? PyErr_NoMemory() : list_found(&found, false);
+    saphyr_free_findings(&found);
+    return list ? Py_BuildValue("NN", PyBool_FromLong(status == SAPHYR_OK), list) : NULL;
+}
+
 /* use(Kind, Style, Marker, Event, fault, NotUtf8): what the package has in Python. */
 static PyObject *use(PyObject *module, PyObject *args) {
     (void)module;
@@ -830,7 +900,8 @@ static PyGetSetDef of_mapping[] = {EACH, ATTRIBUTE("pairs", PAIRS, "All keys wit
 static PyMethodDef node_calls[] = {{"__reduce__", reduce, METH_NOARGS, NULL}, {NULL, NULL, 0, NULL}};
 static PyMethodDef reader_calls[] = {
     {"close", close_reader, METH_NOARGS, "Ends the reading, and frees the parser."}, {NULL, NULL, 0, NULL}};
-static PyMethodDef calls[] = {{"read", read_text, METH_VARARGS, NULL},
+static PyMethodDef calls[] = {{"check", check, METH_VARARGS, NULL},
+                              {"read", read_text, METH_VARARGS, NULL},
                               {"standard", standard, METH_O, NULL},
                               {"use", use, METH_VARARGS, NULL},
                               {NULL, NULL, 0, NULL}};

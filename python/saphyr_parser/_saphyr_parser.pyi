@@ -20,6 +20,8 @@ class Mapping(Dict[Node, Node], _Node):
     pairs: List[Tuple[Node, Node]]
     def __hash__(self) -> int: ...  # type: ignore[override]
 
+def check(text: Union[str, bytes, bytearray, memoryview], standard: bool, strict: bool, disabled: int, max_depth: int,
+          max_findings: int, max_nodes: int, /) -> Tuple[bool, List[Tuple[int, str, str, Marker, Marker, List[Any]]]]: ...
 def read(text: Any, name: Optional[str], close: Optional[Callable[[], None]], trees: bool, keep_tags: bool,
          nodes: Optional[int], depth: Optional[int], most_characters: Optional[int],
          most_waiting: Optional[int], /) -> Any: ...

@@ -1,6 +1,6 @@
 //! Safe functions over the calls of the static library.
 //!
-//! This file and `face/trees.rs` are the crate's only ones with `unsafe` in them. `saphyr_parser.h`, next to the
+//! This file and those of `face` are the crate's only ones with `unsafe` in them. `saphyr_parser.h`, next to the
 //! library's sources, says what a caller must do: zero each structure first, pass no null pointer, use a parser
 //! in one call at a time, keep the text unchanged where it is until the parser over it is freed, and give
 //! `saphyr_new_utf8` only UTF-8. Of a text that comes in pieces the library has a copy. In return, the texts of an
@@ -8,6 +8,7 @@
 //! that wrote them, so none is left when the next call comes. If the caller's text contains such a text as it is, it is
 //! borrowed from there instead. The texts of a rule stay where they are.
 
+pub mod check;
 pub mod trees;
 
 use crate::encoding::NotUtf8;

@@ -32,6 +32,7 @@ mod encoding;
 mod event;
 #[allow(unsafe_code)]
 mod face;
+mod findings;
 pub mod input;
 mod parser;
 mod parts;
@@ -42,6 +43,7 @@ mod standard;
 pub use crate::encoding::NotUtf8;
 pub use crate::event::{Event, EventReceiver, SpannedEventReceiver, Tag};
 pub use crate::face::trees::{Documents, Limits, LoadError, Merged, Node, NodeKind, Trees};
+pub use crate::findings::{check, CheckOptions, Finding, Findings, Rule, Severity};
 pub use crate::input::{str::StrInput, BufferedInput, Input};
 pub use crate::parser::Parser;
 pub use crate::scanner::{Marker, ScalarStyle, ScanError, Span};
