@@ -5,8 +5,9 @@
 
 Builds the C programs of tests/faces and the crate of rust/, and runs each case of crates/test_cases/data through
 both: their events and places are to be the case's, and its lines those that `dump_events` prints. Cut at lines, before
-their ends or at bytes, each event has to be there when the rule of tests/prompt.py says. The C face is misused, each
-request for memory over the worked texts is refused in turn, and where valgrind is there, it looks for leaks. Where
+their ends or at bytes, each event has to be there when the rule of tests/prompt.py says. In the texts of
+tests/findings.py both find what `check_yaml` finds. The C face is misused, each request for memory over the worked
+texts and those is refused in turn, and where valgrind is there, it looks for leaks. Where
 there is no compiler of C or no cargo, it says so, tests nothing and fails, unless the variable SKIP_MISSING is set.
 SAPHYR_PARSER_LIB may name another folder with the library, as an absolute path.
 """
@@ -19,16 +20,18 @@ import subprocess
 import sys
 import tempfile
 
+import findings
 import prompt
 from refused_memory import DATA, ROOT, cases_of, judge_lines, program, refuser, sweep, unescaped
 
 CRATE = f"{ROOT}/crates/saphyr_parser_c"
-PROGRAMS = ("cases", "dump_events", "misuse", "pieces", "refusals", "trees")
+PROGRAMS = ("cases", "dump_events", "findings", "misuse", "pieces", "refusals", "trees")
 PIECES = (1, 2, 3, 4096, "cuts")  # bytes, or two pieces, cut at each place
 CUTS = ("lines", "ends", "odd", "even", "bytes")  # the pieces with which an event has to be there in time
 REFUSED_PIECES = (0, 2, 4096)  # 0: the whole text
 HOW = ["-std=c11", "-D_GNU_SOURCE", "-O2", "-Wall", "-Wextra", f"-I{CRATE}"]
-WRAP = [f"-Wl,--wrap={name}" for name in ("malloc", "realloc", "free")]  # two programs refuse by functions of their own
+WRAP = [f"-Wl,--wrap={name}" for name in ("malloc", "realloc", "free")]
+WRAPPED = ("findings", "refusals", "trees")  # these refuse by functions of their own
 VALGRIND = ["valgrind", "-q", "--error-exitcode=99", "--leak-check=full", "--errors-for-leak-kinds=definite,indirect"]
 FAILED = []
 
@@ -87,7 +90,7 @@ def built(folder, compiler):
     made, to_link = {}, libraries()
     for name in PROGRAMS:
         made[name] = f"{folder}/{name}"
-        wrap = WRAP if name in ("refusals", "trees") else []
+        wrap = WRAP if name in WRAPPED else []
         call([compiler, *HOW, *wrap, f"{ROOT}/tests/faces/{name}.c", *to_link, "-o", made[name]], ROOT)
     cargo("build", "--example", "dump_events")
     made["rust"] = os.environ.get("CARGO_TARGET_DIR", f"{ROOT}/rust/target") + "/release/examples/dump_events"
@@ -174,6 +177,25 @@ def check_trees(made, cases):
         fail(f"trees, status {ran.returncode}: {wrong[:9] or count}")
 
 
+def check_findings(made, folder, pool):
+    """What is found in texts, in C and in Rust, with each options. How many requests were refused in C."""
+    asked = [(options, text) for options in findings.OPTIONS for text in findings.texts()]
+    wanted = list(pool.map(lambda it: findings.found_by(program("check_yaml"), *it), asked))
+    frames = [options.framed(text) for options, text in asked]
+    ran = subprocess.run([made["findings"]], input=b"".join(frames), capture_output=True)
+    *answers, last = ran.stdout.split(b"\xff")
+    if ran.returncode or len(answers) != len(asked) or not last.strip().isdigit():
+        fail(f"findings, status {ran.returncode}, behind {len(answers)} of {len(asked)} texts: {last.decode()}")
+    for (options, text), one, answer in zip(asked, wanted, answers):
+        if one != answer:
+            fail(f"{options} of {text!r}, in C: {answer.decode()!r}, and not {one.decode()!r}")
+    with open(f"{folder}/wanted", "wb") as it:
+        it.writelines(frame.replace(b"\n", b" %d\n" % len(one), 1) + one for frame, one in zip(frames, wanted))
+    os.environ["FINDINGS"] = f"{folder}/wanted"
+    cargo("test", "--test", "findings")
+    return int(last) if last.strip().isdigit() else 0
+
+
 def check_lines(case):
     """What the program `dump_events` prints of a case are its lines."""
     ran = subprocess.run([program("dump_events")], input=case.text.encode(), capture_output=True, close_fds=False)
@@ -223,6 +245,7 @@ def look_for_leaks(made, cases):
     texts = [case for case in cases if case.name in ("worked 001", "worked 004", "worked 043")]
     runs = [("misuse", b""), *((name, b"".join(map(framed, cases))) for name in ("cases", "pieces", "trees"))]
     runs += [(name, case.text.encode()) for name in ("dump_events", "rust") for case in texts]
+    runs.append(("findings", b"".join(findings.Options().framed(text) for text in findings.OTHERS[:9])))
     for name, text in runs:
         ran = subprocess.run([*VALGRIND, made[name]], input=text, capture_output=True)
         if ran.returncode not in (0, 1):
@@ -257,6 +280,7 @@ def main():
         swept = [case for case in worked if not case.keeps_tags]
         refused = sum(pool.map(lambda case: refuse_each(made, library, case), swept))
         refused += sum(pool.map(lambda count: refuse_in_process(made, count, worked), REFUSED_PIECES))
+        refused += check_findings(made, folder, pool)
         leaks = "no valgrind"
         if shutil.which("valgrind"):
             look_for_leaks(made, worked)

@@ -33,9 +33,9 @@ from release_pages import block, blocks, files_below, read, wrong_links, wrong_m
 TEXT = b"name: &it !!str 'parser'\nports: [80, \"443\", *it]\n"
 SCALARS = b"1:1 name\n1:7 parser\n2:1 ports\n2:9 80\n2:13 443\n"
 FIRST = b"1:1 ports\n1:9 80\n1:13 443\n"  # what the programs of the README print
-CALLS = ["add", "anchored", "check_standard", "clone", "count", "describe", "expanded", "follow", "free", "get", "item",
-         "keep_tags", "key", "load", "load_next", "new", "new_pieces", "new_utf8", "next", "peek", "root", "valid_up_to",
-         "value", "version"]
+CALLS = ["add", "anchored", "check", "check_standard", "clone", "count", "describe", "expanded", "follow", "free",
+         "free_findings", "get", "item", "keep_tags", "key", "load", "load_next", "new", "new_pieces", "new_utf8", "next",
+         "next_finding", "next_note", "peek", "root", "valid_up_to", "value", "version"]
 # What the example `config` prints. The last item is an alias.
 PATHS = b".name = parser (1:7)\n.ports[0] = 80 (2:9)\n.ports[1] = 443 (2:13)\n.ports[2] = parser (1:7)\n"
 STRICT = ["-Wall", "-Wextra", "-pedantic", "-Werror"]
@@ -50,6 +50,8 @@ int main(void) {
     saphyr_parser parser = NOTHING;
     saphyr_event event = NOTHING;
     saphyr_deviation deviation = NOTHING;
+    saphyr_findings findings = NOTHING;
+    saphyr_finding finding = NOTHING;
     int32_t (*make)(const uint8_t *, size_t, bool, saphyr_parser *) = saphyr_new;
     int32_t status = saphyr_new(NULL, 0, false, &parser);
     int kinds = 0;
@@ -60,6 +62,9 @@ int main(void) {
     status |= saphyr_new_utf8(NULL, 0, false, &parser) | saphyr_new_pieces(false, 0, 0, &parser);
     status |= saphyr_add(&parser, (const uint8_t *)"a", 1) | saphyr_add(&parser, NULL, 0);
     status |= make((const uint8_t *)"a", 1, false, &parser) | saphyr_check_standard(NULL, 0, &deviation);
+    status |= saphyr_check(NULL, 0, NULL, &findings) | saphyr_next_finding(&findings, &finding);
+    saphyr_free_findings(&findings);
+    saphyr_free_findings(NULL);
     saphyr_free(&parser);
     return status || kinds != 12 || saphyr_valid_up_to(NULL, 0) || !*saphyr_status_text(SAPHYR_MORE);
 }

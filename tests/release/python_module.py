@@ -2,8 +2,8 @@
 
     PYTHON tests/release/python_module.py [ROUNDS]
 
-PYTHON is one in which the package is installed. Prints what is not a case's, and how many cases there are. Then it
-tries what a caller may do: copies, files, limits, faults, threads, and readers that are closed half way, 1,000 times
+PYTHON is one in which the package is installed. Prints what is not a case's, and how many cases there are. What is
+found in the texts of tests/findings.py is what `check_yaml` finds, as it is in out/ of its crate. Then it tries what a caller may do: copies, files, limits, faults, threads, and readers that are closed half way, 1,000 times
 or ROUNDS, after which no memory may be lost. With ROUNDS the cases are left out, so that valgrind can watch.
 """
 import copy
@@ -19,8 +19,9 @@ import typing
 
 sys.path.insert(0, os.path.dirname(os.path.dirname(os.path.abspath(__file__))))
 
+import findings  # noqa: E402
 import saphyr_parser  # noqa: E402
-from refused_memory import DATA, ROOT, cases_of, unescaped  # noqa: E402
+from refused_memory import DATA, ROOT, cases_of, program, unescaped  # noqa: E402
 from saphyr_parser import Kind, Mapping, Scalar, Sequence  # noqa: E402
 
 NAMES = " +STR -STR +DOC -DOC =ALI =VAL +SEQ -SEQ +MAP -MAP".split(" ")
@@ -198,10 +199,40 @@ def check_calls():
     expect(saphyr_parser.check_standard(b"a: []"), None, "a text that is")
     expect(raised(lambda: saphyr_parser.check_standard("- [a"))[:12], "Refused: 2:1", "a text that is refused")
     # an older one can't evaluate `os.PathLike[str]`
-    for call in ("events", "load_all", "load", "check_standard", "merged") if sys.version_info > (3, 9) else ():
+    for call in ("events", "load_all", "load", "check", "check_standard", "merged") if sys.version_info > (3, 9) else ():
         expect("return" in typing.get_type_hints(getattr(saphyr_parser, call)), True, f"the hints of {call}")
     with open(f"{ROOT}/VERSION") as file:
         expect(saphyr_parser.__version__, file.read().strip(), "the version")
+
+
+def lines_found(text, options):
+    """What is found in a text, as the programs of the other faces print it."""
+    found = saphyr_parser.check(text, **{name: it for name, it in options._asdict().items() if it})
+    flat = [it for finding in found for it in (finding, *finding.notes)]
+    lines = (f"{it.start}-{it.end} {it.severity.value} {it.rule} {it.message}\n" for it in flat)
+    return ("passes\n" if found.passed else "fails\n") + "".join(lines)
+
+
+def check_findings():
+    """Each text with each option, and how a text is given and a finding prints."""
+    checker = program("check_yaml")
+    for options in findings.OPTIONS:
+        for text in findings.texts():
+            wanted = findings.found_by(checker, options, text).decode()
+            expect(lines_found(text, options), wanted, f"{options} of {text!r}")
+    text = "a: 1\na: 'b\n"
+    said = ["2:1: warning: duplicate key; first at 1:1", "2:4: error: "]
+    found = saphyr_parser.check(text)
+    expect([str(it)[: len(wanted)] for it, wanted in zip(found, said)], said, "how findings print")
+    for given in (text.encode(), bytearray(text.encode()), io.StringIO(text), io.BytesIO(text.encode())):
+        expect(saphyr_parser.check(given), found, f"the findings of a {type(given).__name__}")
+    with tempfile.TemporaryDirectory() as folder:
+        path = pathlib.Path(folder, "a.yaml")
+        path.write_bytes(text.encode())
+        expect(saphyr_parser.check(path), found, "the findings of a file")
+    said = "ValueError: there is no rule 'keys': the rules are "
+    expect(raised(lambda: saphyr_parser.check("", disable=["keys"]))[: len(said)], said, "a rule that isn't there")
+    expect(raised(lambda: saphyr_parser.check(5))[:10], "TypeError:", "what is no text")
 
 
 class Raises:
@@ -236,6 +267,7 @@ def one_round(number):
         assert list(half) == []
         next(make(io.StringIO(TREES)))
     for text in FAULTS:
+        assert not saphyr_parser.check(text).passed
         for make in (saphyr_parser.events, saphyr_parser.load_all):
             assert raised(lambda: list(make(text))).startswith(("Refused", "NotUtf8"))
             in_pieces = io.BytesIO(text if isinstance(text, bytes) else text.encode())
@@ -274,6 +306,8 @@ def check_threads(times):
             if saphyr_parser.load(text) != wanted or list(saphyr_parser.events(text)) != events:
                 others.append("another answer")
             saphyr_parser.check_standard(text)
+            if not saphyr_parser.check(text).passed:
+                others.append("a text that does not pass")
 
     def read_shared():
         try:
@@ -299,6 +333,8 @@ def main():
     check_values()
     check_faults()
     check_calls()
+    if not rounds:
+        check_findings()
     check_rounds(rounds or 1000)
     check_threads(1 if rounds else 3)
     print(f"{len(cases)} cases, {len(FAILED)} answered otherwise")
