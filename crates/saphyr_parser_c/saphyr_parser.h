@@ -70,7 +70,8 @@
  *    child of a process with threads.
  *
  * What the library does. The texts of an event may be read until the next call with the same parser, and no longer; so
- * may those of a finding or a note until the next call with the same saphyr_findings.
+ * may the message of a finding or a note until the next call with the same saphyr_findings. The name of its rule is the
+ * library's own, and may be read as long as the program runs.
  * Those that saphyr_describe gave may be read until saphyr_load, saphyr_load_next or saphyr_free gets the parser, or a
  * call that makes another parser in its handle. For saphyr_next the contract says that the addresses are those of
  * memory that the parser keeps until then. Only the code shows the same of saphyr_peek and saphyr_describe, and that no
@@ -293,7 +294,8 @@ typedef struct saphyr_finding {
     int32_t severity;
     /* Where it is. */
     saphyr_marker start;
-    /* Where that ends: of a warning the end of the event that it is on, and else the start again. */
+    /* Where that ends: of a warning, and of the note on those that are left out, the end of an event; else the start
+       again. */
     saphyr_marker end;
     /* The name of the rule, as `duplicate-key`: `syntax` of a text that is refused, `encoding` of bytes that are not
        UTF-8. The page CHECK_YAML.md has them. */
@@ -494,8 +496,8 @@ int32_t saphyr_check_standard(const uint8_t *text, size_t len, saphyr_deviation 
 int32_t saphyr_check(const uint8_t *text, size_t len, const saphyr_check_options *options, saphyr_findings *findings);
 
 /*
- * Hands out the next finding: errors and warnings, in the order of their places. The notes that were left on the
- * finding before it are passed over.
+ * Hands out the next finding: an error, a warning or, if some of these are left out, a note that says how many, in the
+ * order of their places. The notes that were left on the finding before it are passed over.
  *
  * Returns SAPHYR_FINDING, SAPHYR_END, SAPHYR_NO_MEMORY or SAPHYR_NOT_CHECKED.
  */

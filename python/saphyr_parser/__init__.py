@@ -113,7 +113,7 @@ class Severity(enum.IntEnum):
 
 
 class Finding(NamedTuple):
-    """What is found in a text, or a note on that. The place of a warning is an event; another has no width."""
+    """What is found in a text, or a note on that. Only a warning, and the note on those left out, has a width."""
     severity: Severity
     rule: str  # its name. `syntax` of a text that is refused, and `encoding` of bytes that are not UTF-8
     message: str
@@ -297,11 +297,14 @@ def _rule(name: str) -> int:
 def check(text: Text, *, standard: bool = False, strict: bool = False, disable: Iterable[str] = (),
           max_depth: Optional[int] = None, max_findings: Optional[int] = None,
           max_nodes: Optional[int] = None) -> Findings:
-    """What the program `check_yaml` finds in a text: errors and warnings, in the order of their places.
+    """What the program `check_yaml` finds in a text: errors, warnings and, if some are left out, a note on how many.
+
+    They are in the order of their places.
 
     The options have the names of the program's: `standard` also finds where the text departs from YAML 1.2.2, `strict`
     lets a warning count as an error in `passed`, and `disable` leaves out the warnings of some rules. `max_findings` is
-    how many warnings are found at most, and with `standard` how many places. A limit of 0 counts as 1.
+    how many warnings are found at most, and with `standard` how many places. A limit of 0 counts as 1,
+    other than there.
     """
     disabled = sum(_rule(name) for name in set(disable))
     limits = (0 if most is None else max(most, 1) for most in (max_depth, max_findings, max_nodes))

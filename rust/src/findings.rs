@@ -44,7 +44,8 @@ pub enum Rule {
     WideAlias,
 }
 
-/// How a text is checked, by the names of the options of `check_yaml`. A limit of 0 counts as 1.
+/// How a text is checked, by the names of the options of `check_yaml`. A limit of 0 counts as 1, other than
+/// there.
 #[derive(Clone, Debug, Default, PartialEq, Eq)]
 pub struct CheckOptions {
     /// Also finds where the text departs from YAML 1.2.2.
@@ -105,7 +106,7 @@ pub struct Finding {
     pub rule: &'static str,
     /// What it says.
     pub message: String,
-    /// Where it is. That of a warning is an event; another has no width.
+    /// Where it is. Only a warning, and the note on those that are left out, has a width: that of an event.
     pub span: Span,
     /// What more is known, such as what to write, or the words of the parser's fault. A note has none.
     pub notes: Vec<Finding>,
@@ -126,7 +127,7 @@ impl fmt::Display for Finding {
 pub struct Findings {
     /// Whether the text has no error and, if the options are strict, no warning.
     pub passed: bool,
-    /// Errors and warnings, in the order of their places.
+    /// Errors, warnings and, if some of these are left out, a note that says how many, in the order of their places.
     pub list: Vec<Finding>,
 }
 

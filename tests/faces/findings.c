@@ -1,8 +1,8 @@
 /*
- * What saphyr_check finds in texts, and the misuse of its calls. Prints of each text whether it passes, and its findings
- * with their notes, each as a line: the places from and to, the severity, the rule and the message. Checks each text
- * with every request for memory refused in turn too, and makes a call that was refused again: none is lost or doubled,
- * and all memory is freed. Prints what is wrong, and at last how many requests were refused.
+ * What saphyr_check finds in texts, and the misuse of its calls. Prints of each text whether it passes, and a line for
+ * each finding and each note: the places from and to, the severity, the rule and the message. Checks each text with
+ * every request for memory refused in turn too, and makes a call that was refused again: none is lost or doubled, and
+ * all memory is freed. Prints what is wrong, and at last how many requests were refused.
  *
  * A text comes behind a line with the options: whether `standard` and `strict`, the bits of the rules that are off, in
  * the order of the header, the limits of depth, findings and nodes; and how many bytes the text has. Its lines end in

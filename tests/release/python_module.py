@@ -3,8 +3,9 @@
     PYTHON tests/release/python_module.py [ROUNDS]
 
 PYTHON is one in which the package is installed. Prints what is not a case's, and how many cases there are. What is
-found in the texts of tests/findings.py is what `check_yaml` finds, as it is in out/ of its crate. Then it tries what a caller may do: copies, files, limits, faults, threads, and readers that are closed half way, 1,000 times
-or ROUNDS, after which no memory may be lost. With ROUNDS the cases are left out, so that valgrind can watch.
+found in the texts of tests/findings.py is what `check_yaml` finds, as it is in out/ of its crate. Then it tries what a
+caller may do: copies, files, limits, faults, threads, and readers that are closed half way, 1,000 times or ROUNDS,
+after which no memory may be lost. With ROUNDS cases and findings are left out, so that valgrind can watch.
 """
 import copy
 import gc
@@ -199,7 +200,8 @@ def check_calls():
     expect(saphyr_parser.check_standard(b"a: []"), None, "a text that is")
     expect(raised(lambda: saphyr_parser.check_standard("- [a"))[:12], "Refused: 2:1", "a text that is refused")
     # an older one can't evaluate `os.PathLike[str]`
-    for call in ("events", "load_all", "load", "check", "check_standard", "merged") if sys.version_info > (3, 9) else ():
+    hinted = ("events", "load_all", "load", "check", "check_standard", "merged")
+    for call in hinted if sys.version_info > (3, 9) else ():
         expect("return" in typing.get_type_hints(getattr(saphyr_parser, call)), True, f"the hints of {call}")
     with open(f"{ROOT}/VERSION") as file:
         expect(saphyr_parser.__version__, file.read().strip(), "the version")

@@ -66,8 +66,8 @@ impl Held {
             expect(status, END);
             return None;
         }
-        // SAFETY: the call wrote these texts, and no other came since. The library has the rule's name as long as the
-        // program runs.
+        // SAFETY: the call wrote these texts, and no other came since. By the header the rule's name is the library's
+        // own, and may be read as long as the program runs.
         let (rule, message) = unsafe { (record.rule.text(), record.message.text()) };
         Some(Finding {
             severity: severity(record.severity),
