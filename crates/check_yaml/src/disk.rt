@@ -1,10 +1,9 @@
 //! What the system says of files and folders.
 
 use std::alloc::AllocError;
-use std::fs;
 use std::fs::{File, Files};
-use std::io;
 use std::io::{ErrorKind, Read};
+use std::{fs, io};
 use yaml_check::{Entry, FileName, Kind};
 
 /// Opens a file. The kit opens none whose name isn't UTF-8.
@@ -78,7 +77,7 @@ fn push_names(
     Ok(())
 }
 
-// What an entry of a folder is.
+// What an entry of a folder is. Nothing can be asked of one whose path isn't UTF-8: it counts as a file.
 fn kind_of_entry(rt: &HostRuntime, folder: &str, name: &[u8]) -> Result<Kind, AllocError> {
     let mut path = String::from_str(rt.alloc(), folder)?.into_bytes();
     if path.extend_from_slice(name).is_err() {
@@ -86,7 +85,7 @@ fn kind_of_entry(rt: &HostRuntime, folder: &str, name: &[u8]) -> Result<Kind, Al
     }
     Ok(match str::from_utf8(&path) {
         Ok(path) => kind_of_path(rt, path),
-        Err(_) => kind_of_bytes(&path),
+        Err(_) => Kind::File,
     })
 }
 
@@ -108,19 +107,5 @@ fn kind_behind_link(rt: &HostRuntime, path: &str) -> Kind {
     match fs::metadata(rt, path) {
         Ok(found) if !found.is_file() => Kind::Other,
         _ => Kind::File,
-    }
-}
-
-// The same where std asks nothing, since the path isn't UTF-8: whether it is a folder.
-fn kind_of_bytes(path: &[u8]) -> Kind {
-    let folder = os::open_dir_at(libc::AT_FDCWD, path);
-    if folder >= 0 {
-        libc::close(folder);
-        return Kind::Folder;
-    }
-    if os::errno() == libc::EACCES {
-        Kind::Folder
-    } else {
-        Kind::File
     }
 }
