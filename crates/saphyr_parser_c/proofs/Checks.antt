@@ -10,13 +10,13 @@ use Rattle.yaml_check.specs.Statuses.{IsLetPass}
 use Rattle.saphyr_parser_c.specs.declared.found.COptions.{COptions}
 use Rattle.saphyr_parser_c.specs.declared.inner.Inner.{Inner}
 use Rattle.saphyr_parser_c.specs.declared.status.Status.{Status}
-use Rattle.saphyr_parser_c.specs.Check.{Checks, HoldsAtStart, IsChecked, Keeps, TellsVerdict, status_of_check}
+use Rattle.saphyr_parser_c.specs.Check.{ChecksText, HoldsAtStart, IsChecked, KeepsFindings, TellsVerdict, status_of_check}
 use Rattle.saphyr_parser_c.specs.Found.{AreOptions}
 use Rattle.saphyr_parser_c.specs.Status.{code_of}
 
 -- what is held is kept, with the status of whether the text passes
 pub kept : (findings : Findings) (passed : Bool) (inner : Inner) (held : Option Inner) → held ≡ some inner
-    → HoldsAtStart findings inner → Keeps findings passed (status_of_check passed) held
+    → HoldsAtStart findings inner → KeepsFindings findings passed (status_of_check passed) held
 kept findings passed inner held e holds = rw e (refl, holds)
 
 tells : (strict : Bool) (findings : Findings) (passed : Bool)
@@ -27,7 +27,7 @@ tells strict findings false passes = λ lets. false≢true (passes.1 lets)
 module _ (c : COptions) (text : List ℕ) (options : Options) (findings : Findings) where
   pub checks : (passed : Bool) (s : Status) (held : Option Inner) (code : ℤ) → AreOptions c options
       → IsFoundIn options text findings → IsTrue passed ↔ IsLetPass c.strict (Ok findings.verdict)
-      → Keeps findings passed s held → code ≡ code_of s → Checks c text code held
+      → KeepsFindings findings passed s held → code ≡ code_of s → ChecksText c text code held
   checks passed s none code asked found passes keeps is = is ∙ ap code_of keeps
   checks passed s (some inner) code asked found passes keeps is = (
     status_of_check passed,

@@ -12,8 +12,8 @@ use Rattle.yaml_tree.specs.declared.table.Content.TheVariants as content
 use Rattle.yaml_tree.specs.declared.table.Entry.{Entry}
 use Rattle.yaml_tree.specs.declared.table.NodeTable.{NodeTable}
 use Rattle.yaml_tree.specs.Accessing.{is_this_text}
-use Rattle.yaml_tree.specs.Tables.{AreNodes, CountsParts, Event, FindsAnchor, IsMadeOf, IsNodeAt, IsTable, LeadsTo, OfNode, Store, TellsFirst, all_of, begun, count_of, none as no_parts, numbers, one_more, part_at, store_of}
-use Rattle.saphyr_parser_c.specs.Followed.{Follows, FollowsIn, GetsAt, HasKeyText, IsKey, IsPair, IsText, IsThere, LeadsFrom, named_by, named_in, text_in, text_of}
+use Rattle.yaml_tree.specs.Tables.{AreNodes, CountsParts, Event, FindsNumber, IsMadeOf, IsNodeAt, IsTable, HasNumber, OfNode, Store, TellsFirst, all_of, nodes_begun, count_of, none as no_parts, numbers, one_more, part_of_step, store_of}
+use Rattle.saphyr_parser_c.specs.Followed.{FollowsAlias, FollowsIn, GetsAt, HasKeyText, IsKey, IsKeyAndValue, IsKeyText, IsThere, LeadsFrom, named_by, named_in, text_of_first, scalar_text}
 use Rattle.yaml_tree.proofs.Entries.{entry_there, entry_told}
 use Rattle.yaml_tree.proofs.Places.{begun-append, made_once, place_once, start_begins, within}
 
@@ -21,7 +21,7 @@ use Rattle.yaml_tree.proofs.Places.{begun-append, made_once, place_once, start_b
 
 -- the node of a part has its number
 part_placed : (es front behind : List Event) (n : ℕ) (parts : List (List Event)) (i k : ℕ) → AreNodes parts
-    → es ≡ front ++ (all_of parts ++ behind) → begun front ≡ n → slice_get (numbers n parts) i ≡ Some k
+    → es ≡ front ++ (all_of parts ++ behind) → nodes_begun front ≡ n → slice_get (numbers n parts) i ≡ Some k
     → (part : List Event) × IsNodeAt es k part
 part_placed es front behind n _ i k no_parts split first get = cc
 part_placed es front behind n _ zero k (one_more own others node nodes) split first get = (
@@ -36,7 +36,7 @@ part_placed es front behind n _ zero k (one_more own others node nodes) split fi
 )
 part_placed es front behind n _ (suc i) k (one_more own others node nodes) split first get =
     let long = begun-append front own in
-    part_placed es (front ++ own) behind (n + begun own) others i k nodes
+    part_placed es (front ++ own) behind (n + nodes_begun own) others i k nodes
     (split ∙ ap (λ (l : List Event). front ++ l) (append_assoc own (all_of others) behind)
     ∙ sym (append_assoc front own (all_of others ++ behind)))
     (omega (arith, long, first)) get
@@ -52,12 +52,12 @@ get_of xs k None e = cc
 get_of xs k (Some i) e = (i, sym e)
 
 part_there : (es : List Event) (number : ℕ) (own : List Event) (step : Step) (k : ℕ) → IsNodeAt es number own
-    → LeadsTo own number step (Some k) → k < begun es
+    → HasNumber own number step (Some k) → k < nodes_begun es
 part_there es number own step k at leads = elim leads.made [
-  | inl m ↦ absurd (no_part (suc number) k (part_at leads.first.0 step)
-      (subst (λ (ps : List (List Event)). Some k ≡ option_and_then (slice_get (numbers (suc number) ps)) (part_at leads.first.0 step)) m.2 leads.leads))
+  | inl m ↦ absurd (no_part (suc number) k (part_of_step leads.first.0 step)
+      (subst (λ (ps : List (List Event)). Some k ≡ option_and_then (slice_get (numbers (suc number) ps)) (part_of_step leads.first.0 step)) m.2 leads.leads))
   | inr m ↦
-      let get = get_of (numbers (suc number) leads.parts) k (part_at leads.first.0 step) leads.leads in
+      let get = get_of (numbers (suc number) leads.parts) k (part_of_step leads.first.0 step) leads.leads in
       let long = begun-append at.front (leads.first ∷ []) in
       let before = at.first in
       let one = start_begins leads.first.0 m.0 in
@@ -77,12 +77,12 @@ first_named own first parts last (inl m) = ap named_in m.1
 first_named own first parts last (inr m) = ap named_in m.1
 
 first_text : (own : List Event) (first : Event) (parts : List (List Event)) (last : Event)
-    → IsMadeOf own first parts last → text_in own ≡ text_of first.0
-first_text own first parts last (inl m) = ap text_in m.1
-first_text own first parts last (inr m) = ap text_in m.1
+    → IsMadeOf own first parts last → text_of_first own ≡ scalar_text first.0
+first_text own first parts last (inl m) = ap text_of_first m.1
+first_text own first parts last (inr m) = ap text_of_first m.1
 
 pub follows_none : (table : NodeTable) (number : ℕ) (r : Option ℕ) → None ≡ slice_get table.entries.items number
-    → r ≡ None → Follows number r table
+    → r ≡ None → FollowsAlias number r table
 follows_none table number r none is = (
   λ es t less. absurd (entry_there es table number t less (sym none)),
   λ _. is,
@@ -90,7 +90,7 @@ follows_none table number r none is = (
 
 pub follows_alias : (table : NodeTable) (number id : ℕ) (e : Entry) (r : Option ℕ)
     → Some e ≡ slice_get table.entries.items number → e.content ≡ content.Alias id
-    → ((es : List Event) → IsTable es table → FindsAnchor es id r) → Follows number r table
+    → ((es : List Event) → IsTable es table → FindsNumber es id r) → FollowsAlias number r table
 follows_alias table number id e r there is finds = (
   λ es t less.
       let own = entry_told es table number e t (sym there) in
@@ -113,7 +113,7 @@ no_alias s (content.Sequence row number) h told never = ap named_by told.2
 no_alias s (content.Mapping row number) h told never = ap named_by told.2
 
 pub follows_itself : (table : NodeTable) (number : ℕ) (e : Entry) → Some e ≡ slice_get table.entries.items number
-    → ((id : ℕ) → e.content ≡ content.Alias id → ⊥) → Follows number (Some number) table
+    → ((id : ℕ) → e.content ≡ content.Alias id → ⊥) → FollowsAlias number (Some number) table
 follows_itself table number e there never = (
   λ es t less.
       let own = entry_told es table number e t (sym there) in
@@ -126,25 +126,25 @@ follows_itself table number e there never = (
   λ none. let e = there ∙ none in cc,
 )
 
-anchor_there : (es : List Event) (id n : ℕ) → FindsAnchor es id (Some n) → n < begun es
+anchor_there : (es : List Event) (id n : ℕ) → FindsNumber es id (Some n) → n < nodes_begun es
 anchor_there es zero n found = cc
 anchor_there es (suc id) n found = within es n found.0 found.1
 
-leads_there : (es : List Event) (number n : ℕ) (o : Option ℕ) → number < begun es → LeadsFrom es number o (Some n)
-    → n < begun es
+leads_there : (es : List Event) (number n : ℕ) (o : Option ℕ) → number < nodes_begun es → LeadsFrom es number o (Some n)
+    → n < nodes_begun es
 leads_there es number n (Some id) less found = anchor_there es id n found
 leads_there es number n None less same = let e = same_Some n number same in omega (arith, e, less)
 
 -- what is followed is there
 pub follows_there : (es : List Event) (table : NodeTable) (number : ℕ) (r : Option ℕ) → IsTable es table
-    → number < begun es → Follows number r table → IsThere es r
+    → number < nodes_begun es → FollowsAlias number r table → IsThere es r
 follows_there es table number None t less f = tt
 follows_there es table number (Some n) t less f =
     let in_es = f.0 es t less in leads_there es number n (named_in in_es.0) less in_es.2
 
 pub followed_there : (es : List Event) (table : NodeTable) (number n : ℕ) → IsTable es table
-    → Follows number (Some n) table → n < begun es
-followed_there es table number n t f = elim (cases_lt number (begun es)) [
+    → FollowsAlias number (Some n) table → n < nodes_begun es
+followed_there es table number n t f = elim (cases_lt number (nodes_begun es)) [
   | inl l ↦ follows_there es table number (Some n) t l f
   | inr m ↦
       let long = t.nodes in
@@ -155,8 +155,8 @@ followed_there es table number n t f = elim (cases_lt number (begun es)) [
 
 pub is_text : (es : List Event) (table : NodeTable) (text : List ℕ) (number : ℕ) (e : Entry) (b : Bool) → IsTable es table
     → Some e ≡ slice_get table.entries.items number
-    → ((h : Happening) → TellsFirst (store_of table) e.content h → b ≡ is_this_text text (text_of h))
-    → IsText es text (Some number) b
+    → ((h : Happening) → TellsFirst (store_of table) e.content h → b ≡ is_this_text text (scalar_text h))
+    → IsKeyText es text (Some number) b
 is_text es table text number e b t there is =
     let own = entry_told es table number e t (sym there) in
     let s = own.2 in (
@@ -167,44 +167,44 @@ is_text es table text number e b t there is =
     )
 
 pub no_text : (es : List Event) (table : NodeTable) (text : List ℕ) (number : ℕ) (b : Bool) → IsTable es table
-    → number < begun es → None ≡ slice_get table.entries.items number → IsText es text (Some number) b
+    → number < nodes_begun es → None ≡ slice_get table.entries.items number → IsKeyText es text (Some number) b
 no_text es table text number b t less none =
     absurd (entry_there es table number t less (sym none))
 
-leads_once : (own : List Event) (number : ℕ) (step : Step) (r q : Option ℕ) → LeadsTo own number step r
-    → LeadsTo own number step q → r ≡ q
+leads_once : (own : List Event) (number : ℕ) (step : Step) (r q : Option ℕ) → HasNumber own number step r
+    → HasNumber own number step q → r ≡ q
 leads_once own number step r q a b =
     let same = made_once own a.first b.first a.parts b.parts a.last b.last a.made b.made in
-    a.leads ∙ ap (λ (e : Event). option_and_then (slice_get (numbers (suc number) a.parts)) (part_at e.0 step)) same.0
-    ∙ ap (λ (ps : List (List Event)). option_and_then (slice_get (numbers (suc number) ps)) (part_at b.first.0 step)) same.1
+    a.leads ∙ ap (λ (e : Event). option_and_then (slice_get (numbers (suc number) a.parts)) (part_of_step e.0 step)) same.0
+    ∙ ap (λ (ps : List (List Event)). option_and_then (slice_get (numbers (suc number) ps)) (part_of_step b.first.0 step)) same.1
     ∙ sym b.leads
 
 leads_in : (es own : List Event) (number : ℕ) (step : Step) (r : Option ℕ) (table : NodeTable) → IsTable es table
-    → IsNodeAt es number own → OfNode table number (λ (own : List Event). LeadsTo own number step r)
-    → LeadsTo own number step r
+    → IsNodeAt es number own → OfNode table number (λ (own : List Event). HasNumber own number step r)
+    → HasNumber own number step r
 leads_in es own number step r table t at leads =
     let there = leads es t (within es number own at) in
-    subst (λ (l : List Event). LeadsTo l number step r) (place_once es number there.0 own there.1 at) there.2
+    subst (λ (l : List Event). HasNumber l number step r) (place_once es number there.0 own there.1 at) there.2
 
 -- the key of this number is the one at an index
 pub is_key : (es own : List Event) (text : List ℕ) (whole index number : ℕ) (r : Option ℕ) (table : NodeTable) (b : Bool)
     → IsTable es table → IsNodeAt es whole own
-    → OfNode table whole (λ (own : List Event). LeadsTo own whole (Key index) (Some number)) → Follows number r table
-    → (IsThere es r → IsText es text r b) → IsKey es text own whole index b
+    → OfNode table whole (λ (own : List Event). HasNumber own whole (Key index) (Some number)) → FollowsAlias number r table
+    → (IsThere es r → IsKeyText es text r b) → IsKey es text own whole index b
 is_key es own text whole index number r table b t at leads follows is =
     let key = leads_in es own whole (Key index) (Some number) table t at leads in
     let less = part_there es whole own (Key index) number at key in
     let has : HasKeyText es text number b = (r, follows.0 es t less, is (follows_there es table number r t less follows)) in
     by b key has
   where
-    by : (b : Bool) → LeadsTo own whole (Key index) (Some number) → HasKeyText es text number b → IsKey es text own whole index b
+    by : (b : Bool) → HasNumber own whole (Key index) (Some number) → HasKeyText es text number b → IsKey es text own whole index b
     by true key has = (number, key, has)
     by false key has = λ other leads.
         let same = same_Some number other (leads_once own whole (Key index) (Some number) (Some other) key leads) in
         subst (λ (n : ℕ). HasKeyText es text n false) same has
 
 pub no_key : (es own : List Event) (text : List ℕ) (whole index : ℕ) (table : NodeTable) → IsTable es table
-    → IsNodeAt es whole own → OfNode table whole (λ (own : List Event). LeadsTo own whole (Key index) None)
+    → IsNodeAt es whole own → OfNode table whole (λ (own : List Event). HasNumber own whole (Key index) None)
     → IsKey es text own whole index false
 no_key es own text whole index table t at leads = λ key there.
     let none = leads_once own whole (Key index) None (Some key)
@@ -214,7 +214,7 @@ no_key es own text whole index table t at leads = λ key there.
 
 length-numbers : (n : ℕ) (parts : List (List Event)) → length (numbers n parts) ≡ length parts
 length-numbers n [] = refl
-length-numbers n (own ∷ others) = let e = length-numbers (n + begun own) others in omega (arith, e)
+length-numbers n (own ∷ others) = let e = length-numbers (n + nodes_begun own) others in omega (arith, e)
 
 some_within : (xs : List ℕ) (i k : ℕ) → Some k ≡ slice_get xs i → i < length xs
 some_within [] i k e = cc
@@ -227,22 +227,22 @@ none_past (x ∷ xs) zero e = cc
 none_past (x ∷ xs) (suc i) e = let more = none_past xs i e in omega (arith, more)
 
 value_counts : (h : Happening) (xs : List ℕ) (count i v : ℕ) → count ≡ count_of h (length xs)
-    → Some v ≡ option_and_then (slice_get xs) (part_at h (Value i)) → i < count
+    → Some v ≡ option_and_then (slice_get xs) (part_of_step h (Value i)) → i < count
 value_counts (MappingStart id tag) xs count i v is e =
     let less = some_within xs (2 * i + 1) v e in omega (arith, is, less)
 value_counts _ xs count i v is e = cc
 
 value_missing : (h : Happening) (xs : List ℕ) (count i k : ℕ) → count ≡ count_of h (length xs)
-    → Some k ≡ option_and_then (slice_get xs) (part_at h (Key i))
-    → None ≡ option_and_then (slice_get xs) (part_at h (Value i)) → count ≤ i
+    → Some k ≡ option_and_then (slice_get xs) (part_of_step h (Key i))
+    → None ≡ option_and_then (slice_get xs) (part_of_step h (Value i)) → count ≤ i
 value_missing (MappingStart id tag) xs count i k is key e =
     let past = none_past xs (2 * i + 1) e in omega (arith, is, past)
 value_missing _ xs count i k is key e = cc
 
 -- a part's number by the parts that the number of pairs was counted from
 leads_by : (own : List Event) (number count : ℕ) (step : Step) (r : Option ℕ) (c : CountsParts own count)
-    → LeadsTo own number step r
-    → r ≡ option_and_then (slice_get (numbers (suc number) c.parts)) (part_at c.first.0 step)
+    → HasNumber own number step r
+    → r ≡ option_and_then (slice_get (numbers (suc number) c.parts)) (part_of_step c.first.0 step)
 leads_by own number count step r c leads = leads_once own number step r _ leads
     (record { first = c.first; parts = c.parts; last = c.last; made = c.made; leads = refl })
 
@@ -251,14 +251,14 @@ counts_by : (own : List Event) (number count : ℕ) (c : CountsParts own count)
 counts_by own number count c =
     c.counts ∙ ap (count_of c.first.0) (sym (length-numbers (suc number) c.parts))
 
-pair_within : (own : List Event) (number count i v : ℕ) → CountsParts own count → LeadsTo own number (Value i) (Some v)
+pair_within : (own : List Event) (number count i v : ℕ) → CountsParts own count → HasNumber own number (Value i) (Some v)
     → i < count
 pair_within own number count i v c leads =
     value_counts c.first.0 (numbers (suc number) c.parts) count i v (counts_by own number count c)
     (leads_by own number count (Value i) (Some v) c leads)
 
-no_value : (own : List Event) (number count i k : ℕ) → CountsParts own count → LeadsTo own number (Key i) (Some k)
-    → LeadsTo own number (Value i) None → count ≤ i
+no_value : (own : List Event) (number count i k : ℕ) → CountsParts own count → HasNumber own number (Key i) (Some k)
+    → HasNumber own number (Value i) None → count ≤ i
 no_value own number count i k c key value =
     value_missing c.first.0 (numbers (suc number) c.parts) count i k (counts_by own number count c)
     (leads_by own number count (Key i) (Some k) c key) (leads_by own number count (Value i) None c value)
@@ -289,8 +289,8 @@ pub gets_value : (table : NodeTable) (text : List ℕ) (number index count : ℕ
     → NoneBefore table text number index
     → ((es own : List Event) → IsTable es table → IsNodeAt es number own → IsKey es text own number index true)
     → OfNode table number (λ (own : List Event). CountsParts own count)
-    → OfNode table number (λ (own : List Event). LeadsTo own number (Value index) r)
-    → (es : List Event) → IsTable es table → number < begun es → GetsAt es text (Some number) r
+    → OfNode table number (λ (own : List Event). HasNumber own number (Value index) r)
+    → (es : List Event) → IsTable es table → number < nodes_begun es → GetsAt es text (Some number) r
 gets_value table text number index count (Some value) less none here counts leads = λ es t there.
     let own = leads es t there in
     let key = here es own.0 t own.1 in
@@ -303,7 +303,7 @@ gets_value table text number index count None less none here counts leads = λ e
 
 pub gets_none : (table : NodeTable) (text : List ℕ) (number count index : ℕ) → NoneBefore table text number index
     → count ≤ index → OfNode table number (λ (own : List Event). CountsParts own count)
-    → (es : List Event) → IsTable es table → number < begun es → GetsAt es text (Some number) None
+    → (es : List Event) → IsTable es table → number < nodes_begun es → GetsAt es text (Some number) None
 gets_none table text number count index none long counts = λ es t there.
     let own = counts es t there in (
       own.0,

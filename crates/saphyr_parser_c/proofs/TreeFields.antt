@@ -5,7 +5,7 @@ use Rattle.saphyr_scalar.specs.declared.scalar.style.ScalarStyle.{ScalarStyle}
 use Rattle.saphyr_scalar.specs.declared.scalar.style.ScalarStyle.TheVariants as styles
 use Rattle.saphyr_parser.specs.Events.{ResolvedTag, Scalar}
 use Rattle.yaml_tree.specs.declared.table.TagRows.{TagRows}
-use Rattle.yaml_tree.specs.Tables.{IsTag, StandIn}
+use Rattle.yaml_tree.specs.Tables.{HasTagRows, StandIn}
 use Rattle.saphyr_parser_c.specs.declared.shown.CEvent.{CEvent}
 use Rattle.saphyr_parser_c.specs.declared.shown.CMarker.{CMarker}
 use Rattle.saphyr_parser_c.specs.declared.shown.CText.{CText}
@@ -14,7 +14,7 @@ use Rattle.saphyr_parser_c.specs.Trees.{IsSameButProperties}
 
 -- the texts of a tag, which stand in a table
 pub tag_texts : (texts : List ℕ) (rows : TagRows) (tag : Option ResolvedTag) (handle suffix : List ℕ) (c : CEvent)
-    → IsTag texts (Some rows) tag → ((text : List ℕ) → StandIn text rows.handle texts → handle ≡ text)
+    → HasTagRows texts (Some rows) tag → ((text : List ℕ) → StandIn text rows.handle texts → handle ≡ text)
     → ((text : List ℕ) → StandIn text rows.suffix texts → suffix ≡ text) → HasText (Some handle) c.tag_handle
     → HasText (Some suffix) c.tag_suffix → (pos 1 ≡ tag_code tag) × HasTagTexts tag c
 tag_texts texts rows None handle suffix c is h s hs ss = absurd is

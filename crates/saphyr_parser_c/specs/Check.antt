@@ -14,22 +14,22 @@ use Rattle.saphyr_parser_c.specs.declared.found.Found.{Found}
 use Rattle.saphyr_parser_c.specs.declared.inner.Inner.{Inner}
 use Rattle.saphyr_parser_c.specs.declared.status.Status.{Status}
 use Rattle.saphyr_parser_c.specs.declared.status.Status.TheVariants as status
-use Rattle.saphyr_parser_c.specs.Found.{AreOptions, IsAtStart, IsNoFinding}
+use Rattle.saphyr_parser_c.specs.Found.{AreOptions, HasAllLeft, IsNoFinding}
 use Rattle.saphyr_parser_c.specs.Status.{code_of}
 
 -- findings are held, and all of them are left
 abbrev pub HoldsAtStart : Findings → Inner → Type 0
 HoldsAtStart findings inner =
-    (b : Box Found Global) × (inner.found ≡ Some b) × IsAtStart findings b.value
+    (b : Box Found Global) × (inner.found ≡ Some b) × HasAllLeft findings b.value
 
 abbrev pub status_of_check : Bool → Status
 status_of_check true = status.Done
 status_of_check false = status.Wrong
 
 -- They are held now, or memory ran out.
-abbrev pub Keeps : Findings → Bool → Status → Option Inner → Type 0
-Keeps findings passed s none = s ≡ status.NoMemory
-Keeps findings passed s (some inner) = (s ≡ status_of_check passed) × HoldsAtStart findings inner
+abbrev pub KeepsFindings : Findings → Bool → Status → Option Inner → Type 0
+KeepsFindings findings passed s none = s ≡ status.NoMemory
+KeepsFindings findings passed s (some inner) = (s ≡ status_of_check passed) × HoldsAtStart findings inner
 
 -- whether the text passes
 abbrev pub TellsVerdict : Bool → Findings → Status → Type 0
@@ -46,9 +46,9 @@ pub record IsChecked (c : COptions) (text : List ℕ) (s : Status) (inner : Inne
   pub verdict : TellsVerdict c.strict findings s
   pub held : HoldsAtStart findings inner
 
-abbrev pub Checks : COptions → List ℕ → ℤ → Option Inner → Type 0
-Checks c text code none = code ≡ code_of status.NoMemory
-Checks c text code (some inner) = (s : Status) × (code ≡ code_of s) × IsChecked c text s inner
+abbrev pub ChecksText : COptions → List ℕ → ℤ → Option Inner → Type 0
+ChecksText c text code none = code ≡ code_of status.NoMemory
+ChecksText c text code (some inner) = (s : Status) × (code ≡ code_of s) × IsChecked c text s inner
 
 -- What is done with what is held. If no text is checked, that is told.
 abbrev pub HandsOutFrom : (Found → Status → CFinding → Found → Type 0) → std.Option (Box Found Global) → Inner
@@ -60,8 +60,8 @@ HandsOutFrom hands (Some old) before s c after =
 abbrev pub HandsOutHeld : (Found → Status → CFinding → Found → Type 0) → Inner → Status → CFinding → Inner → Type 0
 HandsOutHeld hands before s c after = HandsOutFrom hands before.found before s c after
 
-abbrev pub HandsOut : (Found → Status → CFinding → Found → Type 0) → Option Inner → ℤ → CFinding → Option Inner
+abbrev pub HandsOutIfChecked : (Found → Status → CFinding → Found → Type 0) → Option Inner → ℤ → CFinding → Option Inner
     → Type 0
-HandsOut hands none code c new = (code ≡ code_of status.NotChecked) × IsNoFinding c × (new ≡ none)
-HandsOut hands (some old) code c new =
+HandsOutIfChecked hands none code c new = (code ≡ code_of status.NotChecked) × IsNoFinding c × (new ≡ none)
+HandsOutIfChecked hands (some old) code c new =
     (inner : Inner) × (s : Status) × (new ≡ some inner) × (code ≡ code_of s) × HandsOutHeld hands old s c inner

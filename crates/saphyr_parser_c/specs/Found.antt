@@ -58,8 +58,8 @@ abbrev pub notes_left : Found → List Finding
 notes_left found = list_of found.notes
 
 -- all findings are left
-abbrev pub IsAtStart : Findings → Found → Type 0
-IsAtStart findings found =
+abbrev pub HasAllLeft : Findings → Found → Type 0
+HasAllLeft findings found =
     (found.findings ≡ findings) × (findings_left found ≡ findings.list.items) × (notes_left found ≡ [])
 
 -- ## What is written
@@ -85,9 +85,9 @@ pub record WritesFinding (found : Found) (f : Finding) (c : CFinding) : Type 0 w
   pub message : BytesStand (string_vec found.message) c.message
 
 -- it is written, or memory ran out and nothing changes
-abbrev pub Tells : Finding → Found → Result (Unit {0}) AllocError → CFinding → Found → Type 0
-Tells f old (Ok done) c new = WritesFinding new f c × (new ≡ record old { message = new.message })
-Tells f old (Err e) c new = IsNoFinding c × (new ≡ old)
+abbrev pub TellsFinding : Finding → Found → Result (Unit {0}) AllocError → CFinding → Found → Type 0
+TellsFinding f old (Ok done) c new = WritesFinding new f c × (new ≡ record old { message = new.message })
+TellsFinding f old (Err e) c new = IsNoFinding c × (new ≡ old)
 
 -- The first finding that is left is handed out, and its notes are left. If memory runs out, or none is left, nothing
 -- changes.

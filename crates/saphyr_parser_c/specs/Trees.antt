@@ -14,7 +14,7 @@ use Rattle.yaml_tree.specs.declared.table.Root.{Root}
 use Rattle.yaml_tree.specs.DocumentLoading.{LeavesBehindDocument}
 use Rattle.yaml_tree.specs.Leaving.{LeavesParser}
 use Rattle.yaml_tree.specs.TableLoading.{LoadsNextTable, LoadsTable}
-use Rattle.yaml_tree.specs.Tables.{CountsParts, Event, FindsAnchor, HasNoNode, IsEmptyTable, IsMadeOf, IsTable, LeadsTo, OfNode}
+use Rattle.yaml_tree.specs.Tables.{CountsParts, Event, FindsNumber, HasNoNode, IsEmptyTable, IsMadeOf, IsTable, HasNumber, OfNode}
 use Rattle.saphyr_parser_c.specs.declared.inner.Inner.{Inner}
 use Rattle.saphyr_parser_c.specs.declared.shown.CEvent.{CEvent}
 use Rattle.saphyr_parser_c.specs.declared.source.Source.{Source}
@@ -22,7 +22,7 @@ use Rattle.saphyr_parser_c.specs.declared.source.Source.TheVariants as source
 use Rattle.saphyr_parser_c.specs.declared.status.Status.{Status}
 use Rattle.saphyr_parser_c.specs.declared.status.Status.TheVariants as status
 use Rattle.saphyr_parser_c.specs.Exports.{WritesNone}
-use Rattle.saphyr_parser_c.specs.Followed.{Follows, GetsFollowed}
+use Rattle.saphyr_parser_c.specs.Followed.{FollowsAlias, GetsFollowed}
 use Rattle.saphyr_parser_c.specs.Same.{IsSameFault}
 use Rattle.saphyr_parser_c.specs.Shown.{HasFields, WritesFault, no_fields, nowhere, fields_of_event}
 use Rattle.saphyr_parser_c.specs.Status.{code_of}
@@ -133,7 +133,7 @@ CountsAt number result table = OfNode table number (λ own. CountsParts own resu
 -- such node, it is none.
 abbrev pub LeadsToPart : ℕ → Step → ℕ → NodeTable → Type 0
 LeadsToPart number step result table = (found : std.Option ℕ) × IsNumberOf found result
-    × OfNode table number (λ own. LeadsTo own number step found) × (HasNoNode number table → found ≡ None)
+    × OfNode table number (λ own. HasNumber own number step found) × (HasNoNode number table → found ≡ None)
 
 -- the value of a key, which is none if the bytes are no text
 abbrev pub Gets : ℕ → List ℕ → ℕ → NodeTable → Type 0
@@ -142,12 +142,12 @@ Gets number key result table = (found : std.Option ℕ) × IsNumberOf found resu
 
 -- the node that an alias names, and any other node itself
 abbrev pub LeadsOn : ℕ → ℕ → NodeTable → Type 0
-LeadsOn number result table = (found : std.Option ℕ) × IsNumberOf found result × Follows number found table
+LeadsOn number result table = (found : std.Option ℕ) × IsNumberOf found result × FollowsAlias number found table
 
 -- the node of an anchor
 abbrev pub Finds : ℕ → ℕ → NodeTable → Type 0
 Finds id result table = (found : std.Option ℕ) × IsNumberOf found result
-    × ((es : List Event) → IsTable es table → FindsAnchor es id found)
+    × ((es : List Event) → IsTable es table → FindsNumber es id found)
 
 -- ## What is told of a node
 

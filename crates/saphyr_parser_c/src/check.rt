@@ -22,7 +22,7 @@ pub extern "C" fn saphyr_check(
     options: &COptions,
     out: &mut Handle,
 ) -> i32
-    ensures { spec.Checks options.now text.now result out.new.value }
+    ensures { spec.ChecksText options.now text.now result out.new.value }
 {
     match check_bytes(alloc, text, options_of(options)) {
         Ok(findings) => {
@@ -38,7 +38,7 @@ pub extern "C" fn saphyr_check(
 
 // Puts what is found in a text that passes, or doesn't, into a handle.
 fn keep(alloc: Global, findings: Findings, passed: bool, out: &mut Handle) -> Status
-    ensures { spec.Keeps findings passed result out.new.value }
+    ensures { spec.KeepsFindings findings passed result out.new.value }
 {
     match Inner::with_findings(alloc, findings) {
         Ok(inner) => {
@@ -59,7 +59,7 @@ pub extern "C" fn saphyr_next_finding(
     findings: &mut Handle,
     finding: &mut CFinding,
 ) -> i32
-    ensures { spec.HandsOut found.HandsOutFinding findings.old.value result
+    ensures { spec.HandsOutIfChecked found.HandsOutFinding findings.old.value result
         finding.new findings.new.value }
 {
     let Some(mut inner) = take(alloc, findings) else {
@@ -74,7 +74,7 @@ pub extern "C" fn saphyr_next_finding(
 /// Hands out the next note on the finding that was handed out last.
 #[unsafe(no_mangle)]
 pub extern "C" fn saphyr_next_note(alloc: Global, findings: &mut Handle, note: &mut CFinding) -> i32
-    ensures { spec.HandsOut found.HandsOutNote findings.old.value result
+    ensures { spec.HandsOutIfChecked found.HandsOutNote findings.old.value result
         note.new findings.new.value }
 {
     let Some(mut inner) = take(alloc, findings) else {

@@ -11,7 +11,7 @@ use yaml_tree::{Content, NodeTable, Step};
 
 /// The number of the node that an alias names, and of any other node its own.
 pub fn follow(table: &NodeTable, number: usize) -> Option<usize>
-    ensures { spec.Follows number result table.now }
+    ensures { spec.FollowsAlias number result table.now }
 {
     match table.entry(number)?.content {
         Content::Alias(id) => table.with_anchor(id as usize),
@@ -58,7 +58,7 @@ fn has_key(table: &NodeTable, whole: usize, index: usize, text: &str) -> bool
 // Whether it is the number of a scalar with this text.
 fn has_text(table: &NodeTable, number: Option<usize>, text: &str) -> bool
     ensures { (es : List Placed) → IsTable es table.now → spec.IsThere es number
-        → spec.IsText es text.now number result }
+        → spec.IsKeyText es text.now number result }
 {
     let Some(number) = number else {
         return false;
@@ -72,7 +72,7 @@ fn has_text(table: &NodeTable, number: Option<usize>, text: &str) -> bool
 // Whether it is that of a scalar with this text.
 fn is_text(table: &NodeTable, content: Content, text: &str) -> bool
     ensures { (h : Told) → TellsFirst (store_of table.now) content h
-        → result ≡ is_this_text text.now (spec.text_of h) }
+        → result ≡ is_this_text text.now (spec.scalar_text h) }
 {
     match content {
         Content::Scalar(_, row, _) => table.text(row) == text.as_bytes(),

@@ -132,7 +132,7 @@ pub struct Found {
 impl Found {
     /// Nothing is handed out.
     pub fn new(alloc: Global, findings: Findings) -> Found
-        ensures { spec.IsAtStart findings result }
+        ensures { spec.HasAllLeft findings result }
     {
         Found {
             findings,
@@ -180,7 +180,7 @@ impl Found {
         finding: Finding,
         out: &mut CFinding,
     ) -> Result<(), AllocError>
-        ensures { spec.Tells finding self.old result out.new self.new }
+        ensures { spec.TellsFinding finding self.old result out.new self.new }
     {
         *out = no_finding();
         self.message = self.findings.message(alloc, finding)?;

@@ -3,7 +3,7 @@ use Rattle.std.proofs.Common.{arith, ◌≡◌, ◌∙◌, ◌<◌, refl, sym, a
 use Rattle.std.specs.List.{slice_get}
 use Rattle.yaml_tree.specs.declared.table.Entry.{Entry}
 use Rattle.yaml_tree.specs.declared.table.NodeTable.{NodeTable}
-use Rattle.yaml_tree.specs.Tables.{AreEntriesFrom, Event, IsEntryAt, IsNodeAt, IsTable, Store, Tells, begun, store_of}
+use Rattle.yaml_tree.specs.Tables.{AreEntriesFrom, Event, IsEntryAt, IsNodeAt, IsTable, Store, TellsNode, nodes_begun, store_of}
 
 entry_from : (es : List Event) (s : Store) (n k m : ℕ) (xs : List Entry) (e : Entry) → AreEntriesFrom es s n xs
     → slice_get xs k ≡ Some e → m ≡ n + k → IsEntryAt es s m e
@@ -26,7 +26,7 @@ none_within (x ∷ xs) zero e l = cc
 none_within (x ∷ xs) (suc n) e l = none_within xs n e (omega (arith, l))
 
 -- each node has an entry
-pub entry_there : (es : List Event) (t : NodeTable) (number : ℕ) → IsTable es t → number < begun es
+pub entry_there : (es : List Event) (t : NodeTable) (number : ℕ) → IsTable es t → number < nodes_begun es
     → slice_get t.entries.items number ≡ None → ⊥
 entry_there es t number is within found =
     let many = is.nodes in none_within t.entries.items number found (omega (arith, many, within))

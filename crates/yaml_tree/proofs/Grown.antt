@@ -9,13 +9,13 @@ use Rattle.yaml_tree.specs.declared.table.Content.TheVariants as content
 use Rattle.yaml_tree.specs.declared.table.Entry.{Entry}
 use Rattle.yaml_tree.specs.declared.table.Mark.{Mark}
 use Rattle.yaml_tree.specs.declared.table.Row.{Row}
-use Rattle.yaml_tree.specs.Tables.{AreEntriesFrom, AreNodes, Event, HasParts, IsEnd, IsEntryAt, IsLeaf, IsMadeOf, IsNode, IsNodeAt, IsStart, StandIn, Store, Tells, TellsFirst, all_of, beginning, begun, leaf, marker_of, none, numbers, one_more, whole}
+use Rattle.yaml_tree.specs.Tables.{AreEntriesFrom, AreNodes, Event, HasParts, IsEnd, IsEntryAt, IsLeafEvent, IsMadeOf, IsNode, IsNodeAt, IsStart, StandIn, Store, TellsNode, TellsFirst, all_of, beginning, nodes_begun, leaf, marker_of, none, numbers, one_more, whole}
 use Rattle.yaml_tree.specs.GrowerSeen.{Holds, Inside, IsMore, IsOpen, closed}
 use Rattle.yaml_tree.proofs.Stores.{more_none, parts_closed, parts_more, stands_last, told_closed, told_more}
 
 -- ## Events
 
-pub begun-append : (xs ys : List Event) → begun (xs ++ ys) ≡ begun xs + begun ys
+pub begun-append : (xs ys : List Event) → nodes_begun (xs ++ ys) ≡ nodes_begun xs + nodes_begun ys
 begun-append [] ys = omega arith
 begun-append (x ∷ xs) ys = let e = begun-append xs ys in omega (arith, e)
 
@@ -29,15 +29,15 @@ nodes-snoc [] own none n = one_more own [] n none
 nodes-snoc (p ∷ ps) own (one_more _ _ m h) n = one_more p (ps ++ own ∷ []) m (nodes-snoc ps own h n)
 
 numbers-snoc : (n : ℕ) (ps : List (List Event)) (own : List Event)
-    → numbers n (ps ++ own ∷ []) ≡ numbers n ps ++ (n + begun (all_of ps)) ∷ []
+    → numbers n (ps ++ own ∷ []) ≡ numbers n ps ++ (n + nodes_begun (all_of ps)) ∷ []
 numbers-snoc n [] own = let e : n ≡ n + 0 = omega arith in ap (λ (m : ℕ). m ∷ []) e
 numbers-snoc n (p ∷ ps) own =
     let long = begun-append p (all_of ps) in
-    let e : (n + begun p) + begun (all_of ps) ≡ n + begun (p ++ all_of ps) = omega (arith, long) in
+    let e : (n + nodes_begun p) + nodes_begun (all_of ps) ≡ n + nodes_begun (p ++ all_of ps) = omega (arith, long) in
     ap (λ (ms : List ℕ). n ∷ ms)
-    (numbers-snoc (n + begun p) ps own ∙ ap (λ (m : ℕ). numbers (n + begun p) ps ++ m ∷ []) e)
+    (numbers-snoc (n + nodes_begun p) ps own ∙ ap (λ (m : ℕ). numbers (n + nodes_begun p) ps ++ m ∷ []) e)
 
-leaf_begins : (h : Happening) → IsLeaf h → beginning h ≡ 1
+leaf_begins : (h : Happening) → IsLeafEvent h → beginning h ≡ 1
 leaf_begins (Alias id) l = refl
 leaf_begins (Scalar text style id tag) l = refl
 leaf_begins _ l = absurd l
@@ -52,12 +52,12 @@ end_begins SequenceEnd l = refl
 end_begins MappingEnd l = refl
 end_begins _ l = absurd l
 
-begun_one : (e : Event) → begun (e ∷ []) ≡ beginning e.0
+begun_one : (e : Event) → nodes_begun (e ∷ []) ≡ beginning e.0
 begun_one e = omega arith
 
 -- ## More events, more in the store
 
-tells_more : (a b : Store) (n : ℕ) (e : Entry) (own : List Event) → IsMore a b → Tells a n e own → Tells b n e own
+tells_more : (a b : Store) (n : ℕ) (e : Entry) (own : List Event) → IsMore a b → TellsNode a n e own → TellsNode b n e own
 tells_more a b n e own more t = record {
   first = t.first;
   parts = t.parts;
@@ -109,7 +109,7 @@ inside_store es base a b waiting before entries outer more i = record {
   split = i.split;
   first = i.first;
   count = i.count;
-  told = entries_store es a b (begun base) i.inner more i.told;
+  told = entries_store es a b (nodes_begun base) i.inner more i.told;
 }
 
 open_store : (a b : Store) (x : Event) (e : Entry) → IsMore a b → IsOpen a x e → IsOpen b x e
@@ -139,20 +139,20 @@ holds_store doc es a b (l ∷ ls) waiting entries more (x, around, before, e, ou
 -- ## A node more
 
 inside_count : (es base : List Event) (s : Store) (waiting before : List ℕ) (entries outer : List Entry)
-    → Inside es base s waiting before entries outer → length entries ≡ begun es
+    → Inside es base s waiting before entries outer → length entries ≡ nodes_begun es
 inside_count es base s waiting before entries outer i =
     ap (λ (xs : List Entry). length xs) i.split ∙ length-append outer i.inner
     ∙ (let a = i.first in let b = i.count in
-    let e : length outer + length i.inner ≡ begun base + begun (all_of i.parts) = omega (arith, a, b) in e)
-    ∙ sym (begun-append base (all_of i.parts)) ∙ ap begun (sym i.events)
+    let e : length outer + length i.inner ≡ nodes_begun base + nodes_begun (all_of i.parts) = omega (arith, a, b) in e)
+    ∙ sym (begun-append base (all_of i.parts)) ∙ ap nodes_begun (sym i.events)
 
 inside_adds : (es own base : List Event) (s : Store) (waiting before : List ℕ) (entries outer more : List Entry)
-    → Inside es base s waiting before entries outer → IsNode own → length more ≡ begun own
-    → AreEntriesFrom (es ++ own) s (begun es) more
-    → Inside (es ++ own) base s (waiting ++ begun es ∷ []) before (entries ++ more) outer
+    → Inside es base s waiting before entries outer → IsNode own → length more ≡ nodes_begun own
+    → AreEntriesFrom (es ++ own) s (nodes_begun es) more
+    → Inside (es ++ own) base s (waiting ++ nodes_begun es ∷ []) before (entries ++ more) outer
 inside_adds es own base s waiting before entries outer more i node long told =
-    let n = begun base in
-    let here : begun es ≡ n + begun (all_of i.parts) = ap begun i.events ∙ begun-append base (all_of i.parts) in
+    let n = nodes_begun base in
+    let here : nodes_begun es ≡ n + nodes_begun (all_of i.parts) = ap nodes_begun i.events ∙ begun-append base (all_of i.parts) in
     let inner = i.count in
     record {
       parts = i.parts ++ own ∷ [];
@@ -160,29 +160,29 @@ inside_adds es own base s waiting before entries outer more i node long told =
       events = ap (λ (ds : List Event). ds ++ own) i.events ∙ append_assoc base (all_of i.parts) own
           ∙ ap (λ (ds : List Event). base ++ ds) (sym (all_of-snoc i.parts own));
       nodes = nodes-snoc i.parts own i.nodes node;
-      waits = ap (λ (ns : List ℕ). ns ++ begun es ∷ []) i.waits
-          ∙ append_assoc before (numbers n i.parts) (begun es ∷ [])
+      waits = ap (λ (ns : List ℕ). ns ++ nodes_begun es ∷ []) i.waits
+          ∙ append_assoc before (numbers n i.parts) (nodes_begun es ∷ [])
           ∙ ap (λ (m : ℕ). before ++ (numbers n i.parts ++ m ∷ [])) here
           ∙ ap (λ (ns : List ℕ). before ++ ns) (sym (numbers-snoc n i.parts own));
       split = ap (λ (xs : List Entry). xs ++ more) i.split ∙ append_assoc outer i.inner more;
       first = i.first;
       count = length-append i.inner more
-          ∙ (let e : length i.inner + length more ≡ begun (all_of i.parts) + begun own = omega (arith, inner, long) in e)
-          ∙ sym (begun-append (all_of i.parts) own) ∙ ap begun (sym (all_of-snoc i.parts own));
-      told = entries_both (es ++ own) s n (begun es) i.inner more
+          ∙ (let e : length i.inner + length more ≡ nodes_begun (all_of i.parts) + nodes_begun own = omega (arith, inner, long) in e)
+          ∙ sym (begun-append (all_of i.parts) own) ∙ ap nodes_begun (sym (all_of-snoc i.parts own));
+      told = entries_both (es ++ own) s n (nodes_begun es) i.inner more
           (entries_more es own s s n i.inner (more_none s) i.told) (omega (arith, here, inner)) told;
     }
 
 pub holds_count : (doc es : List Event) (s : Store) (ls : List Level) (waiting : List ℕ) (entries : List Entry)
-    → Holds doc es s ls waiting entries → length entries ≡ begun es
+    → Holds doc es s ls waiting entries → length entries ≡ nodes_begun es
 holds_count doc es s [] waiting entries (outer, i, h) = inside_count es doc s waiting [] entries outer i
 holds_count doc es s (l ∷ ls) waiting entries (x, around, before, e, outer, i, o, n, w, h) =
     inside_count es (around ++ x ∷ []) s waiting before entries (outer ++ e ∷ []) i
 
 adds : (doc es own : List Event) (s : Store) (ls : List Level) (waiting : List ℕ) (entries more : List Entry)
-    → Holds doc es s ls waiting entries → IsNode own → length more ≡ begun own
-    → AreEntriesFrom (es ++ own) s (begun es) more
-    → Holds doc (es ++ own) s ls (waiting ++ begun es ∷ []) (entries ++ more)
+    → Holds doc es s ls waiting entries → IsNode own → length more ≡ nodes_begun own
+    → AreEntriesFrom (es ++ own) s (nodes_begun es) more
+    → Holds doc (es ++ own) s ls (waiting ++ nodes_begun es ∷ []) (entries ++ more)
 adds doc es own s [] waiting entries more (outer, i, h) node long told =
     (outer, inside_adds es own doc s waiting [] entries outer more i node long told, h)
 adds doc es own s (l ∷ ls) waiting entries more (x, around, before, e, outer, i, o, n, w, h) node long told = (
@@ -198,16 +198,16 @@ adds doc es own s (l ∷ ls) waiting entries more (x, around, before, e, outer, 
   h,
 )
 
-leaf_parts : (s : Store) (c : Content) (h : Happening) → TellsFirst s c h → IsLeaf h → HasParts s c []
+leaf_parts : (s : Store) (c : Content) (h : Happening) → TellsFirst s c h → IsLeafEvent h → HasParts s c []
 leaf_parts s (content.Alias id) h t l = refl
 leaf_parts s (content.Scalar style row number) h t l = refl
-leaf_parts s (content.Sequence row number) h (id, tag, e, k) l = absurd (subst IsLeaf e l)
-leaf_parts s (content.Mapping row number) h (id, tag, e, k) l = absurd (subst IsLeaf e l)
+leaf_parts s (content.Sequence row number) h (id, tag, e, k) l = absurd (subst IsLeafEvent e l)
+leaf_parts s (content.Mapping row number) h (id, tag, e, k) l = absurd (subst IsLeafEvent e l)
 
 pub adds_leaf : (doc es : List Event) (x : Event) (s : Store) (ls : List Level) (waiting : List ℕ)
-    (entries : List Entry) (e : Entry) → Holds doc es s ls waiting entries → IsLeaf x.0 → TellsFirst s e.content x.0
+    (entries : List Entry) (e : Entry) → Holds doc es s ls waiting entries → IsLeafEvent x.0 → TellsFirst s e.content x.0
     → marker_of e.start ≡ x.1.start → marker_of e.end ≡ x.1.end
-    → Holds doc (es ++ x ∷ []) s ls (waiting ++ begun es ∷ []) (entries ++ e ∷ [])
+    → Holds doc (es ++ x ∷ []) s ls (waiting ++ nodes_begun es ∷ []) (entries ++ e ∷ [])
 adds_leaf doc es x s ls waiting entries e h l told start end =
     let one = leaf_begins x.0 l in
     let node : IsNode (x ∷ []) = leaf x l in
@@ -281,7 +281,7 @@ pub ends : (doc es : List Event) (y : Event) (a b : Store) (end : Mark) (row : R
     → Holds doc es a (l ∷ ls) waiting entries → Ended doc es y a b end row l ls waiting entries
 ends doc es y a b end row l ls waiting entries is_end place more (x, around, before, e, outer, i, o, n, w, h) =
     let base = around ++ x ∷ [] in
-    let own = numbers (begun base) i.parts in
+    let own = numbers (nodes_begun base) i.parts in
     let all : List Event = x ∷ (all_of i.parts ++ y ∷ []) in
     let node : IsNode all = whole x i.parts y o.start i.nodes is_end in
     let done = closed row end e in
@@ -292,11 +292,11 @@ ends doc es y a b end row l ls waiting entries is_end place more (x, around, bef
     let one = start_begins x.0 o.start in
     let zero_more = end_begins y.0 is_end in
     let longer = begun-append around (x ∷ []) in
-    let next : begun base ≡ suc (begun around) = omega (arith, longer, one) in
+    let next : nodes_begun base ≡ suc (nodes_begun around) = omega (arith, longer, one) in
     let count = i.count in
     let ended = begun-append (all_of i.parts) (y ∷ []) in
-    let long : length (done ∷ i.inner) ≡ begun all = omega (arith, count, ended, one, zero_more) in
-    let number : l.number ≡ begun around = n ∙ here in record {
+    let long : length (done ∷ i.inner) ≡ nodes_begun all = omega (arith, count, ended, one, zero_more) in
+    let number : l.number ≡ nodes_begun around = n ∙ here in record {
       before = before;
       own = own;
       waits = i.waits;
@@ -307,13 +307,13 @@ ends doc es y a b end row l ls waiting entries is_end place more (x, around, bef
       split = i.split ∙ append_assoc outer (e ∷ []) i.inner;
       number = n;
       holds = λ parts first row_count.
-          let numbers_next : own ≡ numbers (suc (begun around)) i.parts =
+          let numbers_next : own ≡ numbers (suc (nodes_begun around)) i.parts =
           ap (λ (m : ℕ). numbers m i.parts) next in
-          let stands : StandIn (numbers (suc (begun around)) i.parts) row b.parts =
+          let stands : StandIn (numbers (suc (nodes_begun around)) i.parts) row b.parts =
           subst (λ (ns : List ℕ). StandIn ns row b.parts) numbers_next
           (subst (StandIn own row) (sym parts) (stands_last own row a.parts first row_count)) in
           let told = told_closed b e.content row x.0 (told_more a b e.content x.0 more o.told) in
-          let first_is : IsEntryAt (around ++ all) b (begun around) done = (
+          let first_is : IsEntryAt (around ++ all) b (nodes_begun around) done = (
             all,
             record {
               front = around;
@@ -328,19 +328,19 @@ ends doc es y a b end row l ls waiting entries is_end place more (x, around, bef
               last = y;
               made = inr (o.start, refl, i.nodes, is_end);
               told = told;
-              row = parts_closed b e.content row x.0 (numbers (suc (begun around)) i.parts)
+              row = parts_closed b e.content row x.0 (numbers (suc (nodes_begun around)) i.parts)
                   (told_more a b e.content x.0 more o.told) o.start stands;
               start = o.place;
               end = place;
             },
           ) in
-          let others : AreEntriesFrom (around ++ all) b (suc (begun around)) i.inner =
+          let others : AreEntriesFrom (around ++ all) b (suc (nodes_begun around)) i.inner =
           subst (λ (m : ℕ). AreEntriesFrom (around ++ all) b m i.inner) next
-          (subst (λ (ds : List Event). AreEntriesFrom ds b (begun base) i.inner) events
-          (entries_more es (y ∷ []) a b (begun base) i.inner more i.told)) in
+          (subst (λ (ds : List Event). AreEntriesFrom ds b (nodes_begun base) i.inner) events
+          (entries_more es (y ∷ []) a b (nodes_begun base) i.inner more i.told)) in
           subst (λ (m : ℕ). Holds doc (es ++ y ∷ []) b ls (before ++ m ∷ []) (outer ++ (done ∷ i.inner)))
           (sym number)
-          (subst (λ (ds : List Event). Holds doc ds b ls (before ++ begun around ∷ []) (outer ++ (done ∷ i.inner)))
+          (subst (λ (ds : List Event). Holds doc ds b ls (before ++ nodes_begun around ∷ []) (outer ++ (done ∷ i.inner)))
           (sym events)
           (adds doc around all b ls before outer (done ∷ i.inner)
           (holds_store doc around a b ls before outer more h) node long (first_is, others)));

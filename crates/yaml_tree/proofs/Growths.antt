@@ -18,17 +18,17 @@ use Rattle.yaml_tree.specs.declared.table.NodeTable.{NodeTable}
 use Rattle.yaml_tree.specs.declared.table.Root.{Root}
 use Rattle.yaml_tree.specs.declared.table.Row.{Row}
 use Rattle.yaml_tree.specs.Expanding.{most}
-use Rattle.yaml_tree.specs.CounterSeen.{Count, HoldsCount, begun as counts_begun, counted, counted_all, left, size_in, with_nodes}
-use Rattle.yaml_tree.specs.Tables.{AreEntriesFrom, AreNodes, AreRootsFrom, Event, IsBeside, IsEnd, IsLeaf, IsNode, IsEmptyTable, IsRootAt, IsStart, IsTable, MaybeTag, Store, StoresProperties, TellsFirst, all_of, anchor_of, beginning, begun, ended, ending, none, numbers, one_more, store_of}
-use Rattle.yaml_tree.specs.GrowerSeen.{Adds, AddsLeaf, Counts, EndsDocument, EndsLevel, HasGrown, Holds, IsBetween, IsMore, IsStack, OpensLevel, Stores, StoresText, closed, no_count}
+use Rattle.yaml_tree.specs.CounterSeen.{Count, HoldsCount, nodes_begun as counts_begun, counted, counted_all, left, size_in, with_nodes}
+use Rattle.yaml_tree.specs.Tables.{AreEntriesFrom, AreNodes, AreRootsFrom, Event, IsBeside, IsEnd, IsLeafEvent, IsNode, IsEmptyTable, IsRootAt, IsStart, IsTable, MaybeTag, Store, StoresProperties, TellsFirst, all_of, id_of_anchor, beginning, nodes_begun, documents_ended, documents_ended_by, none, numbers, one_more, store_of}
+use Rattle.yaml_tree.specs.GrowerSeen.{AddsEvent, AddsLeaf, CountsExpanded, EndsDocument, EndsLevel, HasGrown, Holds, HasNoneOpen, IsMore, IsStack, OpensLevel, Stores, StoresText, closed, no_count}
 use Rattle.yaml_tree.proofs.Expands.{expands}
 use Rattle.yaml_tree.proofs.LastItems.{none_is_last, same_last}
 use Rattle.yaml_tree.proofs.Stores.{more_none, stores_both, text_stores, texts_more}
 use Rattle.yaml_tree.proofs.Grown.{adds_leaf, begins, begun-append, ends, entries_both, entries_more, holds_count, holds_store}
 
--- ## Counts
+-- ## CountsExpanded
 
-ended-append : (xs ys : List Event) → ended (xs ++ ys) ≡ ended xs + ended ys
+ended-append : (xs ys : List Event) → documents_ended (xs ++ ys) ≡ documents_ended xs + documents_ended ys
 ended-append [] ys = omega arith
 ended-append (x ∷ xs) ys = let e = ended-append xs ys in omega (arith, e)
 
@@ -40,22 +40,22 @@ counted-snoc (g ∷ hs) h c = counted-snoc hs h (counted g c)
 happenings-snoc : (es : List Event) (e : Event) → happenings (es ++ e ∷ []) ≡ happenings es ++ e.0 ∷ []
 happenings-snoc es e = map-append (λ (d : Event). d.0) es (e ∷ [])
 
-leaf_ends_none : (h : Happening) → IsLeaf h → ending h ≡ 0
+leaf_ends_none : (h : Happening) → IsLeafEvent h → documents_ended_by h ≡ 0
 leaf_ends_none (Alias id) l = refl
 leaf_ends_none (Scalar text style id tag) l = refl
 leaf_ends_none _ l = absurd l
 
-start_ends_none : (h : Happening) → IsStart h → ending h ≡ 0
+start_ends_none : (h : Happening) → IsStart h → documents_ended_by h ≡ 0
 start_ends_none (SequenceStart id tag) l = refl
 start_ends_none (MappingStart id tag) l = refl
 start_ends_none _ l = absurd l
 
-end_ends_none : (h : Happening) → IsEnd h → ending h ≡ 0
+end_ends_none : (h : Happening) → IsEnd h → documents_ended_by h ≡ 0
 end_ends_none SequenceEnd l = refl
 end_ends_none MappingEnd l = refl
 end_ends_none _ l = absurd l
 
-start_counts : (h : Happening) (c : Count) → IsStart h → counted h c ≡ counts_begun (anchor_of h) c
+start_counts : (h : Happening) (c : Count) → IsStart h → counted h c ≡ counts_begun (id_of_anchor h) c
 start_counts (SequenceStart id tag) c l = refl
 start_counts (MappingStart id tag) c l = refl
 start_counts _ c l = absurd l
@@ -98,7 +98,7 @@ roots-snoc es index (q ∷ rs) r h is =
 -- ## One event more
 
 grows : (es : List Event) (x : Event) (old new : Growth) (g : HasGrown es old) (inside : List Level)
-    → ending x.0 ≡ 0 → new.table.roots ≡ old.table.roots → IsStack new.levels.items inside
+    → documents_ended_by x.0 ≡ 0 → new.table.roots ≡ old.table.roots → IsStack new.levels.items inside
     → Holds g.doc (es ++ x ∷ []) (store_of new.table) inside new.waiting.items new.table.entries.items
     → HoldsCount new.counter (counted x.0 (counted_all (happenings g.since) no_count))
     → HasGrown (es ++ x ∷ []) new
@@ -127,25 +127,25 @@ pub leaf_grows : (es : List Event) (old mid new : Growth) (h : Happening) (span 
     (id nodes : ℕ) → AddsLeaf what span old mid → new.levels ≡ mid.levels → new.table ≡ mid.table
     → new.waiting ≡ mid.waiting
     → ((c : Count) (n : ℕ) → nodes ≡ min most n → HoldsCount mid.counter c → HoldsCount new.counter (with_nodes id n c))
-    → IsLeaf h → TellsFirst (store_of old.table) what h → Counts h id nodes old.counter → HasGrown es old
+    → IsLeafEvent h → TellsFirst (store_of old.table) what h → CountsExpanded h id nodes old.counter → HasGrown es old
     → HasGrown (es ++ (h, span) ∷ []) new
 leaf_grows es old mid new h span what id nodes a levels table waiting adds leaf told counts g =
     let x : Event = (h, span) in
     let s = store_of old.table in
     let store : store_of new.table ≡ s = ap store_of (table ∙ a.table) in
     let count = holds_count g.doc es s g.inside old.waiting.items old.table.entries.items g.holds in
-    let numbers : new.waiting.items ≡ old.waiting.items ++ begun es ∷ [] =
+    let numbers : new.waiting.items ≡ old.waiting.items ++ nodes_begun es ∷ [] =
     ap (λ w. w.items) waiting ∙ a.waiting ∙ ap (λ (n : ℕ). old.waiting.items ++ n ∷ []) count in
     let entries : new.table.entries.items ≡ old.table.entries.items ++ a.entry ∷ [] =
     ap (λ (t : NodeTable). t.entries.items) table ∙ a.entries in
-    let held : Holds g.doc (es ++ x ∷ []) s g.inside (old.waiting.items ++ begun es ∷ [])
+    let held : Holds g.doc (es ++ x ∷ []) s g.inside (old.waiting.items ++ nodes_begun es ∷ [])
     (old.table.entries.items ++ a.entry ∷ []) =
     adds_leaf g.doc es x s g.inside old.waiting.items old.table.entries.items a.entry g.holds leaf
     (subst (λ (c : Content). TellsFirst s c h) (sym a.content) told) a.start a.end in
     let holds : Holds g.doc (es ++ x ∷ []) (store_of new.table) g.inside new.waiting.items new.table.entries.items =
     subst (λ (t : Store). Holds g.doc (es ++ x ∷ []) t g.inside new.waiting.items new.table.entries.items) (sym store)
     (subst (λ (ns : List ℕ). Holds g.doc (es ++ x ∷ []) s g.inside ns new.table.entries.items) (sym numbers)
-    (subst (λ (xs : List Entry). Holds g.doc (es ++ x ∷ []) s g.inside (old.waiting.items ++ begun es ∷ []) xs)
+    (subst (λ (xs : List Entry). Holds g.doc (es ++ x ∷ []) s g.inside (old.waiting.items ++ nodes_begun es ∷ []) xs)
     (sym entries) held)) in
     let so_far = counted_all (happenings g.since) no_count in
     let own = counts so_far g.counts in
@@ -159,7 +159,7 @@ leaf_grows es old mid new h span what id nodes a levels table waiting adds leaf 
 pub start_grows : (es : List Event) (old mid new : Growth) (h : Happening) (span : Span) (what : Content) (id : ℕ)
     → OpensLevel what span old mid → new.levels ≡ mid.levels → new.table ≡ mid.table → new.waiting ≡ mid.waiting
     → ((c : Count) → HoldsCount mid.counter c → HoldsCount new.counter (counts_begun id c))
-    → IsStart h → anchor_of h ≡ id → TellsFirst (store_of old.table) what h → HasGrown es old
+    → IsStart h → id_of_anchor h ≡ id → TellsFirst (store_of old.table) what h → HasGrown es old
     → HasGrown (es ++ (h, span) ∷ []) new
 start_grows es old mid new h span what id a levels table waiting adds start anchor told g =
     let x : Event = (h, span) in
@@ -284,14 +284,14 @@ all_told : (doc es : List Event) (s : Store) (waiting : List ℕ) (entries : Lis
 all_told doc es s waiting entries (outer, i, h) =
     let first = i.first in
     subst (λ (xs : List Entry). AreEntriesFrom es s 0 xs) (sym i.split)
-    (entries_both es s 0 (begun doc) outer i.inner
+    (entries_both es s 0 (nodes_begun doc) outer i.inner
     (subst (λ (ds : List Event). AreEntriesFrom ds s 0 outer) (sym i.events)
     (entries_more doc (all_of i.parts) s s 0 outer (more_none s) h))
     (omega (arith, first)) i.told)
 
 -- behind events of which no document is open
 fresh_holds : (es : List Event) (s : Store) (entries : List Entry) → AreEntriesFrom es s 0 entries
-    → length entries ≡ begun es → Holds es es s [] [] entries
+    → length entries ≡ nodes_begun es → Holds es es s [] [] entries
 fresh_holds es s entries told long = (
   entries,
   record {
@@ -313,7 +313,7 @@ nothing_since : (es doc since : List Event) (parts : List (List Event)) → es �
     → since ≡ all_of parts
 nothing_since es doc since parts e f = append_cancel_left doc since (all_of parts) (sym e ∙ f)
 
-pub stay_grows : (es : List Event) (x : Event) (g : Growth) → IsBetween g → beginning x.0 ≡ 0 → ending x.0 ≡ 0
+pub stay_grows : (es : List Event) (x : Event) (g : Growth) → HasNoneOpen g → beginning x.0 ≡ 0 → documents_ended_by x.0 ≡ 0
     → HasGrown es g → HasGrown (es ++ x ∷ []) g
 stay_grows es x g between none_begins none_ends h =
     let s = store_of g.table in
@@ -321,16 +321,16 @@ stay_grows es x g between none_begins none_ends h =
     let held : Holds h.doc es s [] g.waiting.items g.table.entries.items =
     subst (λ (ls : List Level). Holds h.doc es s ls g.waiting.items g.table.entries.items) empty h.holds in
     let i = held.1 in
-    let parts = no_parts (begun h.doc) i.parts (sym between.waiting ∙ i.waits) in
+    let parts = no_parts (nodes_begun h.doc) i.parts (sym between.waiting ∙ i.waits) in
     let since : h.since ≡ [] = nothing_since es h.doc h.since i.parts h.split i.events ∙ ap all_of parts in
     let told = entries_more es (x ∷ []) s s 0 g.table.entries.items (more_none s)
     (all_told h.doc es s g.waiting.items g.table.entries.items held) in
     let count = holds_count h.doc es s [] g.waiting.items g.table.entries.items held in
     let longer = begun-append es (x ∷ []) in
-    let long : length g.table.entries.items ≡ begun (es ++ x ∷ []) = omega (arith, count, longer, none_begins) in
+    let long : length g.table.entries.items ≡ nodes_begun (es ++ x ∷ []) = omega (arith, count, longer, none_begins) in
     let more = ended-append es (x ∷ []) in
     let was = h.documents in
-    let documents : length g.table.roots.items ≡ ended (es ++ x ∷ []) = omega (arith, was, more, none_ends) in
+    let documents : length g.table.roots.items ≡ documents_ended (es ++ x ∷ []) = omega (arith, was, more, none_ends) in
     record {
       doc = es ++ x ∷ [];
       since = [];
@@ -348,8 +348,8 @@ stay_grows es x g between none_begins none_ends h =
 only_node : (own : List Event) → AreNodes (own ∷ []) → IsNode own
 only_node own (one_more _ _ n m) = n
 
-doc_end : (h : Happening) → h ≡ DocumentEnd → (beginning h ≡ 0) × (ending h ≡ 1)
-doc_end h e = (ap beginning e, ap ending e)
+doc_end : (h : Happening) → h ≡ DocumentEnd → (beginning h ≡ 0) × (documents_ended_by h ≡ 1)
+doc_end h e = (ap beginning e, ap documents_ended_by e)
 
 pub document_grows : (es : List Event) (x : Event) (old new : Growth) → EndsDocument old new → x.0 ≡ DocumentEnd
     → HasGrown es old → HasGrown (es ++ x ∷ []) new
@@ -361,7 +361,7 @@ document_grows es x old new a is_end h =
     let held : Holds h.doc es s [] old.waiting.items entries =
     subst (λ (ls : List Level). Holds h.doc es s ls old.waiting.items entries) empty h.holds in
     let i = held.1 in
-    let part = one_part a.root.number (begun h.doc) i.parts (sym a.waiting ∙ i.waits) in
+    let part = one_part a.root.number (nodes_begun h.doc) i.parts (sym a.waiting ∙ i.waits) in
     let own = part.0 in
     let events : es ≡ h.doc ++ own =
     i.events ∙ ap (λ (ps : List (List Event)). h.doc ++ all_of ps) part.1
@@ -374,7 +374,7 @@ document_grows es x old new a is_end h =
     let count = holds_count h.doc es s [] old.waiting.items entries held in
     let longer = begun-append es (x ∷ []) in
     let none_begins = tells.0 in
-    let long : length entries ≡ begun all = omega (arith, count, longer, none_begins) in
+    let long : length entries ≡ nodes_begun all = omega (arith, count, longer, none_begins) in
     let root : IsRootAt all (0 + length old.table.roots.items) a.root = record {
       front = h.doc;
       own = own;
@@ -394,7 +394,7 @@ document_grows es x old new a is_end h =
     let more = ended-append es (x ∷ []) in
     let one_more_ends = tells.1 in
     let many = ap (λ (rs : List Root). length rs) a.roots ∙ length-append old.table.roots.items (a.root ∷ []) in
-    let documents : length new.table.roots.items ≡ ended all = omega (arith, was, more, one_more_ends, many) in
+    let documents : length new.table.roots.items ≡ documents_ended all = omega (arith, was, more, one_more_ends, many) in
     let table_entries : new.table.entries.items ≡ entries = ap (λ (t : NodeTable). t.entries.items) a.table in
     let store : store_of new.table ≡ s = ap store_of a.table in
     record {
@@ -459,17 +459,17 @@ pub leaf_ok : {T E : Type 0} (result : Result T E) (old mid new : Growth) (span 
     → AddsLeaf what span old mid → new.levels ≡ mid.levels → new.table ≡ mid.table → new.waiting ≡ mid.waiting
     → OnOk result ((c : Count) (n : ℕ) → nodes ≡ min most n → HoldsCount mid.counter c
     → HoldsCount new.counter (with_nodes id n c))
-    → OnOk result ((h : Happening) → IsLeaf h → TellsFirst (store_of old.table) what h → Counts h id nodes old.counter
-    → Adds (h, span) old new)
+    → OnOk result ((h : Happening) → IsLeafEvent h → TellsFirst (store_of old.table) what h → CountsExpanded h id nodes old.counter
+    → AddsEvent (h, span) old new)
 leaf_ok (Ok u) old mid new span what id nodes a l t w adds = λ h leaf told counts es g.
     leaf_grows es old mid new h span what id nodes a l t w adds leaf told counts g
 leaf_ok (Err e) old mid new span what id nodes a l t w adds = tt
 
 pub alias_ok : {T E : Type 0} (result : Result T E) (old new : Growth) (span : Span) (id narrowed nodes : ℕ)
     → narrowed ≡ id → nodes ≡ size_in old.counter.sizes id
-    → OnOk result ((h : Happening) → IsLeaf h → TellsFirst (store_of old.table) (content.Alias narrowed) h
-    → Counts h 0 nodes old.counter → Adds (h, span) old new)
-    → OnOk result (Adds (Alias id, span) old new)
+    → OnOk result ((h : Happening) → IsLeafEvent h → TellsFirst (store_of old.table) (content.Alias narrowed) h
+    → CountsExpanded h 0 nodes old.counter → AddsEvent (h, span) old new)
+    → OnOk result (AddsEvent (Alias id, span) old new)
 alias_ok (Ok u) old new span id narrowed nodes e size h =
     h (Alias id) tt (ap Alias (sym e)) (λ c k. (c.sizes id, size ∙ k.sizes id, refl))
 alias_ok (Err e) old new span id narrowed nodes same size h = tt
@@ -479,10 +479,10 @@ pub scalar_ok : {T E : Type 0} (result : Result T E) (old mid new : Growth) (kep
     → StoresText text row old.table kept → Stores kept mid.table
     → StoresProperties (store_of mid.table) number id tag → mid.levels ≡ old.levels → mid.waiting ≡ old.waiting
     → mid.counter ≡ old.counter
-    → OnOk result ((h : Happening) → IsLeaf h
-    → TellsFirst (store_of mid.table) (content.Scalar style row number) h → Counts h id 1 mid.counter
-    → Adds (h, span) mid new)
-    → OnOk result (Adds (Scalar text style id tag, span) old new)
+    → OnOk result ((h : Happening) → IsLeafEvent h
+    → TellsFirst (store_of mid.table) (content.Scalar style row number) h → CountsExpanded h id 1 mid.counter
+    → AddsEvent (h, span) mid new)
+    → OnOk result (AddsEvent (Scalar text style id tag, span) old new)
 scalar_ok (Ok u) old mid new kept span text style id tag row number stored more properties levels waiting counter h =
     let first = text_stores text row old.table kept stored in
     let stands = texts_more (store_of kept) (store_of mid.table) text row more.more first.1 in
@@ -494,8 +494,8 @@ scalar_ok (Err e) old mid new kept span text style id tag row number stored more
 pub start_ok : {T E : Type 0} (result : Result T E) (old mid new : Growth) (span : Span) (what : Content) (id : ℕ)
     → OpensLevel what span old mid → new.levels ≡ mid.levels → new.table ≡ mid.table → new.waiting ≡ mid.waiting
     → OnOk result ((c : Count) → HoldsCount mid.counter c → HoldsCount new.counter (counts_begun id c))
-    → OnOk result ((h : Happening) → IsStart h → anchor_of h ≡ id → TellsFirst (store_of old.table) what h
-    → Adds (h, span) old new)
+    → OnOk result ((h : Happening) → IsStart h → id_of_anchor h ≡ id → TellsFirst (store_of old.table) what h
+    → AddsEvent (h, span) old new)
 start_ok (Ok u) old mid new span what id a l t w adds = λ h start anchor told es g.
     start_grows es old mid new h span what id a l t w adds start anchor told g
 start_ok (Err e) old mid new span what id a l t w adds = tt
@@ -504,9 +504,9 @@ start_ok (Err e) old mid new span what id a l t w adds = tt
 pub collection_ok : {T E : Type 0} (result : Result T E) (old mid new : Growth) (span : Span) (what : Content)
     (h : Happening) → Stores old.table mid.table → mid.levels ≡ old.levels → mid.waiting ≡ old.waiting
     → mid.counter ≡ old.counter → IsStart h → TellsFirst (store_of mid.table) what h
-    → OnOk result ((g : Happening) → IsStart g → anchor_of g ≡ anchor_of h → TellsFirst (store_of mid.table) what g
-    → Adds (g, span) mid new)
-    → OnOk result (Adds (h, span) old new)
+    → OnOk result ((g : Happening) → IsStart g → id_of_anchor g ≡ id_of_anchor h → TellsFirst (store_of mid.table) what g
+    → AddsEvent (g, span) mid new)
+    → OnOk result (AddsEvent (h, span) old new)
 collection_ok (Ok u) old mid new span what h more levels waiting counter start told adds =
     λ es g. adds h start refl told es (stores_grown es old mid more levels waiting counter g)
 collection_ok (Err e) old mid new span what h more levels waiting counter start told adds = tt
@@ -514,35 +514,35 @@ collection_ok (Err e) old mid new span what h more levels waiting counter start 
 pub end_ok : {T E : Type 0} (result : Result T E) (old mid new : Growth) (span : Span) → EndsLevel span old mid
     → new.levels ≡ mid.levels → new.table ≡ mid.table → new.waiting ≡ mid.waiting
     → OnOk result ((c : Count) → HoldsCount mid.counter c → HoldsCount new.counter (left c))
-    → OnOk result ((h : Happening) → IsEnd h → Adds (h, span) old new)
+    → OnOk result ((h : Happening) → IsEnd h → AddsEvent (h, span) old new)
 end_ok (Ok u) old mid new span a l t w leaves =
     λ h is_end es g. end_grows es old mid new h span a l t w leaves is_end g
 end_ok (Err e) old mid new span a l t w leaves = tt
 
 pub document_ok : {T E : Type 0} (result : Result T E) (old new : Growth) → OnOk result (EndsDocument old new)
-    → OnOk result ((span : Span) → Adds (DocumentEnd, span) old new)
+    → OnOk result ((span : Span) → AddsEvent (DocumentEnd, span) old new)
 document_ok (Ok u) old new a = λ span es g. document_grows es (DocumentEnd, span) old new a refl g
 document_ok (Err e) old new a = tt
 
 pub between_ok : {T E : Type 0} (result : Result T E) (old new : Growth) → OnOk result (EndsDocument old new)
-    → OnOk result (IsBetween new)
+    → OnOk result (HasNoneOpen new)
 between_ok (Ok u) old new a = a.between
 between_ok (Err e) old new a = tt
 
-beside : (h : Happening) → IsBeside h → (beginning h ≡ 0) × (ending h ≡ 0)
+beside : (h : Happening) → IsBeside h → (beginning h ≡ 0) × (documents_ended_by h ≡ 0)
 beside Nothing b = (refl, refl)
 beside StreamStart b = (refl, refl)
 beside StreamEnd b = (refl, refl)
 beside (DocumentStart explicit) b = (refl, refl)
 beside _ b = absurd b
 
-pub pass_ok : {T E : Type 0} (result : Result T E) (g : Growth) → OnOk result (IsBetween g)
-    → OnOk result ((h : Happening) (span : Span) → IsBeside h → Adds (h, span) g g)
+pub pass_ok : {T E : Type 0} (result : Result T E) (g : Growth) → OnOk result (HasNoneOpen g)
+    → OnOk result ((h : Happening) (span : Span) → IsBeside h → AddsEvent (h, span) g g)
 pass_ok (Ok u) g between = λ h span b es k.
     stay_grows es (h, span) g between (beside h b).0 (beside h b).1 k
 pass_ok (Err e) g between = tt
 
-pub grows_none : (g : Growth) → IsBetween g → IsEmptyTable g.table → HoldsCount g.counter no_count → HasGrown [] g
+pub grows_none : (g : Growth) → HasNoneOpen g → IsEmptyTable g.table → HoldsCount g.counter no_count → HasGrown [] g
 grows_none g between empty counter =
     let s = store_of g.table in
     let entries = g.table.entries.items in
@@ -579,12 +579,12 @@ nothing_open [] x own e = cc
 nothing_open (y ∷ around) x own e = cc
 
 first_between : (g : Growth) (doc : List Event) (inside : List Level) → IsStack g.levels.items inside
-    → Holds doc [] (store_of g.table) inside g.waiting.items g.table.entries.items → IsBetween g
+    → Holds doc [] (store_of g.table) inside g.waiting.items g.table.entries.items → HasNoneOpen g
 first_between g doc [] stack (outer, i, h) =
     let parts = no_nodes_yet doc i.parts i.nodes i.events in
-    record { levels = stack; waiting = i.waits ∙ ap (numbers (begun doc)) parts }
+    record { levels = stack; waiting = i.waits ∙ ap (numbers (nodes_begun doc)) parts }
 first_between g doc (l ∷ ls) stack (x, around, before, e, outer, i, o, n, w, h) =
     absurd (nothing_open around x (all_of i.parts) i.events)
 
-pub between_first : (g : Growth) → HasGrown [] g → IsBetween g
+pub between_first : (g : Growth) → HasGrown [] g → HasNoneOpen g
 between_first g h = first_between g h.doc h.inside h.stack h.holds

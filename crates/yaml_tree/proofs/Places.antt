@@ -1,16 +1,16 @@
 -- A number is of one node, and a node has one list of parts: events show where a node ends.
 use Rattle.std.proofs.Common.{arith, ◌≡◌, ◌∙◌, refl, sym, ap, subst, ℕ, suc, ◌+◌, ◌<◌, List, [], ◌∷◌, ◌++◌, append_assoc, append-nil, inl, inr}
 use Rattle.saphyr_parser.specs.Events.{Happening, Alias, Scalar, SequenceStart, SequenceEnd, MappingStart, MappingEnd}
-use Rattle.yaml_tree.specs.Tables.{AreNodes, Event, IsEnd, IsLeaf, IsMadeOf, IsNode, IsNodeAt, IsStart, all_of, beginning, begun, leaf, none, one_more, whole}
+use Rattle.yaml_tree.specs.Tables.{AreNodes, Event, IsEnd, IsLeafEvent, IsMadeOf, IsNode, IsNodeAt, IsStart, all_of, beginning, nodes_begun, leaf, none, one_more, whole}
 
 -- ## What an event does
 
-no_leaf_starts : (h : Happening) → IsLeaf h → IsStart h → ⊥
+no_leaf_starts : (h : Happening) → IsLeafEvent h → IsStart h → ⊥
 no_leaf_starts (Alias id) l s = absurd s
 no_leaf_starts (Scalar text style id tag) l s = absurd s
 no_leaf_starts _ l s = absurd l
 
-no_leaf_ends : (h : Happening) → IsLeaf h → IsEnd h → ⊥
+no_leaf_ends : (h : Happening) → IsLeafEvent h → IsEnd h → ⊥
 no_leaf_ends (Alias id) l e = absurd e
 no_leaf_ends (Scalar text style id tag) l e = absurd e
 no_leaf_ends _ l e = absurd l
@@ -20,7 +20,7 @@ no_start_ends (SequenceStart id tag) s e = absurd e
 no_start_ends (MappingStart id tag) s e = absurd e
 no_start_ends _ s e = absurd s
 
-leaf_begins : (h : Happening) → IsLeaf h → beginning h ≡ 1
+leaf_begins : (h : Happening) → IsLeafEvent h → beginning h ≡ 1
 leaf_begins (Alias id) l = refl
 leaf_begins (Scalar text style id tag) l = refl
 leaf_begins _ l = absurd l
@@ -56,7 +56,7 @@ around x y xs ys = ap (λ (l : List Event). x ∷ l) (append_assoc xs (y ∷ [])
 
 no_end_begins : (own xs ys : List Event) (y : Event) → IsNode own → IsEnd y.0 → own ++ xs ≡ y ∷ ys → ⊥
 no_end_begins _ xs ys y (leaf e l) end same =
-    no_leaf_ends y.0 (subst (λ (x : Event). IsLeaf x.0) (same_head e y xs ys same) l) end
+    no_leaf_ends y.0 (subst (λ (x : Event). IsLeafEvent x.0) (same_head e y xs ys same) l) end
 no_end_begins _ xs ys y (whole first parts last s nodes ends) end same =
     no_start_ends y.0 (subst (λ (x : Event). IsStart x.0) (same_head first y _ ys same) s) end
 
@@ -65,9 +65,9 @@ mutual
   node_once _ _ xs ys (leaf e l) (leaf f m) same =
       (ap (λ (x : Event). x ∷ []) (same_head e f xs ys same), same_tail e f xs ys same)
   node_once _ _ xs ys (leaf e l) (whole first parts last s nodes end) same =
-      absurd (no_leaf_starts first.0 (subst (λ (x : Event). IsLeaf x.0) (same_head e first xs _ same) l) s)
+      absurd (no_leaf_starts first.0 (subst (λ (x : Event). IsLeafEvent x.0) (same_head e first xs _ same) l) s)
   node_once _ _ xs ys (whole first parts last s nodes end) (leaf f m) same =
-      absurd (no_leaf_starts first.0 (subst (λ (x : Event). IsLeaf x.0) (sym (same_head first f _ ys same)) m) s)
+      absurd (no_leaf_starts first.0 (subst (λ (x : Event). IsLeafEvent x.0) (sym (same_head first f _ ys same)) m) s)
   node_once _ _ xs ys (whole first parts last s nodes end) (whole f qs z t others ends) same =
       let whole_same : first ∷ (all_of parts ++ (last ∷ xs)) ≡ f ∷ (all_of qs ++ (z ∷ ys)) =
       sym (around first last (all_of parts) xs) ∙ same ∙ around f z (all_of qs) ys in
@@ -103,9 +103,9 @@ pub made_once : (own : List Event) (first f : Event) (parts qs : List (List Even
 made_once own first f parts qs last z (inl m) (inl n) =
     let same = same_head first f [] [] (sym m.1 ∙ n.1) in (same, m.2 ∙ sym n.2, m.3 ∙ same ∙ sym n.3)
 made_once own first f parts qs last z (inl m) (inr n) =
-    absurd (no_leaf_starts f.0 (subst (λ (x : Event). IsLeaf x.0) (same_head first f [] _ (sym m.1 ∙ n.1)) m.0) n.0)
+    absurd (no_leaf_starts f.0 (subst (λ (x : Event). IsLeafEvent x.0) (same_head first f [] _ (sym m.1 ∙ n.1)) m.0) n.0)
 made_once own first f parts qs last z (inr m) (inl n) =
-    absurd (no_leaf_starts first.0 (subst (λ (x : Event). IsLeaf x.0) (sym (same_head first f _ [] (sym m.1 ∙ n.1))) n.0) m.0)
+    absurd (no_leaf_starts first.0 (subst (λ (x : Event). IsLeafEvent x.0) (sym (same_head first f _ [] (sym m.1 ∙ n.1))) n.0) m.0)
 made_once own first f parts qs last z (inr m) (inr n) =
     let same = sym m.1 ∙ n.1 in
     let inner = nodes_once parts qs (last ∷ []) (z ∷ []) last z [] [] m.2 n.2 m.3 n.3 refl refl
@@ -114,11 +114,11 @@ made_once own first f parts qs last z (inr m) (inr n) =
 
 -- ## A place
 
-pub begun-append : (xs ys : List Event) → begun (xs ++ ys) ≡ begun xs + begun ys
+pub begun-append : (xs ys : List Event) → nodes_begun (xs ++ ys) ≡ nodes_begun xs + nodes_begun ys
 begun-append [] ys = omega arith
 begun-append (x ∷ xs) ys = let e = begun-append xs ys in omega (arith, e)
 
-pub fronts_once : (f g xs ys : List Event) (x y : Event) → beginning x.0 ≡ 1 → beginning y.0 ≡ 1 → begun f ≡ begun g
+pub fronts_once : (f g xs ys : List Event) (x y : Event) → beginning x.0 ≡ 1 → beginning y.0 ≡ 1 → nodes_begun f ≡ nodes_begun g
     → f ++ (x ∷ xs) ≡ g ++ (y ∷ ys) → x ∷ xs ≡ y ∷ ys
 fronts_once [] [] xs ys x y one other count same = same
 fronts_once [] (e ∷ g) xs ys x y one other count same =
@@ -143,12 +143,12 @@ place_once es number a b p q =
     (node_once a b p.behind q.behind p.node q.node
     (ap (λ (l : List Event). l ++ p.behind) one.split ∙ same ∙ ap (λ (l : List Event). l ++ q.behind) (sym other.split))).0
 
-pub within : (es : List Event) (number : ℕ) (own : List Event) → IsNodeAt es number own → number < begun es
+pub within : (es : List Event) (number : ℕ) (own : List Event) → IsNodeAt es number own → number < nodes_begun es
 within es number own at =
     let one = begins own at.node in
-    let all = ap begun at.split ∙ begun-append at.front (own ++ at.behind) in
+    let all = ap nodes_begun at.split ∙ begun-append at.front (own ++ at.behind) in
     let inner = begun-append own at.behind in
-    let begin = ap begun one.split in
+    let begin = ap nodes_begun one.split in
     let first = at.first in
     let is = one.one in
     omega (arith, all, inner, begin, first, is)

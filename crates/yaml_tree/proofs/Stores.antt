@@ -9,7 +9,7 @@ use Rattle.yaml_tree.specs.declared.table.NodeTable.{NodeTable}
 use Rattle.yaml_tree.specs.declared.table.Properties.{Properties}
 use Rattle.yaml_tree.specs.declared.table.Row.{Row}
 use Rattle.yaml_tree.specs.declared.table.TagRows.{TagRows}
-use Rattle.yaml_tree.specs.Tables.{HasParts, IsStart, IsTag, MaybeTag, StandIn, Store, StoresProperties, TellsFirst, store_of}
+use Rattle.yaml_tree.specs.Tables.{HasParts, IsStart, HasTagRows, MaybeTag, StandIn, Store, StoresProperties, TellsFirst, store_of}
 use Rattle.yaml_tree.specs.GrowerSeen.{IsMore, KeepsNodes, Stores, StoresText, StoresTexts, with_row}
 
 pub more_none : (s : Store) → IsMore s s
@@ -47,8 +47,8 @@ pub stands_last : (xs : List ℕ) (row : Row) (all : List ℕ) → row.first ≡
     → StandIn xs row (all ++ xs)
 stands_last xs row all f c = (all, [], ap (λ (ns : List ℕ). all ++ ns) (sym (append-nil xs)), sym f, sym c)
 
-tag_more : (texts more : List ℕ) (rows : Option TagRows) (tag : MaybeTag) → IsTag texts rows tag
-    → IsTag (texts ++ more) rows tag
+tag_more : (texts more : List ℕ) (rows : Option TagRows) (tag : MaybeTag) → HasTagRows texts rows tag
+    → HasTagRows (texts ++ more) rows tag
 tag_more texts more (Some rows) (Some tag) (h, s) =
     (stands_more tag.handle rows.handle texts more h, stands_more tag.suffix rows.suffix texts more s)
 tag_more texts more (Some rows) None h = absurd h
@@ -66,7 +66,7 @@ properties_more a b (suc n) id tag more (p, is, anchor, t) = (
   p,
   ap (λ (ps : List Properties). slice_get ps n) more.properties ∙ get_more a.properties more.more_properties n p is,
   anchor,
-  subst (λ (ts : List ℕ). IsTag ts p.tag tag) (sym more.texts) (tag_more a.texts more.more_texts p.tag tag t),
+  subst (λ (ts : List ℕ). HasTagRows ts p.tag tag) (sym more.texts) (tag_more a.texts more.more_texts p.tag tag t),
 )
 
 pub texts_more : (a b : Store) (text : List ℕ) (row : Row) → IsMore a b → StandIn text row a.texts → StandIn text row b.texts
@@ -139,7 +139,7 @@ get_seam (x ∷ xs) y = get_seam xs y
 -- the texts of a tag are stored, and then the properties
 pub record Keeping (old texts noted new : NodeTable) (p : Properties) (tag : MaybeTag) : Type 0 where
   pub first : StoresTexts old texts
-  pub tells : IsTag texts.texts.items p.tag tag
+  pub tells : HasTagRows texts.texts.items p.tag tag
   pub notes : KeepsNodes texts noted
   pub others : new ≡ record noted { properties = new.properties }
   pub properties : new.properties.items ≡ noted.properties.items ++ p ∷ []
@@ -176,7 +176,7 @@ kept_properties old texts noted new p tag number k is =
       ap (λ (ps : List Properties). slice_get ps (length noted.properties.items)) k.properties
           ∙ get_seam noted.properties.items p,
       refl,
-      subst (λ (ts : List ℕ). IsTag ts p.tag tag) (sym own) k.tells,
+      subst (λ (ts : List ℕ). HasTagRows ts p.tag tag) (sym own) k.tells,
     )
 
 pub keeps_ok : {E : Type 0} (result : Result ℕ E) (old texts noted new : NodeTable) (p : Properties) (tag : MaybeTag)

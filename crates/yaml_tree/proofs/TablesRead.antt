@@ -19,13 +19,13 @@ use Rattle.yaml_tree.specs.declared.tally.Tally.{Tally}
 use Rattle.yaml_tree.specs.Counting.{Counts, Fits, StayWithin, counts_behind, counts_behind_all, no_nodes}
 use Rattle.yaml_tree.specs.DocumentLoading.{EndNoDocument, LeavesBehindDocument}
 use Rattle.yaml_tree.specs.DocumentSeen.{LeavesPart}
-use Rattle.yaml_tree.specs.GrowerSeen.{Adds, HasGrown, IsBetween}
+use Rattle.yaml_tree.specs.GrowerSeen.{AddsEvent, HasGrown, HasNoneOpen}
 use Rattle.yaml_tree.specs.Leaving.{HasHandedOut, LeavesParser}
 use Rattle.yaml_tree.specs.Loading.{RunsOut, Stops}
 use Rattle.yaml_tree.specs.LoaderSeen as loader
 use Rattle.yaml_tree.specs.TableLoading.{LoadsNextTable, LoadsTable, PassesNoTable, PassesTable}
 use Rattle.yaml_tree.specs.Tables.{Event, IsTable}
-use Rattle.yaml_tree.specs.TableSeen.{Fails, Finishes, Forbids, GoOn, HasTaken, LeavesHere, LoadsHere, RunsOutBehind, StopsBehind, TakesEvents, TakesLast, TakesRest, TakesToEnd}
+use Rattle.yaml_tree.specs.TableSeen.{FailsToGrow, FinishesTable, ForbidsEvent, GoOn, HasGrownWithin, LeavesHere, LoadsHere, RunsOutAfter, StopsAtEvent, GrowsByEvents, GrowsByLast, GrowsByRest, GrowsToEnd}
 use Rattle.yaml_tree.specs.TallySeen.{Exceeds, Tallies, counts_of}
 use Rattle.yaml_tree.proofs.DocumentEnds.{none_more}
 use Rattle.yaml_tree.proofs.DocumentRead.{given_push, split_more}
@@ -40,9 +40,9 @@ counted_more : (hs : List Happening) (h : Happening) (t : Tally) → counts_of t
 counted_more hs h t f = ap (counts_behind h) f ∙ sym (counts_behind_all-append hs (h ∷ []) no_nodes)
 
 pub takes : (limits : Limits) (es : List Event) (x : Event) (place : Marker) (old new : Grower)
-    → HasTaken limits es old
+    → HasGrownWithin limits es old
     → Tallies (Ok tt) (counts_behind x.0 (counts_of old.tally)) place old.tally new.tally
-    → Adds x old.growth new.growth → HasTaken limits (es ++ x ∷ []) new
+    → AddsEvent x old.growth new.growth → HasGrownWithin limits (es ++ x ∷ []) new
 takes limits es x place old new t c adds =
     let own = sym (given_push es x) in record {
       same_limits = c.0 ∙ t.same_limits;
@@ -55,15 +55,15 @@ takes limits es x place old new t c adds =
     }
 
 pub lacks_memory : (limits : Limits) (es : List Event) (x : Event) (place : Marker) (old : Grower) (t : Tally)
-    → HasTaken limits es old → Tallies (Ok tt) (counts_behind x.0 (counts_of old.tally)) place old.tally t
-    → Forbids fault.OutOfMemory limits (happenings (es ++ x ∷ [])) place
+    → HasGrownWithin limits es old → Tallies (Ok tt) (counts_behind x.0 (counts_of old.tally)) place old.tally t
+    → ForbidsEvent fault.OutOfMemory limits (happenings (es ++ x ∷ [])) place
 lacks_memory limits es x place old t k c =
     subst (λ (hs : List Happening). Fits limits (counts_behind_all hs no_nodes)) (sym (given_push es x))
     (fits_along _ limits _ _ k.same_limits (counted_more (happenings es) x.0 old.tally k.counted) c.2)
 
 pub exceeds : (limits : Limits) (es : List Event) (x : Event) (place : Marker) (old : Grower) (f : TreeFault)
-    → HasTaken limits es old → Exceeds f old.tally.limits (counts_behind x.0 (counts_of old.tally)) place
-    → Forbids f limits (happenings (es ++ x ∷ [])) place
+    → HasGrownWithin limits es old → Exceeds f old.tally.limits (counts_behind x.0 (counts_of old.tally)) place
+    → ForbidsEvent f limits (happenings (es ++ x ∷ [])) place
 exceeds limits es x place old (fault.TooManyNodes at most) k c =
     subst (λ (hs : List Happening). Exceeds (fault.TooManyNodes at most) limits (counts_behind_all hs no_nodes) place)
     (sym (given_push es x)) (exceeds_more (fault.TooManyNodes at most) _ limits _ _ place k.same_limits
@@ -82,7 +82,7 @@ pub record EventsRead (wanted : Bool) (limits : Limits) (all left : Answer) (g :
   pub split : all.events ≡ taken ++ left.events
   pub fault : all.fault ≡ left.fault
   pub inside : GoOn wanted (happenings taken)
-  pub grower : HasTaken limits taken g
+  pub grower : HasGrownWithin limits taken g
 
 goes_none : (wanted : Bool) → GoOn wanted []
 goes_none true = tt
@@ -93,14 +93,14 @@ goes_more : (wanted : Bool) (hs : List Happening) (h : Happening) → GoOn wante
 goes_more true hs h g n = tt
 goes_more false hs h g n = none_more hs h g (n refl)
 
-pub reads_nothing : (wanted : Bool) (limits : Limits) (all : Answer) (g : Grower) → HasTaken limits [] g
+pub reads_nothing : (wanted : Bool) (limits : Limits) (all : Answer) (g : Grower) → HasGrownWithin limits [] g
     → EventsRead wanted limits all all g
 reads_nothing wanted limits all g h =
     record { taken = []; split = refl; fault = refl; inside = goes_none wanted; grower = h }
 
 pub reads_on : (wanted : Bool) (limits : Limits) (all a b : Answer) (e : Event) (old new : Grower)
     (r : EventsRead wanted limits all a old) → a ≡ with_first_event e b
-    → (wanted ≡ false → e.0 ≡ DocumentEnd → ⊥) → HasTaken limits (r.taken ++ e ∷ []) new
+    → (wanted ≡ false → e.0 ≡ DocumentEnd → ⊥) → HasGrownWithin limits (r.taken ++ e ∷ []) new
     → EventsRead wanted limits all b new
 reads_on wanted limits all a b e old new r h n t = record {
   taken = r.taken ++ e ∷ [];
@@ -112,8 +112,8 @@ reads_on wanted limits all a b e old new r h n t = record {
 
 pub reads_end : (limits : Limits) (wanted : Bool) (all a b : Answer) (e : Event) (old new : Grower)
     (r : EventsRead wanted limits all a old) → wanted ≡ false → a ≡ with_first_event e b → e.0 ≡ DocumentEnd
-    → HasTaken limits (r.taken ++ e ∷ []) new → IsBetween new.growth
-    → TakesEvents wanted limits (Ok true) all b new
+    → HasGrownWithin limits (r.taken ++ e ∷ []) new → HasNoneOpen new.growth
+    → GrowsByEvents wanted limits (Ok true) all b new
 reads_end limits wanted all a b e old new r off h is t between = (
   off,
   record {
@@ -132,7 +132,7 @@ reads_end limits wanted all a b e old new r off h is t between = (
 
 stops_behind : (wanted : Bool) (f : TreeFault) (limits : Limits) (all a b : Answer) (e : Event) (old : Grower)
     (r : EventsRead wanted limits all a old) → a ≡ with_first_event e b
-    → Forbids f limits (happenings (r.taken ++ e ∷ [])) e.1.start → StopsBehind wanted f limits all b
+    → ForbidsEvent f limits (happenings (r.taken ++ e ∷ [])) e.1.start → StopsAtEvent wanted f limits all b
 stops_behind wanted f limits all a b e old r h w = record {
   taken = r.taken;
   event = e;
@@ -140,12 +140,12 @@ stops_behind wanted f limits all a b e old r h w = record {
   fault = r.fault ∙ ap (λ (x : Answer). x.fault) h;
   inside = r.inside;
   within = r.grower.within;
-  why = subst (λ (hs : List Happening). Forbids f limits hs e.1.start) (given_push r.taken e) w;
+  why = subst (λ (hs : List Happening). ForbidsEvent f limits hs e.1.start) (given_push r.taken e) w;
 }
 
 pub fails_behind : (wanted : Bool) (f : TreeFault) (limits : Limits) (all a b : Answer) (e : Event) (old : Grower)
     (r : EventsRead wanted limits all a old) → a ≡ with_first_event e b
-    → Forbids f limits (happenings (r.taken ++ e ∷ [])) e.1.start → Fails wanted limits f all b
+    → ForbidsEvent f limits (happenings (r.taken ++ e ∷ [])) e.1.start → FailsToGrow wanted limits f all b
 fails_behind wanted (fault.Parse f) limits all a b e old r h w = absurd w
 fails_behind wanted fault.NotFresh limits all a b e old r h w = w
 fails_behind wanted fault.OutOfMemory limits all a b e old r h w =
@@ -159,7 +159,7 @@ all_read : (all a : Answer) (es : List Event) → all.events ≡ es ++ a.events 
 all_read all a es split e = sym (split ∙ ap (λ (l : List Event). es ++ l) e ∙ append-nil es)
 
 pub refuses_behind : (wanted : Bool) (f : Fault) (limits : Limits) (all a b : Answer) (g : Grower)
-    → EventsRead wanted limits all a g → Refuses f a → b ≡ empty_answer → Fails wanted limits (fault.Parse f) all b
+    → EventsRead wanted limits all a g → Refuses f a → b ≡ empty_answer → FailsToGrow wanted limits (fault.Parse f) all b
 refuses_behind wanted (parse.Scan e) limits all a b g r h k =
     let same = ap happenings (all_read all a r.taken r.split (ap (λ (x : Answer). x.events) h)) in (
       r.fault ∙ ap (λ (x : Answer). x.fault) h,
@@ -184,18 +184,18 @@ refuses_behind wanted parse.InsideDocument limits all a b g r h k = h
 
 pub reads_rest : (wanted : Bool) (limits : Limits) (all a b : Answer) (g : Grower)
     → EventsRead wanted limits all a g → a ≡ empty_answer → b ≡ empty_answer
-    → TakesEvents wanted limits (Ok false) all b g
+    → GrowsByEvents wanted limits (Ok false) all b g
 reads_rest wanted limits all a b g r h k =
     let same = all_read all a r.taken r.split (ap (λ (x : Answer). x.events) h) in record {
       inside = subst (λ (es : List Event). GoOn wanted (happenings es)) same r.inside;
       fault = r.fault ∙ ap (λ (x : Answer). x.fault) h;
       nothing = k;
-      grower = subst (λ (es : List Event). HasTaken limits es g) same r.grower;
+      grower = subst (λ (es : List Event). HasGrownWithin limits es g) same r.grower;
     }
 
 -- ## What calls answer
 
-same_why : (f : TreeFault) (limits : Limits) (hs : List Happening) (place : Marker) → Forbids f limits hs place
+same_why : (f : TreeFault) (limits : Limits) (hs : List Happening) (place : Marker) → ForbidsEvent f limits hs place
     → loader.Forbids f limits hs place
 same_why (fault.Parse f) limits hs place w = absurd w
 same_why fault.NotFresh limits hs place w = absurd w
@@ -203,7 +203,7 @@ same_why fault.OutOfMemory limits hs place w = w
 same_why (fault.TooManyNodes at most) limits hs place w = w
 same_why (fault.TooDeep at most) limits hs place w = w
 
-abbrev stops : (wanted : Bool) (f : TreeFault) (limits : Limits) (all left : Answer) → StopsBehind wanted f limits all left
+abbrev stops : (wanted : Bool) (f : TreeFault) (limits : Limits) (all left : Answer) → StopsAtEvent wanted f limits all left
     → Stops f limits all left
 stops wanted f limits all left s = record {
   taken = s.taken;
@@ -214,7 +214,7 @@ stops wanted f limits all left s = record {
   why = same_why f limits (happenings s.taken ++ s.event.0 ∷ []) s.event.1.start s.why;
 }
 
-abbrev runs_out : (wanted : Bool) (limits : Limits) (all : Answer) → RunsOutBehind wanted limits all → RunsOut limits all
+abbrev runs_out : (wanted : Bool) (limits : Limits) (all : Answer) → RunsOutAfter wanted limits all → RunsOut limits all
 runs_out wanted limits all s = record {
   taken = s.taken;
   lost = s.lost;
@@ -226,7 +226,7 @@ runs_out wanted limits all s = record {
 
 -- no call of a grower says that the parser isn't fresh
 pub fails_to_load : (wanted : Bool) (f : TreeFault) (limits : Limits) (all left : Answer)
-    → Fails wanted limits f all left → LoadsTable limits (Err f) all left
+    → FailsToGrow wanted limits f all left → LoadsTable limits (Err f) all left
 fails_to_load wanted (fault.Parse (parse.Scan e)) limits all left h = (h.0, h.2, h.3)
 fails_to_load wanted (fault.Parse parse.OutOfMemory) limits all left h = (runs_out wanted limits all h.0, h.1)
 fails_to_load wanted (fault.Parse parse.Receiver) limits all left h = h
@@ -237,7 +237,7 @@ fails_to_load wanted (fault.TooManyNodes at most) limits all left h =
     stops wanted (fault.TooManyNodes at most) limits all left h
 fails_to_load wanted (fault.TooDeep at most) limits all left h = stops wanted (fault.TooDeep at most) limits all left h
 
-pub fails_in_document : (f : TreeFault) (limits : Limits) (all left : Answer) → Fails false limits f all left
+pub fails_in_document : (f : TreeFault) (limits : Limits) (all left : Answer) → FailsToGrow false limits f all left
     → LoadsHere limits (Err f) all left
 fails_in_document (fault.Parse (parse.Scan e)) limits all left h = ((h.0, h.2, h.3), h.1)
 fails_in_document (fault.Parse parse.OutOfMemory) limits all left h =
@@ -252,7 +252,7 @@ fails_in_document (fault.TooDeep at most) limits all left h =
     (stops false (fault.TooDeep at most) limits all left h, h.inside)
 
 pub passes_table : (limits : Limits) (all left : Answer) (g : Grower)
-    → TakesEvents false limits (Ok true) all left g → PassesTable limits g.growth.table all left
+    → GrowsByEvents false limits (Ok true) all left g → PassesTable limits g.growth.table all left
 passes_table limits all left g (off, t) = record {
   passed = t.taken;
   inner = t.inner;
@@ -266,7 +266,7 @@ passes_table limits all left g (off, t) = record {
   table = grown_table t.taken g.growth t.between.levels t.grower.grown;
 }
 
-pub passes_none : (limits : Limits) (all left : Answer) (g : Grower) → TakesEvents false limits (Ok false) all left g
+pub passes_none : (limits : Limits) (all left : Answer) (g : Grower) → GrowsByEvents false limits (Ok false) all left g
     → PassesNoTable all left
 passes_none limits all left g t = record { inside = t.inside; fault = t.fault; nothing = t.nothing }
 
@@ -279,7 +279,7 @@ within_last limits (x ∷ xs) h c w =
 
 -- all events were taken, and the table is finished
 pub loads_all : (limits : Limits) (all left : Answer) (g : Grower) (r : Result NodeTable TreeFault)
-    → IsAtStart all → TakesEvents true limits (Ok false) all left g → Finishes limits all.events r
+    → IsAtStart all → GrowsByEvents true limits (Ok false) all left g → FinishesTable limits all.events r
     → LoadsTable limits r all left
 loads_all limits all left g (Ok t) start taken is = (start, is, taken.fault, taken.grower.within, taken.nothing)
 loads_all limits all left g (Err fault.OutOfMemory) start taken (inner, last, is) =
@@ -302,8 +302,8 @@ last_of : (e : Event) (es : List Event) → (inner : List Event) × (last : Even
 last_of e [] = ([], e, refl)
 last_of e (f ∷ es) = let rest = last_of f es in (e ∷ rest.0, rest.1, ap (λ (l : List Event). e ∷ l) rest.2)
 
-pub not_finished : (limits : Limits) (es : List Event) (g : Grower) → HasTaken limits es g
-    → (IsBetween g.growth → ⊥) → Finishes limits es (Err fault.OutOfMemory)
+pub not_finished : (limits : Limits) (es : List Event) (g : Grower) → HasGrownWithin limits es g
+    → (HasNoneOpen g.growth → ⊥) → FinishesTable limits es (Err fault.OutOfMemory)
 not_finished limits [] g t n = absurd (n (between_first g.growth t.grown))
 not_finished limits (e ∷ es) g t n = last_of e es
 
@@ -315,7 +315,7 @@ no_first (x ∷ inner) last es e = cc
 
 -- where memory ran out in looking nothing but that is answered
 lost : (wanted : Bool) (limits : Limits) (all left : Answer) (g : Grower) (r : Result Bool TreeFault) → 0 < count all
-    → TakesEvents wanted limits r (fault_alone OutOfMemory) left g → TakesEvents wanted limits r all left g
+    → GrowsByEvents wanted limits r (fault_alone OutOfMemory) left g → GrowsByEvents wanted limits r all left g
 lost wanted limits all left g (Ok true) some t =
     absurd (no_first t.1.inner t.1.last left.events
     (t.1.split ∙ ap (λ (l : List Event). l ++ left.events) t.1.up_to))
@@ -345,22 +345,22 @@ lost wanted limits all left g (Err (fault.TooDeep at most)) some t =
     absurd (nothing_before t.taken left.events t.event t.split)
 
 pub takes_behind : (wanted : Bool) (limits : Limits) (all mid left : Answer) (g : Grower) (r : Result Bool TreeFault)
-    → Stays all mid → TakesEvents wanted limits r mid left g → TakesEvents wanted limits r all left g
+    → Stays all mid → GrowsByEvents wanted limits r mid left g → GrowsByEvents wanted limits r all left g
 takes_behind wanted limits all mid left g r (inl same) t =
-    subst (λ (a : Answer). TakesEvents wanted limits r a left g) same t
+    subst (λ (a : Answer). GrowsByEvents wanted limits r a left g) same t
 takes_behind wanted limits all mid left g r (inr gone) t = lost wanted limits all left g r gone.0
-    (subst (λ (a : Answer). TakesEvents wanted limits r a left g) gone.1 t)
+    (subst (λ (a : Answer). GrowsByEvents wanted limits r a left g) gone.1 t)
 
 -- where events were taken, a look before lost none
 pub same_behind : (wanted : Bool) (limits : Limits) (all mid left : Answer) (g : Grower) (b : Bool) → Stays all mid
-    → TakesEvents wanted limits (Ok b) mid left g → mid ≡ all
+    → GrowsByEvents wanted limits (Ok b) mid left g → mid ≡ all
 same_behind wanted limits all mid left g b (inl same) t = same
 same_behind wanted limits all mid left g true (inr gone) t =
-    let u = subst (λ (a : Answer). TakesEvents wanted limits (Ok true) a left g) gone.1 t in
+    let u = subst (λ (a : Answer). GrowsByEvents wanted limits (Ok true) a left g) gone.1 t in
     absurd (no_first u.1.inner u.1.last left.events
     (u.1.split ∙ ap (λ (l : List Event). l ++ left.events) u.1.up_to))
 same_behind wanted limits all mid left g false (inr gone) t =
-    let u = subst (λ (a : Answer). TakesEvents wanted limits (Ok false) a left g) gone.1 t in
+    let u = subst (λ (a : Answer). GrowsByEvents wanted limits (Ok false) a left g) gone.1 t in
     absurd (some_fault OutOfMemory u.fault)
 
 pub loads_here : (limits : Limits) (all left : Answer) (r : Result (Option NodeTable) TreeFault)
@@ -376,7 +376,7 @@ loads_here limits all left (Err (fault.TooDeep at most)) h = h
 -- ## The parser that is left
 
 pub leaves_table : (limits : Limits) (es : List Event) (r : Result NodeTable TreeFault) (old looked new : EventCursor)
-    → Looks old looked → LeavesPart (Ok false) looked new → Finishes limits es r → LeavesParser r old new
+    → Looks old looked → LeavesPart (Ok false) looked new → FinishesTable limits es r → LeavesParser r old new
 leaves_table limits es (Ok t) old looked new l h f = record { looked = looked; looks = l; leaves = h }
 leaves_table limits es (Err fault.OutOfMemory) old looked new l h f =
     record { looked = looked; looks = l; leaves = record { handed = (to_come looked).events; over = h.0 } }
@@ -399,7 +399,7 @@ leaves_here limits all left (Err (fault.TooDeep at most)) old looked new l k h =
 
 -- an event was handed out and not taken
 pub leaves_at : (f : TreeFault) (limits : Limits) (hs : List Happening) (place : Marker) (a b : EventCursor)
-    → Forbids f limits hs place → HasHandedOut a b → LeavesPart (Err f) a b
+    → ForbidsEvent f limits hs place → HasHandedOut a b → LeavesPart (Err f) a b
 leaves_at (fault.Parse f) limits hs place a b w h = absurd w
 leaves_at fault.NotFresh limits hs place a b w h = h
 leaves_at fault.OutOfMemory limits hs place a b w h = h
@@ -407,14 +407,14 @@ leaves_at (fault.TooManyNodes at most) limits hs place a b w h = h
 leaves_at (fault.TooDeep at most) limits hs place a b w h = h
 
 pub loads_done : (limits : Limits) (all left : Answer) (g : Grower) (r : Result NodeTable TreeFault) (b : Bool)
-    → IsAtStart all → TakesEvents true limits (Ok b) all left g
-    → ((most : Limits) (es : List Event) → HasTaken most es g → Finishes most es r) → LoadsTable limits r all left
+    → IsAtStart all → GrowsByEvents true limits (Ok b) all left g
+    → ((most : Limits) (es : List Event) → HasGrownWithin most es g → FinishesTable most es r) → LoadsTable limits r all left
 loads_done limits all left g r true start t f = absurd (true≢false t.0)
 loads_done limits all left g r false start t f = loads_all limits all left g r start t (f limits all.events t.grower)
 
 pub leaves_done : (limits : Limits) (all left : Answer) (g : Grower) (r : Result NodeTable TreeFault) (b : Bool)
-    (old looked new : EventCursor) → TakesEvents true limits (Ok b) all left g
-    → ((most : Limits) (es : List Event) → HasTaken most es g → Finishes most es r) → Looks old looked
+    (old looked new : EventCursor) → GrowsByEvents true limits (Ok b) all left g
+    → ((most : Limits) (es : List Event) → HasGrownWithin most es g → FinishesTable most es r) → Looks old looked
     → LeavesPart (Ok b) looked new → LeavesParser r old new
 leaves_done limits all left g r true old looked new t f l h = absurd (true≢false t.0)
 leaves_done limits all left g r false old looked new t f l h =

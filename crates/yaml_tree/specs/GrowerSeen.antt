@@ -16,7 +16,7 @@ use Rattle.yaml_tree.specs.declared.table.Root.{Root}
 use Rattle.yaml_tree.specs.declared.table.Row.{Row}
 use Rattle.yaml_tree.specs.CounterSeen.{Count, HoldsCount, counted, counted_all, with_nodes}
 use Rattle.yaml_tree.specs.Expanding.{most, no_sizes}
-use Rattle.yaml_tree.specs.Tables.{AreEntriesFrom, AreNodes, AreRootsFrom, Event, IsStart, MaybeTag, Store, StoresProperties, TellsFirst, all_of, begun, ended, marker_of, numbers, store_of}
+use Rattle.yaml_tree.specs.Tables.{AreEntriesFrom, AreNodes, AreRootsFrom, Event, IsStart, MaybeTag, Store, StoresProperties, TellsFirst, all_of, nodes_begun, documents_ended, marker_of, numbers, store_of}
 
 -- ## What is stored
 
@@ -65,24 +65,24 @@ abbrev pub closed : Row → Mark → Entry → Entry
 closed row end e = record { content = with_row row e.content; start = e.start; end = end }
 
 -- the entry with this number gets its parts and its end
-pub record Closes (number : ℕ) (row : Row) (end : Mark) (entry : Entry) (old new : NodeTable) : Type 0 where
+pub record ClosesEntry (number : ℕ) (row : Row) (end : Mark) (entry : Entry) (old new : NodeTable) : Type 0 where
   pub others : new ≡ record old { entries = new.entries }
   pub entries : new.entries.items ≡ slice_set old.entries.items number (closed row end entry)
 
--- ## What has begun
+-- ## What has nodes_begun
 
--- Behind the events of the base these nodes have ended. Their numbers wait, and their entries are the last.
+-- Behind the events of the base these nodes have documents_ended. Their numbers wait, and their entries are the last.
 pub record Inside (es base : List Event) (s : Store) (waiting before : List ℕ) (entries outer : List Entry)
     : Type 0 where
   pub parts : List (List Event)
   pub inner : List Entry
   pub events : es ≡ base ++ all_of parts
   pub nodes : AreNodes parts
-  pub waits : waiting ≡ before ++ numbers (begun base) parts
+  pub waits : waiting ≡ before ++ numbers (nodes_begun base) parts
   pub split : entries ≡ outer ++ inner
-  pub first : length outer ≡ begun base
-  pub count : length inner ≡ begun (all_of parts)
-  pub told : AreEntriesFrom es s (begun base) inner
+  pub first : length outer ≡ nodes_begun base
+  pub count : length inner ≡ nodes_begun (all_of parts)
+  pub told : AreEntriesFrom es s (nodes_begun base) inner
 
 -- the entry is that of a collection which this event begins
 pub record IsOpen (s : Store) (x : Event) (e : Entry) : Type 0 where
@@ -116,21 +116,21 @@ pub record HasGrown (es : List Event) (g : Growth) : Type 0 where
   pub holds : Holds doc es (store_of g.table) inside g.waiting.items g.table.entries.items
   pub counts : HoldsCount g.counter (counted_all (happenings since) no_count)
   pub roots : AreRootsFrom es 0 g.table.roots.items
-  pub documents : length g.table.roots.items ≡ ended es
-  pub documents_before : length g.table.roots.items ≡ ended doc
+  pub documents : length g.table.roots.items ≡ documents_ended es
+  pub documents_before : length g.table.roots.items ≡ documents_ended doc
 
 -- no document is open
-pub record IsBetween (g : Growth) : Type 0 where
+pub record HasNoneOpen (g : Growth) : Type 0 where
   pub levels : g.levels.items ≡ []
   pub waiting : g.waiting.items ≡ []
 
 -- this event more
-abbrev pub Adds : Event → Growth → Growth → Type 0
-Adds e old new = (es : List Event) → HasGrown es old → HasGrown (es ++ e ∷ []) new
+abbrev pub AddsEvent : Event → Growth → Growth → Type 0
+AddsEvent e old new = (es : List Event) → HasGrown es old → HasGrown (es ++ e ∷ []) new
 
 -- a node with this anchor and so many nodes, once it is expanded, is what the event adds to a count
-abbrev pub Counts : Happening → ℕ → ℕ → Counter → Type 0
-Counts h id nodes counter = (c : Count) → HoldsCount counter c
+abbrev pub CountsExpanded : Happening → ℕ → ℕ → Counter → Type 0
+CountsExpanded h id nodes counter = (c : Count) → HoldsCount counter c
     → (n : ℕ) × (nodes ≡ min most n) × (with_nodes id n c ≡ counted h c)
 
 -- ## Steps
@@ -185,7 +185,7 @@ pub record EndsDocument (old new : Growth) : Type 0 where
   pub root : Root
   pub before : old.levels.items ≡ []
   pub waiting : old.waiting.items ≡ root.number ∷ []
-  pub between : IsBetween new
+  pub between : HasNoneOpen new
   pub table : new.table ≡ record old.table { roots = new.table.roots }
   pub roots : new.table.roots.items ≡ old.table.roots.items ++ root ∷ []
   pub expanded : root.expanded ≡ old.counter.nodes

@@ -14,35 +14,35 @@ use Rattle.yaml_tree.specs.declared.tally.Limits.{Limits}
 use Rattle.yaml_tree.specs.Counting.{Fits, StayWithin, counts_behind_all, no_nodes}
 use Rattle.yaml_tree.specs.DocumentLoading.{ComesBetweenDocuments, EndNoDocument, FailsInDocument}
 use Rattle.yaml_tree.specs.TallySeen.{Exceeds, counts_of}
-use Rattle.yaml_tree.specs.GrowerSeen.{HasGrown, IsBetween}
+use Rattle.yaml_tree.specs.GrowerSeen.{HasGrown, HasNoneOpen}
 use Rattle.yaml_tree.specs.TableLoading.{PassesNoTable, PassesTable}
 use Rattle.yaml_tree.specs.Leaving.{HasHandedOut, LeavesFrom}
 use Rattle.yaml_tree.specs.Tables.{Event, IsTable}
 
 -- the grower has taken exactly these events
-pub record HasTaken (limits : Limits) (es : List Event) (g : Grower) : Type 0 where
+pub record HasGrownWithin (limits : Limits) (es : List Event) (g : Grower) : Type 0 where
   pub same_limits : g.tally.limits ≡ limits
   pub counted : counts_of g.tally ≡ counts_behind_all (happenings es) no_nodes
   pub within : StayWithin limits (happenings es) no_nodes
   pub grown : HasGrown es g.growth
 
 -- why the last of these events, whose span starts here, can't be taken
-abbrev pub Forbids : TreeFault → Limits → List Happening → Marker → Type 0
-Forbids fault.OutOfMemory limits hs place = Fits limits (counts_behind_all hs no_nodes)
-Forbids (fault.TooManyNodes at most) limits hs place =
+abbrev pub ForbidsEvent : TreeFault → Limits → List Happening → Marker → Type 0
+ForbidsEvent fault.OutOfMemory limits hs place = Fits limits (counts_behind_all hs no_nodes)
+ForbidsEvent (fault.TooManyNodes at most) limits hs place =
     Exceeds (fault.TooManyNodes at most) limits (counts_behind_all hs no_nodes) place
-Forbids (fault.TooDeep at most) limits hs place =
+ForbidsEvent (fault.TooDeep at most) limits hs place =
     Exceeds (fault.TooDeep at most) limits (counts_behind_all hs no_nodes) place
-Forbids _ limits hs place = ⊥
+ForbidsEvent _ limits hs place = ⊥
 
 -- these events are taken, or the last of them can't be
-abbrev pub TakesLast : Result (Unit {0}) TreeFault → Limits → List Event → Marker → Grower → Type 0
-TakesLast (Ok u) limits es place new = HasTaken limits es new
-TakesLast (Err f) limits es place new = Forbids f limits (happenings es) place
+abbrev pub GrowsByLast : Result (Unit {0}) TreeFault → Limits → List Event → Marker → Grower → Type 0
+GrowsByLast (Ok u) limits es place new = HasGrownWithin limits es new
+GrowsByLast (Err f) limits es place new = ForbidsEvent f limits (happenings es) place
 
 -- behind the end of a document none is open
 abbrev pub EndsBetween : Result (Unit {0}) TreeFault → Happening → Grower → Type 0
-EndsBetween (Ok u) h new = h ≡ DocumentEnd → IsBetween new.growth
+EndsBetween (Ok u) h new = h ≡ DocumentEnd → HasNoneOpen new.growth
 EndsBetween (Err f) h new = Unit {0}
 
 -- where all events are wanted those behind the end of a document are too
@@ -51,7 +51,7 @@ GoOn true hs = Unit {0}
 GoOn false hs = EndNoDocument hs
 
 -- it takes events up to the first end of a document
-pub record TakesToEnd (limits : Limits) (all left : Answer) (g : Grower) : Type 0 where
+pub record GrowsToEnd (limits : Limits) (all left : Answer) (g : Grower) : Type 0 where
   pub taken : List Event
   pub inner : List Event
   pub last : Event
@@ -60,28 +60,28 @@ pub record TakesToEnd (limits : Limits) (all left : Answer) (g : Grower) : Type 
   pub up_to : taken ≡ inner ++ last ∷ []
   pub ends : last.0 ≡ DocumentEnd
   pub inside : EndNoDocument (happenings inner)
-  pub grower : HasTaken limits taken g
-  pub between : IsBetween g.growth
+  pub grower : HasGrownWithin limits taken g
+  pub between : HasNoneOpen g.growth
 
 -- it takes all events
-pub record TakesRest (wanted : Bool) (limits : Limits) (all left : Answer) (g : Grower) : Type 0 where
+pub record GrowsByRest (wanted : Bool) (limits : Limits) (all left : Answer) (g : Grower) : Type 0 where
   pub inside : GoOn wanted (happenings all.events)
   pub fault : all.fault ≡ None
   pub nothing : left ≡ empty_answer
-  pub grower : HasTaken limits all.events g
+  pub grower : HasGrownWithin limits all.events g
 
 -- the last event that was handed out could not be taken
-pub record StopsBehind (wanted : Bool) (f : TreeFault) (limits : Limits) (all left : Answer) : Type 0 where
+pub record StopsAtEvent (wanted : Bool) (f : TreeFault) (limits : Limits) (all left : Answer) : Type 0 where
   pub taken : List Event
   pub event : Event
   pub split : all.events ≡ taken ++ (event ∷ left.events)
   pub fault : all.fault ≡ left.fault
   pub inside : GoOn wanted (happenings taken)
   pub within : StayWithin limits (happenings taken) no_nodes
-  pub why : Forbids f limits (happenings taken ++ event.0 ∷ []) event.1.start
+  pub why : ForbidsEvent f limits (happenings taken ++ event.0 ∷ []) event.1.start
 
 -- the parser's memory ran out after these events
-pub record RunsOutBehind (wanted : Bool) (limits : Limits) (all : Answer) : Type 0 where
+pub record RunsOutAfter (wanted : Bool) (limits : Limits) (all : Answer) : Type 0 where
   pub taken : List Event
   pub lost : Answer
   pub split : all.events ≡ taken ++ lost.events
@@ -91,26 +91,26 @@ pub record RunsOutBehind (wanted : Bool) (limits : Limits) (all : Answer) : Type
   pub within : StayWithin limits (happenings taken) no_nodes
 
 -- a fault, and what it leaves
-abbrev pub Fails : Bool → Limits → TreeFault → Answer → Answer → Type 0
-Fails wanted limits (fault.Parse (parse.Scan e)) all left = (all.fault ≡ Some (Refused e.mark (string_bytes e.info)))
+abbrev pub FailsToGrow : Bool → Limits → TreeFault → Answer → Answer → Type 0
+FailsToGrow wanted limits (fault.Parse (parse.Scan e)) all left = (all.fault ≡ Some (Refused e.mark (string_bytes e.info)))
     × GoOn wanted (happenings all.events) × StayWithin limits (happenings all.events) no_nodes × (left ≡ empty_answer)
-Fails wanted limits (fault.Parse parse.OutOfMemory) all left = RunsOutBehind wanted limits all × (left ≡ empty_answer)
-Fails wanted limits (fault.Parse parse.Receiver) all left = ⊥
-Fails wanted limits (fault.Parse parse.InsideDocument) all left = ⊥
-Fails wanted limits fault.NotFresh all left = ⊥
-Fails wanted limits f all left = StopsBehind wanted f limits all left
+FailsToGrow wanted limits (fault.Parse parse.OutOfMemory) all left = RunsOutAfter wanted limits all × (left ≡ empty_answer)
+FailsToGrow wanted limits (fault.Parse parse.Receiver) all left = ⊥
+FailsToGrow wanted limits (fault.Parse parse.InsideDocument) all left = ⊥
+FailsToGrow wanted limits fault.NotFresh all left = ⊥
+FailsToGrow wanted limits f all left = StopsAtEvent wanted f limits all left
 
 -- Whether a document ended, or all events were taken; or the fault.
-abbrev pub TakesEvents : Bool → Limits → Result Bool TreeFault → Answer → Answer → Grower → Type 0
-TakesEvents wanted limits (Ok true) all left g = (wanted ≡ false) × TakesToEnd limits all left g
-TakesEvents wanted limits (Ok false) all left g = TakesRest wanted limits all left g
-TakesEvents wanted limits (Err f) all left g = Fails wanted limits f all left
+abbrev pub GrowsByEvents : Bool → Limits → Result Bool TreeFault → Answer → Answer → Grower → Type 0
+GrowsByEvents wanted limits (Ok true) all left g = (wanted ≡ false) × GrowsToEnd limits all left g
+GrowsByEvents wanted limits (Ok false) all left g = GrowsByRest wanted limits all left g
+GrowsByEvents wanted limits (Err f) all left g = FailsToGrow wanted limits f all left
 
 -- no document is open, and the table is whole
-abbrev pub Finishes : Limits → List Event → Result NodeTable TreeFault → Type 0
-Finishes limits es (Ok t) = IsTable es t
-Finishes limits es (Err fault.OutOfMemory) = (inner : List Event) × (last : Event) × (es ≡ inner ++ last ∷ [])
-Finishes limits es (Err _) = ⊥
+abbrev pub FinishesTable : Limits → List Event → Result NodeTable TreeFault → Type 0
+FinishesTable limits es (Ok t) = IsTable es t
+FinishesTable limits es (Err fault.OutOfMemory) = (inner : List Event) × (last : Event) × (es ≡ inner ++ last ∷ [])
+FinishesTable limits es (Err _) = ⊥
 
 -- what a call answers at a parser that is not inside a document
 abbrev pub LoadsHere : Limits → Result (Option NodeTable) TreeFault → Answer → Answer → Type 0

@@ -27,10 +27,10 @@ abbrev pub Event : Type 0
 Event = Happening × Span
 
 -- it is a whole node
-abbrev pub IsLeaf : Happening → Type 0
-IsLeaf (Alias id) = Unit {0}
-IsLeaf (Scalar text style id tag) = Unit {0}
-IsLeaf _ = ⊥
+abbrev pub IsLeafEvent : Happening → Type 0
+IsLeafEvent (Alias id) = Unit {0}
+IsLeafEvent (Scalar text style id tag) = Unit {0}
+IsLeafEvent _ = ⊥
 
 abbrev pub IsStart : Happening → Type 0
 IsStart (SequenceStart id tag) = Unit {0}
@@ -59,9 +59,9 @@ beginning (MappingStart id tag) = 1
 beginning _ = 0
 
 -- how many nodes events begin
-abbrev pub begun : List Event → ℕ
-begun [] = 0
-begun (e ∷ es) = beginning e.0 + begun es
+abbrev pub nodes_begun : List Event → ℕ
+nodes_begun [] = 0
+nodes_begun (e ∷ es) = beginning e.0 + nodes_begun es
 
 abbrev pub all_of : List (List Event) → List Event
 all_of [] = []
@@ -70,7 +70,7 @@ all_of (own ∷ others) = own ++ all_of others
 mutual
   -- The events of one node. That the kinds of start and end are the same is a promise of the parser.
   pub data IsNode : List Event → Type 0 where
-    leaf : (e : Event) → IsLeaf e.0 → IsNode (e ∷ [])
+    leaf : (e : Event) → IsLeafEvent e.0 → IsNode (e ∷ [])
     whole : (first : Event) (parts : List (List Event)) (last : Event) → IsStart first.0 → AreNodes parts
         → IsEnd last.0 → IsNode (first ∷ (all_of parts ++ last ∷ []))
 
@@ -82,7 +82,7 @@ mutual
 -- a node's first event, the events of each of its parts, and its last event, which is the first of a leaf
 abbrev pub IsMadeOf : List Event → Event → List (List Event) → Event → Type 0
 IsMadeOf own first parts last =
-    (IsLeaf first.0 × (own ≡ first ∷ []) × (parts ≡ []) × (last ≡ first))
+    (IsLeafEvent first.0 × (own ≡ first ∷ []) × (parts ≡ []) × (last ≡ first))
     ⊎ (IsStart first.0 × (own ≡ first ∷ (all_of parts ++ last ∷ [])) × AreNodes parts × IsEnd last.0)
 
 -- ## Numbers
@@ -92,13 +92,13 @@ pub record IsNodeAt (es : List Event) (number : ℕ) (own : List Event) : Type 0
   pub front : List Event
   pub behind : List Event
   pub split : es ≡ front ++ (own ++ behind)
-  pub first : begun front ≡ number
+  pub first : nodes_begun front ≡ number
   pub node : IsNode own
 
 -- the numbers of nodes that come one after the other, from the first one's
 abbrev pub numbers : ℕ → List (List Event) → List ℕ
 numbers n [] = []
-numbers n (own ∷ others) = n ∷ numbers (n + begun own) others
+numbers n (own ∷ others) = n ∷ numbers (n + nodes_begun own) others
 
 -- ## Entries
 
@@ -110,10 +110,10 @@ StandIn xs row all = (front : List ℕ) × (behind : List ℕ) × (all ≡ front
 abbrev pub MaybeTag : Type 0
 MaybeTag = Option ResolvedTag
 
-abbrev pub IsTag : List ℕ → Option TagRows → MaybeTag → Type 0
-IsTag texts (Some rows) (Some tag) = StandIn tag.handle rows.handle texts × StandIn tag.suffix rows.suffix texts
-IsTag texts None tag = tag ≡ None
-IsTag texts _ _ = ⊥
+abbrev pub HasTagRows : List ℕ → Option TagRows → MaybeTag → Type 0
+HasTagRows texts (Some rows) (Some tag) = StandIn tag.handle rows.handle texts × StandIn tag.suffix rows.suffix texts
+HasTagRows texts None tag = tag ≡ None
+HasTagRows texts _ _ = ⊥
 
 -- What is told of nodes beside their entries. It only grows while a table is made.
 pub record Store : Type 0 where
@@ -128,7 +128,7 @@ store_of t = record { parts = t.parts.items; texts = t.texts.items; properties =
 abbrev pub StoresProperties : Store → ℕ → ℕ → MaybeTag → Type 0
 StoresProperties s zero id tag = (id ≡ 0) × (tag ≡ None)
 StoresProperties s (suc n) id tag = (p : Properties) × (slice_get s.properties n ≡ Some p) × (p.anchor ≡ id)
-    × IsTag s.texts p.tag tag
+    × HasTagRows s.texts p.tag tag
 
 abbrev pub HasProperties : NodeTable → ℕ → ℕ → MaybeTag → Type 0
 HasProperties t number id tag = StoresProperties (store_of t) number id tag
@@ -153,7 +153,7 @@ abbrev pub marker_of : Mark → Marker
 marker_of m = record { index = m.index; line = m.line; col = m.col }
 
 -- what the entry of the node with this number and these events tells
-pub record Tells (s : Store) (number : ℕ) (e : Entry) (own : List Event) : Type 0 where
+pub record TellsNode (s : Store) (number : ℕ) (e : Entry) (own : List Event) : Type 0 where
   pub first : Event
   pub parts : List (List Event)
   pub last : Event
@@ -165,7 +165,7 @@ pub record Tells (s : Store) (number : ℕ) (e : Entry) (own : List Event) : Typ
 
 -- the entry is that of the node with this number
 abbrev pub IsEntryAt : List Event → Store → ℕ → Entry → Type 0
-IsEntryAt es s number e = (own : List Event) × IsNodeAt es number own × Tells s number e own
+IsEntryAt es s number e = (own : List Event) × IsNodeAt es number own × TellsNode s number e own
 
 abbrev pub AreEntriesFrom : List Event → Store → ℕ → List Entry → Type 0
 AreEntriesFrom es s number [] = Unit {0}
@@ -174,13 +174,13 @@ AreEntriesFrom es s number (e ∷ others) = IsEntryAt es s number e × AreEntrie
 -- ## Roots
 
 -- how many documents end
-abbrev pub ending : Happening → ℕ
-ending DocumentEnd = 1
-ending _ = 0
+abbrev pub documents_ended_by : Happening → ℕ
+documents_ended_by DocumentEnd = 1
+documents_ended_by _ = 0
 
-abbrev pub ended : List Event → ℕ
-ended [] = 0
-ended (e ∷ es) = ending e.0 + ended es
+abbrev pub documents_ended : List Event → ℕ
+documents_ended [] = 0
+documents_ended (e ∷ es) = documents_ended_by e.0 + documents_ended es
 
 -- the document's nodes, once it is expanded (`nodes_once_expanded`)
 abbrev pub IsExpanded : List Event → ℕ → Type 0
@@ -194,8 +194,8 @@ pub record IsRootAt (es : List Event) (index : ℕ) (root : Root) : Type 0 where
   pub last : Event
   pub behind : List Event
   pub split : es ≡ front ++ (own ++ (last ∷ behind))
-  pub documents : ended front ≡ index
-  pub number : begun front ≡ root.number
+  pub documents : documents_ended front ≡ index
+  pub number : nodes_begun front ≡ root.number
   pub node : IsNode own
   pub ends : last.0 ≡ DocumentEnd
   pub expanded : IsExpanded own root.expanded
@@ -207,15 +207,15 @@ AreRootsFrom es index (r ∷ others) = IsRootAt es index r × AreRootsFrom es (s
 -- the entries are those of all nodes, and the roots those of all documents
 pub record IsTable (es : List Event) (t : NodeTable) : Type 0 where
   pub entries : AreEntriesFrom es (store_of t) 0 t.entries.items
-  pub nodes : length t.entries.items ≡ begun es
+  pub nodes : length t.entries.items ≡ nodes_begun es
   pub roots : AreRootsFrom es 0 t.roots.items
-  pub documents : length t.roots.items ≡ ended es
+  pub documents : length t.roots.items ≡ documents_ended es
 
 -- ## What a table tells
 
 -- this holds of the node with this number, in whichever events the table is of
 abbrev pub OfNode : NodeTable → ℕ → (List Event → Type 0) → Type 0
-OfNode t number Holds = (es : List Event) → IsTable es t → number < begun es
+OfNode t number Holds = (es : List Event) → IsTable es t → number < nodes_begun es
     → (own : List Event) × IsNodeAt es number own × Holds own
 
 -- no node has this number
@@ -236,42 +236,42 @@ pub record CountsParts (own : List Event) (result : ℕ) : Type 0 where
   pub counts : result ≡ count_of first.0 (length parts)
 
 -- which part a step leads to; a mapping's keys and values take turns
-abbrev pub part_at : Happening → Step → Option ℕ
-part_at (SequenceStart id tag) (Index n) = Some n
-part_at (MappingStart id tag) (Key n) = Some (2 * n)
-part_at (MappingStart id tag) (Value n) = Some (2 * n + 1)
-part_at _ _ = None
+abbrev pub part_of_step : Happening → Step → Option ℕ
+part_of_step (SequenceStart id tag) (Index n) = Some n
+part_of_step (MappingStart id tag) (Key n) = Some (2 * n)
+part_of_step (MappingStart id tag) (Value n) = Some (2 * n + 1)
+part_of_step _ _ = None
 
 -- the number of that part
-pub record LeadsTo (own : List Event) (number : ℕ) (step : Step) (result : Option ℕ) : Type 0 where
+pub record HasNumber (own : List Event) (number : ℕ) (step : Step) (result : Option ℕ) : Type 0 where
   pub first : Event
   pub parts : List (List Event)
   pub last : Event
   pub made : IsMadeOf own first parts last
-  pub leads : result ≡ option_and_then (slice_get (numbers (suc number) parts)) (part_at first.0 step)
+  pub leads : result ≡ option_and_then (slice_get (numbers (suc number) parts)) (part_of_step first.0 step)
 
 -- the id of the anchor that a node has, or 0
-abbrev pub anchor_of : Happening → ℕ
-anchor_of (Scalar text style id tag) = id
-anchor_of (SequenceStart id tag) = id
-anchor_of (MappingStart id tag) = id
-anchor_of _ = 0
+abbrev pub id_of_anchor : Happening → ℕ
+id_of_anchor (Scalar text style id tag) = id
+id_of_anchor (SequenceStart id tag) = id
+id_of_anchor (MappingStart id tag) = id
+id_of_anchor _ = 0
 
 abbrev pub anchor_in : List Event → ℕ
 anchor_in [] = 0
-anchor_in (e ∷ es) = anchor_of e.0
+anchor_in (e ∷ es) = id_of_anchor e.0
 
 -- whether it is this id; where it isn't, the id may still be 0, which is none
-abbrev pub IsAnchor : ℕ → ℕ → Bool → Type 0
-IsAnchor id own true = own ≡ id
-IsAnchor id own false = own ≡ id → id ≡ 0
+abbrev pub TellsAnchor : ℕ → ℕ → Bool → Type 0
+TellsAnchor id own true = own ≡ id
+TellsAnchor id own false = own ≡ id → id ≡ 0
 
 -- a node with this anchor, or there is none
-abbrev pub FindsAnchor : List Event → ℕ → Option ℕ → Type 0
-FindsAnchor es zero result = result ≡ None
-FindsAnchor es id (Some number) = (own : List Event) × IsNodeAt es number own × (anchor_in own ≡ id)
-FindsAnchor es id None =
-    (front behind : List Event) (e : Event) → es ≡ front ++ (e ∷ behind) → anchor_of e.0 ≡ id → ⊥
+abbrev pub FindsNumber : List Event → ℕ → Option ℕ → Type 0
+FindsNumber es zero result = result ≡ None
+FindsNumber es id (Some number) = (own : List Event) × IsNodeAt es number own × (anchor_in own ≡ id)
+FindsNumber es id None =
+    (front behind : List Event) (e : Event) → es ≡ front ++ (e ∷ behind) → id_of_anchor e.0 ≡ id → ⊥
 
 -- a table without nodes
 pub record IsEmptyTable (t : NodeTable) : Type 0 where

@@ -52,7 +52,7 @@ impl Growth {
     // Whether no document is open.
     #[inline(always)]
     pub(crate) fn is_between(&self) -> bool
-        ensures { IsTrue result ↔ seen.IsBetween self.now }
+        ensures { IsTrue result ↔ seen.HasNoneOpen self.now }
     {
         self.levels.is_empty() && self.waiting.is_empty()
     }
@@ -60,9 +60,9 @@ impl Growth {
     // Takes the next event. After an error no more may be taken.
     #[inline(always)]
     pub(crate) fn add(&mut self, event: &Event, span: Span) -> Result<(), AllocError>
-        ensures adds { OnOk result (seen.Adds (happening event.now, span) self.old self.new) }
+        ensures adds { OnOk result (seen.AddsEvent (happening event.now, span) self.old self.new) }
         ensures ends { happening event.now ≡ told.DocumentEnd
-            → OnOk result (seen.IsBetween self.new) }
+            → OnOk result (seen.HasNoneOpen self.new) }
     {
         match event {
             Event::Alias(id) => self.add_alias(*id, span),
@@ -84,14 +84,14 @@ impl Growth {
     // Passes an event between documents.
     fn pass(&self) -> Result<(), AllocError>
         ensures { OnOk result ((h : told.Happening) (span : PlaceSpan) → spec.IsBeside h
-            → seen.Adds (h, span) self.now self.now) }
+            → seen.AddsEvent (h, span) self.now self.now) }
     {
         self.stay()
     }
 
     // No document is open. No parser gives an event that says so elsewhere.
     fn stay(&self) -> Result<(), AllocError>
-        ensures { OnOk result (seen.IsBetween self.now) }
+        ensures { OnOk result (seen.HasNoneOpen self.now) }
     {
         if self.is_between() {
             Ok(())
@@ -102,7 +102,7 @@ impl Growth {
 
     #[inline(always)]
     fn add_alias(&mut self, id: usize, span: Span) -> Result<(), AllocError>
-        ensures { OnOk result (seen.Adds (told.Alias id, span) self.old self.new) }
+        ensures { OnOk result (seen.AddsEvent (told.Alias id, span) self.old self.new) }
     {
         let nodes = self.counter.size_of(id);
         self.add_leaf(Content::Alias(narrow(id)?), 0, nodes, span)
@@ -117,7 +117,7 @@ impl Growth {
         tag: &Option<Tag>,
         span: Span,
     ) -> Result<(), AllocError>
-        ensures { OnOk result (seen.Adds
+        ensures { OnOk result (seen.AddsEvent
             (told.Scalar text.now style id (option_map resolved_tag tag.now), span)
             self.old self.new) }
     {
@@ -135,9 +135,9 @@ impl Growth {
         nodes: u64,
         span: Span,
     ) -> Result<(), AllocError>
-        ensures { OnOk result ((h : told.Happening) → spec.IsLeaf h
+        ensures { OnOk result ((h : told.Happening) → spec.IsLeafEvent h
             → spec.TellsFirst (spec.store_of self.old.table) content h
-            → seen.Counts h id nodes self.old.counter → seen.Adds (h, span) self.old self.new) }
+            → seen.CountsExpanded h id nodes self.old.counter → seen.AddsEvent (h, span) self.old self.new) }
     {
         self.push_leaf(content, span)?;
         self.counter.add(id, nodes)
@@ -162,7 +162,7 @@ impl Growth {
 
     #[inline(always)]
     fn begin_sequence(&mut self, id: usize, tag: &Option<Tag>, span: Span) -> Result<(), AllocError>
-        ensures { OnOk result (seen.Adds
+        ensures { OnOk result (seen.AddsEvent
             (told.SequenceStart id (option_map resolved_tag tag.now), span) self.old self.new) }
     {
         let properties = self.table.keep(id, tag)?;
@@ -171,7 +171,7 @@ impl Growth {
 
     #[inline(always)]
     fn begin_mapping(&mut self, id: usize, tag: &Option<Tag>, span: Span) -> Result<(), AllocError>
-        ensures { OnOk result (seen.Adds
+        ensures { OnOk result (seen.AddsEvent
             (told.MappingStart id (option_map resolved_tag tag.now), span) self.old self.new) }
     {
         let properties = self.table.keep(id, tag)?;
@@ -181,9 +181,9 @@ impl Growth {
     // A collection with this anchor begins.
     #[inline(always)]
     fn begin(&mut self, content: Content, id: usize, span: Span) -> Result<(), AllocError>
-        ensures { OnOk result ((h : told.Happening) → spec.IsStart h → spec.anchor_of h ≡ id
+        ensures { OnOk result ((h : told.Happening) → spec.IsStart h → spec.id_of_anchor h ≡ id
             → spec.TellsFirst (spec.store_of self.old.table) content h
-            → seen.Adds (h, span) self.old self.new) }
+            → seen.AddsEvent (h, span) self.old self.new) }
     {
         self.push_level(content, span)?;
         self.counter.begin(id)
@@ -210,7 +210,7 @@ impl Growth {
     #[inline(always)]
     fn end(&mut self, span: Span) -> Result<(), AllocError>
         ensures { OnOk result ((h : told.Happening) → spec.IsEnd h
-            → seen.Adds (h, span) self.old self.new) }
+            → seen.AddsEvent (h, span) self.old self.new) }
     {
         self.pop_level(span)?;
         self.counter.leave()
@@ -240,8 +240,8 @@ impl Growth {
     // The document ends.
     fn end_document(&mut self) -> Result<(), AllocError>
         ensures adds { OnOk result ((span : PlaceSpan)
-            → seen.Adds (told.DocumentEnd, span) self.old self.new) }
-        ensures between { OnOk result (seen.IsBetween self.new) }
+            → seen.AddsEvent (told.DocumentEnd, span) self.old self.new) }
+        ensures between { OnOk result (seen.HasNoneOpen self.new) }
     {
         self.pop_root()
     }

@@ -2,7 +2,7 @@
 ghost use Rattle.std.specs.Prelude.{◌≡◌, IfOk, OnOk, Some, option_map, slice_get, slice_set};
 ghost use Rattle.saphyr_parser.specs.Views.Events.{resolved_tag};
 ghost use Rattle.yaml_tree.specs.GrowerSeen as seen;
-ghost use Rattle.yaml_tree.specs.Tables.{IsTag, StoresProperties, marker_of, store_of};
+ghost use Rattle.yaml_tree.specs.Tables.{HasTagRows, StoresProperties, marker_of, store_of};
 ghost use Rattle.yaml_tree.specs.declared.table.Entry.{Entry as Told};
 
 use crate::table::{Content, Entry, Mark, NodeTable, Properties, Row, TagRows, narrow};
@@ -48,7 +48,7 @@ impl NodeTable {
 
     fn keep_tag(&mut self, tag: &Option<Tag>) -> Result<Option<TagRows>, AllocError>
         ensures stores { OnOk result (seen.StoresTexts self.old self.new) }
-        ensures tag { IfOk result (λ rows. IsTag self.new.texts.items rows
+        ensures tag { IfOk result (λ rows. HasTagRows self.new.texts.items rows
             (option_map resolved_tag tag.now)) }
     {
         let Some(tag) = tag else {
@@ -79,7 +79,7 @@ impl NodeTable {
     // A collection ends: its parts are known now.
     pub(crate) fn close(&mut self, number: usize, row: Row, end: Mark) -> Result<(), AllocError>
         ensures { OnOk result ((entry : Told) × (slice_get self.old.entries.items number ≡ Some entry)
-            × seen.Closes number row end entry self.old self.new) }
+            × seen.ClosesEntry number row end entry self.old self.new) }
     {
         let Some(entry) = self.entries.get(number) else {
             return Err(AllocError);

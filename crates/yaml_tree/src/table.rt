@@ -174,7 +174,7 @@ impl NodeTable {
     #[must_use]
     pub fn tag(&self, properties: u32) -> Option<TagRows>
         ensures { (id : ℕ) (tag : spec.MaybeTag) → spec.HasProperties self.now properties id tag
-            → spec.IsTag self.now.texts.items result tag }
+            → spec.HasTagRows self.now.texts.items result tag }
     {
         self.find_properties(properties)?.tag
     }
@@ -207,7 +207,7 @@ impl NodeTable {
     /// The number of a part.
     #[must_use]
     pub fn part(&self, number: usize, step: Step) -> Option<usize>
-        ensures leads { spec.OfNode self.now number (λ own. spec.LeadsTo own number step result) }
+        ensures leads { spec.OfNode self.now number (λ own. spec.HasNumber own number step result) }
         ensures no_node { spec.HasNoNode number self.now → result ≡ none }
     {
         match self.entry(number)?.content {
@@ -252,7 +252,7 @@ impl NodeTable {
     /// The number of a node with this anchor. In documents of one text there is at most one.
     #[must_use]
     pub fn with_anchor(&self, id: usize) -> Option<usize>
-        ensures { (es : List spec.Event) → spec.IsTable es self.now → spec.FindsAnchor es id result }
+        ensures { (es : List spec.Event) → spec.IsTable es self.now → spec.FindsNumber es id result }
     {
         if id == 0 {
             return None;
@@ -292,7 +292,7 @@ impl NodeTable {
     // Whether the node of a content has this anchor.
     fn tells_anchor(&self, content: Content, id: usize) -> bool
         ensures { (h : Told) → spec.TellsFirst (spec.store_of self.now) content h
-            → spec.IsAnchor id (spec.anchor_of h) result }
+            → spec.TellsAnchor id (spec.id_of_anchor h) result }
     {
         match content {
             Content::Alias(_) => false,

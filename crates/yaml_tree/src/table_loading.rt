@@ -102,10 +102,10 @@ struct Grower {
 }
 
 impl Grower {
-    ghost use Rattle.yaml_tree.specs.TableSeen.{EndsBetween, Finishes, HasTaken, TakesEvents, TakesLast};
+    ghost use Rattle.yaml_tree.specs.TableSeen.{EndsBetween, FinishesTable, HasGrownWithin, GrowsByEvents, GrowsByLast};
 
     fn new(alloc: Global, limits: Limits) -> Grower
-        ensures { HasTaken limits [] result }
+        ensures { HasGrownWithin limits [] result }
     {
         let tally = Tally::new(limits);
         let growth = Growth::new(alloc);
@@ -118,9 +118,9 @@ impl Grower {
         parser: &mut Parser<'input, T>,
         all: bool,
     ) -> Result<bool, TreeFault>
-        ensures takes { (limits : Limits) → HasTaken limits [] self.old
-            → TakesEvents all limits result (to_come parser.old) (to_come parser.new) self.new }
-        ensures leaves { (limits : Limits) → HasTaken limits [] self.old
+        ensures takes { (limits : Limits) → HasGrownWithin limits [] self.old
+            → GrowsByEvents all limits result (to_come parser.old) (to_come parser.new) self.new }
+        ensures leaves { (limits : Limits) → HasGrownWithin limits [] self.old
             → LeavesPart result parser.old parser.new }
     {
         hands_out_what_comes();
@@ -143,8 +143,8 @@ impl Grower {
     // Takes an event with its span. Checks the limits first.
     #[inline(always)]
     fn take(&mut self, event: &Event, span: Span) -> Result<(), TreeFault>
-        ensures takes { (limits : Limits) (es : List Given) → HasTaken limits es self.old
-            → TakesLast result limits (es ++ (happening event.now, span) ∷ []) span.start self.new }
+        ensures takes { (limits : Limits) (es : List Given) → HasGrownWithin limits es self.old
+            → GrowsByLast result limits (es ++ (happening event.now, span) ∷ []) span.start self.new }
         ensures ends { EndsBetween result (happening event.now) self.new }
     {
         self.tally.count(event, span.start)?;
@@ -156,8 +156,8 @@ impl Grower {
 
     // The table of all events, of which none is still to come. Those of a text leave no document open.
     fn finish(self) -> Result<NodeTable, TreeFault>
-        ensures { (limits : Limits) (es : List Given) → HasTaken limits es self
-            → Finishes limits es result }
+        ensures { (limits : Limits) (es : List Given) → HasGrownWithin limits es self
+            → FinishesTable limits es result }
     {
         if self.growth.is_between() {
             Ok(self.growth.table)

@@ -1,5 +1,5 @@
 use Rattle.std.proofs.Common.{rules}
-use Rattle.yaml_tree.specs.GrowerSeen.{IsBetween}
+use Rattle.yaml_tree.specs.GrowerSeen.{HasNoneOpen}
 use Rattle.yaml_tree.proofs.Growths.{grows_none}
 use Rattle.yaml_tree.proofs.growing.Growth.new.Goals as goal
 

@@ -2,12 +2,12 @@ use Rattle.std.proofs.Common.{[]}
 use Rattle.saphyr_parser.specs.Cursor.{to_come, count}
 use Rattle.yaml_tree.specs.declared.tally.Limits.{Limits}
 use Rattle.yaml_tree.specs.Leaving.{HasHandedOut}
-use Rattle.yaml_tree.specs.TableSeen.{HasTaken}
+use Rattle.yaml_tree.specs.TableSeen.{HasGrownWithin}
 use Rattle.yaml_tree.proofs.TablesRead.{EventsRead}
 use Rattle.yaml_tree.proofs.table_loading.Grower.take_events.Given as goal
 
 abbrev pub invariant-events : goal.invariant-events
-invariant-events g l = ((limits : Limits) → HasTaken limits [] l.fn.self
+invariant-events g l = ((limits : Limits) → HasGrownWithin limits [] l.fn.self
     → EventsRead l.fn.all limits (to_come l.fn.parser) (to_come l.parser) l.self)
     × HasHandedOut l.fn.parser l.parser
 
