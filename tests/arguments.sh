@@ -157,7 +157,9 @@ below=$(found tree/b/c.yaml tree/b/c.yml tree/b/deep/d.yaml)
 loops="can't read: Too many levels of symbolic links (os error 40)"
 answers 0 "$below" tree/b
 answers 0 "$(found tree/b//c.yaml tree/b//c.yml tree/b//deep/d.yaml | sed 's|//|/|g')" tree/b/
-answers 2 "$(found tree/.ci.yml tree/B.yaml tree/a.yaml)$below$(found tree/b-c.yml tree/b.yaml tree/link.yaml)tree/loop.yaml:1:1: error: $loops\ntree/nowhere.yml:1:1: error: $missing\n" tree
+all=$(found tree/.ci.yml tree/B.yaml tree/a.yaml)$below$(found tree/b-c.yml tree/b.yaml tree/link.yaml)
+all+="tree/loop.yaml:1:1: error: $loops\ntree/nowhere.yml:1:1: error: $missing\n"
+answers 2 "$all" tree
 answers 0 "$(found tree/.hidden/h.yaml tree/b/.github/g.yml)" tree/.hidden tree/b/.github
 answers 0 '' tree/none
 answers 0 "$(found tree/b/up/b/c.yaml tree/b/up/b/c.yml tree/b/up/b/deep/d.yaml)" tree/b/up/b
@@ -167,17 +169,21 @@ mkdir names names/$'\377'
 for file in names/$'a\377.yml' names/$'a\377.txt' names/b.yaml names/$'\377/c.yaml'; do
     printf -- '---\n' >"$file"
 done
-answers 2 "names/a\357\277\275.yml:1:1: error: $unnamed\n$(found names/b.yaml)names/\357\277\275:1:1: error: $unnamed\n" names
-# A path that is too long to be asked for.
+all="names/a\357\277\275.yml:1:1: error: $unnamed\n$(found names/b.yaml)"
+answers 2 "${all}names/\357\277\275:1:1: error: $unnamed\n" names
+# Paths that are too long to be asked for: of a file, hidden or not, and of a folder.
 part=$(printf 'd%.0s' {1..250})
 path=long
 (
     mkdir long && cd long
-    for _ in {1..17}; do mkdir "$part" && cd "$part"; done
+    for _ in {1..16}; do mkdir "$part" && cd "$part"; done
+    mkdir "$part"
+    touch ".$part.yml"
 )
-for _ in {1..17}; do path=$path/$part; done
+for _ in {1..16}; do path=$path/$part; done
 printf -- '---\n' >long/e.yml
-answers 2 "$path:1:1: error: can't read: File name too long (os error 36)\n$(found long/e.yml)" long
+long="1:1: error: can't read: File name too long (os error 36)"
+answers 2 "$path/.$part.yml:$long\n$path/$part:$long\n$(found long/e.yml)" long
 mkdir many
 (cd many && seq -f '%05g.yaml' 16000 | xargs touch && cp ../empty 08000.yaml)
 answers 0 "$(found many/08000.yaml)" many

@@ -1,5 +1,5 @@
 #!/usr/bin/env python3
-"""Tries the recipes of docs/CI.md as they are written: each passes a file that is right, and refuses a key that is twice.
+"""Tries the recipes of docs/CI.md as they are written: each passes a right file, and refuses one with a key twice.
 
     tests/recipes.py [PROGRAM]
 

@@ -77,7 +77,7 @@ fn push_names(
     Ok(())
 }
 
-// What an entry of a folder is. Nothing can be asked of one whose path isn't UTF-8: it counts as a file.
+// What an entry of a folder is.
 fn kind_of_entry(rt: &HostRuntime, folder: &str, name: &[u8]) -> Result<Kind, AllocError> {
     let mut path = String::from_str(rt.alloc(), folder)?.into_bytes();
     if path.extend_from_slice(name).is_err() {
@@ -85,12 +85,12 @@ fn kind_of_entry(rt: &HostRuntime, folder: &str, name: &[u8]) -> Result<Kind, Al
     }
     Ok(match str::from_utf8(&path) {
         Ok(path) => kind_of_path(rt, path),
+        // The kit asks nothing of a path that isn't UTF-8.
         Err(_) => Kind::File,
     })
 }
 
-// A link counts as the file that it leads to, and what can't be asked as a folder: it can't be entered then, which is
-// told. Something that is gone is nothing.
+// A link counts as the file that it leads to. Something that is gone is nothing.
 fn kind_of_path(rt: &HostRuntime, path: &str) -> Kind {
     match fs::symlink_metadata(rt, path) {
         Ok(found) if found.is_symlink() => kind_behind_link(rt, path),
@@ -98,7 +98,16 @@ fn kind_of_path(rt: &HostRuntime, path: &str) -> Kind {
         Ok(found) if found.is_dir() => Kind::Folder,
         Ok(_) => Kind::Other,
         Err(error) if error.kind() == ErrorKind::NotFound => Kind::Other,
-        Err(_) => Kind::Folder,
+        Err(_) => kind_of_unknown(path),
+    }
+}
+
+// What can't be asked counts as what is told once it can't be read.
+fn kind_of_unknown(path: &str) -> Kind {
+    if path.ends_with(".yaml") || path.ends_with(".yml") {
+        Kind::File
+    } else {
+        Kind::Folder
     }
 }
 

@@ -2,8 +2,8 @@
 //!
 //!     check_yaml [OPTION..] [--] [FILE or FOLDER..]
 //!
-//! `-` names standard input. The status is 0 if no file has an error and 1 if one has. It is 2 if the call is wrong, a
-//! file or a folder can't be read or something can't be written.
+//! `-` names standard input. The status is 0 if no file has an error and 1 if one has, and with `--strict` also if one
+//! has a warning. It is 2 if the call is wrong, a file or a folder can't be read or something can't be written.
 #![tactic(auto)]
 
 ghost use Rattle.std.specs.Prelude.{◌≡◌};

@@ -220,4 +220,4 @@ passes_fault (Err e) f name options bytes old new h judged = rw h judged
 pub unread_want : (r : Result (Unit {0}) CheckFault) (name : List ℕ) (options : Options) (old : Option (List ℕ))
     → IsErrAnd r (λ f. f ≡ fault.OutOfMemory) → TellsUnread r name options old old
 unread_want (Ok u) name options old h = absurd h
-unread_want (Err f) name options old h = rw h ([], takes_nothing old old _ refl)
+unread_want (Err f) name options old h = rw h refl

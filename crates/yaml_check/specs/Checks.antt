@@ -104,5 +104,6 @@ WritesTold (Err _) told old new = ⊥
 abbrev pub TellsUnread : Result (Unit {0}) CheckFault → List ℕ → Options → Option (List ℕ) → Option (List ℕ) → Type 0
 TellsUnread (Ok u) name options old new = (message : List ℕ) × Appends old new (unread_told options name message)
 TellsUnread (Err (fault.CantRead e)) name options old new = ⊥
-TellsUnread (Err _) name options old new =
+TellsUnread (Err fault.OutOfMemory) name options old new = new ≡ old
+TellsUnread (Err fault.CantWrite) name options old new =
     (message : List ℕ) × TakesBeginning old new (unread_told options name message)

@@ -1,19 +1,20 @@
 -- Which entries of a folder are checked, and in which order.
-use Rattle.std.specs.Prelude.{◌≡◌, ◌⊎◌, ℕ, Bool, true, false, not, ◌||◌, ◌==◌, if◌then◌else◌, List, ◌++◌, map, codes, string_bytes}
+use Rattle.std.specs.Prelude.{◌≡◌, ◌↔◌, ℕ, Bool, false, not, ◌||◌, ◌==◌, if◌then◌else◌, List, [], ◌∷◌, ◌++◌, map, Option, None, Some, IsTrue, codes, string_bytes}
 use Rattle.std.specs.List.{ends_with, filter, starts_with}
 use Rattle.std.specs.List.Sorted.{IsPermutation, IsSortedBy}
 use Rattle.std.specs.Cmp.Lexicographic.{slice_cmp}
 use Rattle.std.specs.Ordering.{is_lt, nat_cmp}
 use Rattle.std.specs.Str.{IsUtf8}
+use Rattle.std.specs.Str.Lossy.{utf8_lossy}
 use Rattle.yaml_check.specs.declared.folders.Entry.{Entry}
 use Rattle.yaml_check.specs.declared.folders.FileName.{FileName}
 use Rattle.yaml_check.specs.declared.folders.Kind.{Kind}
 use Rattle.yaml_check.specs.declared.folders.Kind.TheVariants as kind
 
--- a name with these bytes, if they are UTF-8
-abbrev pub Names : List ℕ → FileName → Type 0
-Names bytes name = (IsUtf8 bytes × (string_bytes name.text ≡ bytes) × (name.is_utf8 ≡ true))
-    ⊎ ((¬ IsUtf8 bytes) × (name.is_utf8 ≡ false))
+-- a name with these bytes: its text is theirs, with U+FFFD in the place of what is not UTF-8
+pub record Names (bytes : List ℕ) (name : FileName) : Type 0 where
+  pub text : string_bytes name.text ≡ utf8_lossy bytes
+  pub is_utf8 : IsTrue name.is_utf8 ↔ IsUtf8 bytes
 
 -- files with one of the two endings, and folders that are not hidden
 abbrev pub is_taken_as : Kind → List ℕ → Bool
@@ -24,11 +25,11 @@ is_taken_as kind.Other name = false
 abbrev pub is_taken : Entry → Bool
 is_taken e = is_taken_as e.kind (string_bytes e.name.text)
 
--- the name of the second comes before that of the first, by their bytes
+-- the first comes after the second, by the bytes of their names
 abbrev pub comes_after : Entry → Entry → Bool
 comes_after a b = is_lt (slice_cmp nat_cmp (string_bytes b.name.text) (string_bytes a.name.text))
 
--- all entries of a folder that are checked and no others, each once, by their names from the last to the first
+-- all entries of a folder that are checked and no others, each once, by their names; the last is the next that is
 pub record AreTaken (listed taken : List Entry) : Type 0 where
   pub all : IsPermutation (filter is_taken listed) taken
   pub order : IsSortedBy comes_after taken
@@ -54,6 +55,11 @@ below folder e =
 -- the entries come behind what was, with their paths
 abbrev pub Adds : List ℕ → List Entry → List Entry → List Entry → Type 0
 Adds folder entries old new = map path_of new ≡ map path_of old ++ map (below folder) entries
+
+-- The last entry is taken, or none was left.
+abbrev pub Takes : Option Entry → List Entry → List Entry → Type 0
+Takes None old new = (old ≡ []) × (new ≡ [])
+Takes (Some e) old new = old ≡ new ++ (e ∷ [])
 
 -- A folder is entered: what is checked of it comes behind what was still to come, of which the last is the next.
 pub record Enters (folder : List ℕ) (listed old new : List Entry) : Type 0 where

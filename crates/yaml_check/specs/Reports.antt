@@ -79,8 +79,12 @@ first_place = record { index = 0; line = 1; col = 0 }
 
 -- What is told of a file that can't be read: an error at its beginning, with these words.
 abbrev pub unread_seen : List ℕ → ToldSeen
-unread_seen message =
-    record { span = record { start = first_place; end = first_place }; severity = severity.Error; rule = codes "unreadable"; message = message }
+unread_seen message = record {
+  span = record { start = first_place; end = first_place };
+  severity = severity.Error;
+  rule = codes "unreadable";
+  message = message;
+}
 
 abbrev pub unread : Format → List ℕ → List ℕ → List ℕ
 unread format.Text name message = told_line name (unread_seen message)

@@ -26,7 +26,7 @@ use crate::sizes::Sizes;
 use crate::standard::departures;
 use crate::view::characters;
 use crate::warning::{PlacedWarning, Warning};
-use saphyr_parser::{Event, Fault, Input, Parser, ScanError, Span};
+use saphyr_parser::{Event, Fault, Input, Parser, Progress, ScanError, Span, no_event};
 use std::alloc::{AllocError, Global};
 use std::mem::replace;
 
@@ -312,13 +312,33 @@ impl Checker {
         ensures open { OnceEnded result (open_of self.new.open
             ≡ opened.open_on (to_come parser.entry).events (open_of self.old.open)) }
     {
-        for item in parser {
-            let (event, span) = item?;
-            let taken = self.take(&event, span);
-            drop(event);
-            taken?;
+        let mut parser = parser;
+        let mut next = no_event();
+        let taken = self.take_each(&mut parser, &mut next);
+        drop((next, parser));
+        taken
+    }
+
+    /// Takes all events through one place, since they are large to move.
+    fn take_each<'input, T: Input>(
+        &mut self,
+        parser: &mut Parser<'input, T>,
+        next: &mut (Event<'input>, Span),
+    ) -> Result<(), Fault>
+        ensures ended { EndsAs result (to_come parser.old) }
+        ensures warned { OnceEnded result (self.new.warnings.items ≡ self.old.warnings.items
+            ++ warned.warnings_on (to_come parser.old).events (seen_of self.old)) }
+        ensures open { OnceEnded result (open_of self.new.open
+            ≡ opened.open_on (to_come parser.old).events (open_of self.old.open)) }
+    {
+        let mut fault = Fault::OutOfMemory;
+        loop {
+            match parser.next_event_into(next, &mut fault) {
+                Progress::Event => self.take(&next.0, next.1)?,
+                Progress::Fault => return Err(fault),
+                Progress::Over => return Ok(()),
+            }
         }
-        Ok(())
     }
 
     /// Takes an event with its span.

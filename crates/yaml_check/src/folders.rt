@@ -1,5 +1,5 @@
 //! The files and folders to check: which entries of a folder are, and in which order.
-ghost use Rattle.std.specs.Prelude.{◌≡◌, ◌++◌, IfOk, OnOk, option_to_list, reverse, string_bytes};
+ghost use Rattle.std.specs.Prelude.{◌≡◌, IfOk, OnOk, reverse};
 ghost use Rattle.yaml_check.specs.Folders as spec;
 
 use std::alloc::{AllocError, Global};
@@ -58,7 +58,7 @@ impl Walk {
 
     /// Takes the next one.
     pub fn next(&mut self) -> Option<Entry>
-        ensures { self.old.rest.items ≡ self.new.rest.items ++ option_to_list result }
+        ensures { spec.Takes result self.old.rest.items self.new.rest.items }
     {
         self.rest.pop()
     }

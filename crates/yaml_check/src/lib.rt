@@ -34,8 +34,8 @@ mod warning;
 
 pub use arguments::{Call, HELP, Options, WrongCall, parse_arguments};
 pub use checking::{Limits, check_bytes, check_text};
-pub use folders::{Entry, FileName, Kind, Walk};
 pub use finding::{Finding, Findings, Notes, Problem, Severity, Verdict};
+pub use folders::{Entry, FileName, Kind, Walk};
 pub use note::{Note, Remark};
 pub use rules::{Rule, RuleSet};
 pub use run::{CheckFault, check_source, status_of, tell_unread};

@@ -1,5 +1,5 @@
 -- What was told of the events so far and is told of those to come stays the same.
-use Rattle.std.proofs.Common.{◌≡◌, ◌∙◌, List, ◌++◌, Result, Ok, Some, sym, ap, subst, append_assoc}
+use Rattle.std.proofs.Common.{◌≡◌, ◌∙◌, ℕ, ◌+◌, List, ◌++◌, Result, Ok, Some, sym, ap, subst, append_assoc, arith}
 use Rattle.saphyr_parser.specs.Types.Event.{Event}
 use Rattle.saphyr_parser.specs.Types.Fault.{Fault}
 use Rattle.saphyr_parser.specs.Words.Span.{Span}
@@ -8,12 +8,7 @@ use Rattle.saphyr_parser.specs.Cursor.{HandsOutNext, event_of}
 use Rattle.yaml_check.specs.declared.warning.PlacedWarning.{PlacedWarning}
 use Rattle.yaml_check.specs.Opened.{OpenStarts, opened_behind, open_on}
 use Rattle.yaml_check.specs.Warned.{Seen, seen_behind, warnings_at, warnings_on}
-use Rattle.yaml_check.proofs.checking.Checker.take_all.Goals as goal
-
-first_of : (r : Result (Event × Span) Fault) (e : Event × Span) (old new : Answer) → r ≡ Ok e
-    → HandsOutNext (Some r) old new → old ≡ with_first_event (event_of e) new
-first_of r e old new is handed =
-    subst (λ (q : Result (Event × Span) Fault). HandsOutNext (Some q) old new) is handed
+use Rattle.yaml_check.proofs.checking.Checker.take_each.Goals as goal
 
 keeps_told : (e : Event × Span) (old new : Answer) (before after all : List PlacedWarning) (s t : Seen)
     → old ≡ with_first_event (event_of e) new → before ++ warnings_on old.events s ≡ all
@@ -26,12 +21,12 @@ keeps_open : (e : Event × Span) (old new : Answer) (o p all : OpenStarts) → o
     → open_on old.events o ≡ all → p ≡ opened_behind (event_of e).0 e.1 o → open_on new.events p ≡ all
 keeps_open e old new o p all first opened behind = rw behind (ap (λ a. open_on a.events o) (sym first) ∙ opened)
 
-pub loop-item-preserved : goal.loop-item-preserved
-loop-item-preserved g c =
-    let first = first_of _ _ _ _ c.in_ok-event.was c.in-Some.ensures.steps.0 in
+pub loop-self-preserved : goal.loop-self-preserved
+loop-self-preserved g c =
+    let first = c.in-Event.ensures.hands in
     record {
-      fault = ap (λ a. a.fault) (sym first) ∙ c.loop-item.invariant.fault;
-      warned = keeps_told _ _ _ _ _ _ _ _ first c.loop-item.invariant.warned c.in_ok-taken.ensures.behind
-          c.in_ok-taken.ensures.told;
-      opened = keeps_open _ _ _ _ _ _ first c.loop-item.invariant.opened c.in_ok-taken.ensures.open;
+      fault = ap (λ a. a.fault) (sym first) ∙ c.loop-self.invariant.fault;
+      warned = keeps_told _ _ _ _ _ _ _ _ first c.loop-self.invariant.warned c.in_ok-take-in-Event.ensures.behind
+          c.in_ok-take-in-Event.ensures.told;
+      opened = keeps_open _ _ _ _ _ _ first c.loop-self.invariant.opened c.in_ok-take-in-Event.ensures.open;
     }
