@@ -169,8 +169,7 @@ mkdir names names/$'\377'
 for file in names/$'a\377.yml' names/$'a\377.txt' names/b.yaml names/$'\377/c.yaml'; do
     printf -- '---\n' >"$file"
 done
-all="names/a\357\277\275.yml:1:1: error: $unnamed\n$(found names/b.yaml)"
-answers 2 "${all}names/\357\277\275:1:1: error: $unnamed\n" names
+answers 2 "names/a\357\277\275.yml:1:1: error: $unnamed\n$(found names/b.yaml)" names
 # Paths that are too long to be asked for: of a file, hidden or not, and of a folder.
 part=$(printf 'd%.0s' {1..250})
 path=long
