@@ -112,11 +112,12 @@ def of_nothing(command):
 
 def instructions(command):
     """How many instructions a run takes beyond those for an empty text, or None where it fails."""
-    found, started = (count_instructions(words) for words in (command, of_nothing(command)))
+    found, started = (count_instructions(*words) for words in (command, of_nothing(command)))
     return found and found - started
 
 
-def count_instructions(command):
+@functools.lru_cache(maxsize=None)
+def count_instructions(*command):
     words = ["valgrind", "--tool=callgrind", "--callgrind-out-file=/dev/null", *command]
     ran = subprocess.run(words, stdout=subprocess.DEVNULL, stderr=subprocess.PIPE)
     found = re.search(rb"Collected : (\d+)", ran.stderr)
@@ -171,7 +172,7 @@ def report_small(programs, file):
     with open(file, "w", encoding="utf-8") as it:
         it.write(SMALL)
     for name, path in programs.items():
-        few, more = (count_instructions([path, file, times]) for times in ("10", "110"))
+        few, more = (count_instructions(path, file, times) for times in ("10", "110"))
         print(f"{name:12}{(more - few) / 100:10.0f}")
 
 

@@ -28,7 +28,7 @@ import tempfile
 
 from faces import CRATE, libraries, without
 from refused_memory import ROOT, program
-from release_pages import block, blocks, files_below, read, wrong_links, wrong_manuals, wrong_words
+from release_pages import BLOCK, block, blocks, files_below, read, wrong_links, wrong_manuals, wrong_words
 
 TEXT = b"name: &it !!str 'parser'\nports: [80, \"443\", *it]\n"
 SCALARS = b"1:1 name\n1:7 parser\n2:1 ports\n2:9 80\n2:13 443\n"
@@ -356,7 +356,8 @@ def check_python_programs(release, version, python):
         if not isinstance(written, bytes) or not written.startswith(first) or not written.endswith(last):
             fail(f"the program of {page} in Python {version} prints {written!r}")
     write(f"{release.folder}/config.yaml", "a: x\nports: [80,\nname: x\n")
-    shown = re.sub("^ {6}", "", re.search("(?:^ {6}.*\n)+", read(release.faces), re.M)[0], flags=re.M)
+    indented = re.search("(?:^ {6}.*\n)+", BLOCK.sub("", read(release.faces)), re.M)[0]
+    shown = re.sub("^ {6}", "", indented, flags=re.M)
     ran = subprocess.run([python, "-c", FAULT], cwd=release.folder, env=release.env, capture_output=True, text=True)
     if ran.stdout != shown:
         fail(f"a fault in Python {version} is {ran.stdout!r}{ran.stderr}, and FACES.md shows {shown!r}")
