@@ -18,7 +18,7 @@ use Rattle.yaml_tree.specs.declared.table.NodeTable.{NodeTable}
 use Rattle.yaml_tree.specs.declared.table.Root.{Root}
 use Rattle.yaml_tree.specs.declared.table.Row.{Row}
 use Rattle.yaml_tree.specs.Expanding.{most}
-use Rattle.yaml_tree.specs.CounterSeen.{Count, HoldsCount, nodes_begun as counts_begun, counted, counted_all, left, size_in, with_nodes}
+use Rattle.yaml_tree.specs.CounterSeen.{Count, HoldsCount, begun as counts_begun, counted, counted_all, left, size_in, with_nodes}
 use Rattle.yaml_tree.specs.Tables.{AreEntriesFrom, AreNodes, AreRootsFrom, Event, IsBeside, IsEnd, IsLeafEvent, IsNode, IsEmptyTable, IsRootAt, IsStart, IsTable, MaybeTag, Store, StoresProperties, TellsFirst, all_of, id_of_anchor, beginning, nodes_begun, documents_ended, documents_ended_by, none, numbers, one_more, store_of}
 use Rattle.yaml_tree.specs.GrowerSeen.{AddsEvent, AddsLeaf, CountsExpanded, EndsDocument, EndsLevel, HasGrown, Holds, HasNoneOpen, IsMore, IsStack, OpensLevel, Stores, StoresText, closed, no_count}
 use Rattle.yaml_tree.proofs.Expands.{expands}
@@ -26,7 +26,7 @@ use Rattle.yaml_tree.proofs.LastItems.{none_is_last, same_last}
 use Rattle.yaml_tree.proofs.Stores.{more_none, stores_both, text_stores, texts_more}
 use Rattle.yaml_tree.proofs.Grown.{adds_leaf, begins, begun-append, ends, entries_both, entries_more, holds_count, holds_store}
 
--- ## CountsExpanded
+-- ## Counts
 
 ended-append : (xs ys : List Event) → documents_ended (xs ++ ys) ≡ documents_ended xs + documents_ended ys
 ended-append [] ys = omega arith

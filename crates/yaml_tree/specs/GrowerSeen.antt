@@ -69,9 +69,9 @@ pub record ClosesEntry (number : ℕ) (row : Row) (end : Mark) (entry : Entry) (
   pub others : new ≡ record old { entries = new.entries }
   pub entries : new.entries.items ≡ slice_set old.entries.items number (closed row end entry)
 
--- ## What has nodes_begun
+-- ## What has begun
 
--- Behind the events of the base these nodes have documents_ended. Their numbers wait, and their entries are the last.
+-- Behind the events of the base these nodes have ended. Their numbers wait, and their entries are the last.
 pub record Inside (es base : List Event) (s : Store) (waiting before : List ℕ) (entries outer : List Entry)
     : Type 0 where
   pub parts : List (List Event)
