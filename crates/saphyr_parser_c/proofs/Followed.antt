@@ -13,7 +13,7 @@ use Rattle.yaml_tree.specs.declared.table.Entry.{Entry}
 use Rattle.yaml_tree.specs.declared.table.NodeTable.{NodeTable}
 use Rattle.yaml_tree.specs.Accessing.{is_this_text}
 use Rattle.yaml_tree.specs.Tables.{AreNodes, CountsParts, Event, FindsNumber, IsMadeOf, IsNodeAt, IsTable, HasNumber, OfNode, Store, TellsFirst, all_of, nodes_begun, count_of, none as no_parts, numbers, one_more, part_of_step, store_of}
-use Rattle.saphyr_parser_c.specs.Followed.{FollowsAlias, FollowsIn, GetsAt, HasKeyText, IsKey, IsKeyAndValue, IsKeyText, IsThere, LeadsFrom, named_by, named_in, text_of_first, scalar_text}
+use Rattle.saphyr_parser_c.specs.Followed.{FollowsAlias, FollowsIn, GetsAt, HasKeyText, IsKey, IsPairOfParts, IsTextOfKey, IsThere, LeadsFrom, named_by, named_in, text_of_first, scalar_text}
 use Rattle.yaml_tree.proofs.Entries.{entry_there, entry_told}
 use Rattle.yaml_tree.proofs.Places.{begun-append, made_once, place_once, start_begins, within}
 
@@ -156,7 +156,7 @@ followed_there es table number n t f = elim (cases_lt number (nodes_begun es)) [
 pub is_text : (es : List Event) (table : NodeTable) (text : List ℕ) (number : ℕ) (e : Entry) (b : Bool) → IsTable es table
     → Some e ≡ slice_get table.entries.items number
     → ((h : Happening) → TellsFirst (store_of table) e.content h → b ≡ is_this_text text (scalar_text h))
-    → IsKeyText es text (Some number) b
+    → IsTextOfKey es text (Some number) b
 is_text es table text number e b t there is =
     let own = entry_told es table number e t (sym there) in
     let s = own.2 in (
@@ -167,7 +167,7 @@ is_text es table text number e b t there is =
     )
 
 pub no_text : (es : List Event) (table : NodeTable) (text : List ℕ) (number : ℕ) (b : Bool) → IsTable es table
-    → number < nodes_begun es → None ≡ slice_get table.entries.items number → IsKeyText es text (Some number) b
+    → number < nodes_begun es → None ≡ slice_get table.entries.items number → IsTextOfKey es text (Some number) b
 no_text es table text number b t less none =
     absurd (entry_there es table number t less (sym none))
 
@@ -190,7 +190,7 @@ leads_in es own number step r table t at leads =
 pub is_key : (es own : List Event) (text : List ℕ) (whole index number : ℕ) (r : Option ℕ) (table : NodeTable) (b : Bool)
     → IsTable es table → IsNodeAt es whole own
     → OfNode table whole (λ (own : List Event). HasNumber own whole (Key index) (Some number)) → FollowsAlias number r table
-    → (IsThere es r → IsKeyText es text r b) → IsKey es text own whole index b
+    → (IsThere es r → IsTextOfKey es text r b) → IsKey es text own whole index b
 is_key es own text whole index number r table b t at leads follows is =
     let key = leads_in es own whole (Key index) (Some number) table t at leads in
     let less = part_there es whole own (Key index) number at key in

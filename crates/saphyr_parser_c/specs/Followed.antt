@@ -47,14 +47,14 @@ text_of_first [] = None
 text_of_first (e ∷ es) = scalar_text e.0
 
 -- whether it is the number of a scalar with this text
-abbrev pub IsKeyText : List Event → List ℕ → Option ℕ → Bool → Type 0
-IsKeyText es text (Some number) b =
+abbrev pub IsTextOfKey : List Event → List ℕ → Option ℕ → Bool → Type 0
+IsTextOfKey es text (Some number) b =
     (own : List Event) × IsNodeAt es number own × (b ≡ is_this_text text (text_of_first own))
-IsKeyText es text None b = b ≡ false
+IsTextOfKey es text None b = b ≡ false
 
 -- whether a node has this text, or the node that it names
 abbrev pub HasKeyText : List Event → List ℕ → ℕ → Bool → Type 0
-HasKeyText es text number b = (found : Option ℕ) × FollowsIn es number found × IsKeyText es text found b
+HasKeyText es text number b = (found : Option ℕ) × FollowsIn es number found × IsTextOfKey es text found b
 
 -- whether there is a key at this index, and it has this text
 abbrev pub IsKey : List Event → List ℕ → List Event → ℕ → ℕ → Bool → Type 0
@@ -64,16 +64,16 @@ IsKey es text own number index false =
     (key : ℕ) → HasNumber own number (Key index) (Some key) → HasKeyText es text key false
 
 -- the pair with this index
-abbrev pub IsKeyAndValue : List Event → ℕ → ℕ → ℕ → ℕ → Type 0
-IsKeyAndValue own number index key value =
+abbrev pub IsPairOfParts : List Event → ℕ → ℕ → ℕ → ℕ → Type 0
+IsPairOfParts own number index key value =
     HasNumber own number (Key index) (Some key) × HasNumber own number (Value index) (Some value)
 
 -- the value of the first pair whose key has this text
 abbrev pub GetsIn : List Event → List ℕ → List Event → ℕ → Option ℕ → Type 0
-GetsIn es text own number (Some value) = (index : ℕ) × (key : ℕ) × IsKeyAndValue own number index key value
+GetsIn es text own number (Some value) = (index : ℕ) × (key : ℕ) × IsPairOfParts own number index key value
     × HasKeyText es text key true
-    × ((before k v : ℕ) → before < index → IsKeyAndValue own number before k v → HasKeyText es text k false)
-GetsIn es text own number None = (index k v : ℕ) → IsKeyAndValue own number index k v → HasKeyText es text k false
+    × ((before k v : ℕ) → before < index → IsPairOfParts own number before k v → HasKeyText es text k false)
+GetsIn es text own number None = (index k v : ℕ) → IsPairOfParts own number index k v → HasKeyText es text k false
 
 -- That of the node that it is or names. If this is no mapping, or there is no such node, it is none.
 abbrev pub GetsAt : List Event → List ℕ → Option ℕ → Option ℕ → Type 0

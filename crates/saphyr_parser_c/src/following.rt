@@ -58,7 +58,7 @@ fn has_key(table: &NodeTable, whole: usize, index: usize, text: &str) -> bool
 // Whether it is the number of a scalar with this text.
 fn has_text(table: &NodeTable, number: Option<usize>, text: &str) -> bool
     ensures { (es : List Placed) → IsTable es table.now → spec.IsThere es number
-        → spec.IsKeyText es text.now number result }
+        → spec.IsTextOfKey es text.now number result }
 {
     let Some(number) = number else {
         return false;
