@@ -1,5 +1,5 @@
 -- What is told of an entry of a table is told of the node at its number.
-use Rattle.std.proofs.Common.{refl, ◌≡◌, ◌∙◌, sym, subst, ℕ, List, slice_get, Some, None}
+use Rattle.std.proofs.Common.{refl, ◌≡◌, ◌∙◌, sym, subst, ℕ, slice_get, Some, None}
 use Rattle.saphyr_scalar.specs.declared.scalar.position.Marker.{Marker}
 use Rattle.saphyr_parser.specs.Events.{Happening}
 use Rattle.yaml_tree.specs.declared.table.Entry.{Entry}

@@ -7,9 +7,8 @@ use Rattle.saphyr_parser.specs.Events.{ResolvedTag, Scalar}
 use Rattle.yaml_tree.specs.declared.table.TagRows.{TagRows}
 use Rattle.yaml_tree.specs.Tables.{HasTagRows, StandIn}
 use Rattle.saphyr_parser_c.specs.declared.shown.CEvent.{CEvent}
-use Rattle.saphyr_parser_c.specs.declared.shown.CMarker.{CMarker}
 use Rattle.saphyr_parser_c.specs.declared.shown.CText.{CText}
-use Rattle.saphyr_parser_c.specs.Shown.{HasFields, HasNumbers, HasTag, HasTagTexts, HasText, HasTextFields, IsMarkerOfC, fields_of_event, fields_of_kind, style_code, tag_code}
+use Rattle.saphyr_parser_c.specs.Shown.{HasFields, HasNumbers, HasTag, HasTagTexts, HasText, IsMarkerOfC, fields_of_event, fields_of_kind, style_code, tag_code}
 use Rattle.saphyr_parser_c.specs.Trees.{IsSameButProperties}
 
 -- the texts of a tag, which stand in a table

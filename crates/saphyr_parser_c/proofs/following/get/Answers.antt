@@ -1,4 +1,4 @@
-use Rattle.std.proofs.Common.{◌≡◌, Bool, List, Some, subst, true, false, ℕ}
+use Rattle.std.proofs.Common.{Bool, Some, subst}
 use Rattle.saphyr_parser_c.specs.Followed.{IsKey}
 use Rattle.saphyr_parser_c.proofs.Followed.{followed_there, gets_none, gets_value, none_more}
 use Rattle.saphyr_parser_c.proofs.following.get.Goals as goal

@@ -1,4 +1,4 @@
-use Rattle.std.proofs.Common.{◌∙◌, ap, subst, sym, List, ℕ, Some}
+use Rattle.std.proofs.Common.{◌∙◌, ap, subst, sym, List, ℕ}
 use Rattle.std.specs.Str.{bytes_eq}
 use Rattle.saphyr_parser.specs.Events.{Happening}
 use Rattle.yaml_tree.specs.declared.table.Content.{Content}

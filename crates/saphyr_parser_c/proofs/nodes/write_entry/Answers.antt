@@ -1,4 +1,4 @@
-use Rattle.std.proofs.Common.{◌≡◌, subst, sym, List, ℕ, Some, pos}
+use Rattle.std.proofs.Common.{subst, sym, List, ℕ, Some, pos}
 use Rattle.saphyr_scalar.specs.declared.scalar.position.Marker.{Marker}
 use Rattle.saphyr_parser.specs.Events.{Happening}
 use Rattle.yaml_tree.specs.declared.table.Content.{Content}
