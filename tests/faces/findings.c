@@ -138,8 +138,7 @@ static void check(const uint8_t *text, size_t len, const saphyr_check_options *o
     print_all(out, text, len, options);
     fclose(out);
     expect(!blocks, "what is freed");
-    /* With `standard` the rule and the place of a deviation may be others where a request is refused. */
-    if (len <= SHORT && !options->standard) {
+    if (len <= SHORT) {
         refuse_each(text, len, options, lines);
     }
     fwrite(lines, 1, count, stdout);

@@ -12,7 +12,7 @@ use Rattle.yaml_check.specs.declared.folders.Kind.{Kind}
 use Rattle.yaml_check.specs.declared.folders.Kind.TheVariants as kind
 
 -- a name with these bytes: its text is theirs, with U+FFFD in the place of what is not UTF-8
-pub record Names (bytes : List ℕ) (name : FileName) : Type 0 where
+pub record NamesFile (bytes : List ℕ) (name : FileName) : Type 0 where
   pub text : string_bytes name.text ≡ utf8_lossy bytes
   pub is_utf8 : IsTrue name.is_utf8 ↔ IsUtf8 bytes
 
@@ -30,7 +30,7 @@ abbrev pub comes_after : Entry → Entry → Bool
 comes_after a b = is_lt (slice_cmp nat_cmp (string_bytes b.name.text) (string_bytes a.name.text))
 
 -- all entries of a folder that are checked and no others, each once, by their names; the last is the next that is
-pub record AreTaken (listed taken : List Entry) : Type 0 where
+pub record AreChecked (listed taken : List Entry) : Type 0 where
   pub all : IsPermutation (filter is_taken listed) taken
   pub order : IsSortedBy comes_after taken
 
@@ -44,8 +44,8 @@ pub record PathSeen : Type 0 where
   pub is_utf8 : Bool
   pub kind : Kind
 
-abbrev pub path_of : Entry → PathSeen
-path_of e = record { text = string_bytes e.name.text; is_utf8 = e.name.is_utf8; kind = e.kind }
+abbrev pub path_seen : Entry → PathSeen
+path_seen e = record { text = string_bytes e.name.text; is_utf8 = e.name.is_utf8; kind = e.kind }
 
 -- the same of an entry of a folder, with its path
 abbrev pub below : List ℕ → Entry → PathSeen
@@ -53,16 +53,16 @@ below folder e =
     record { text = with_slash folder ++ string_bytes e.name.text; is_utf8 = e.name.is_utf8; kind = e.kind }
 
 -- the entries come behind what was, with their paths
-abbrev pub Adds : List ℕ → List Entry → List Entry → List Entry → Type 0
-Adds folder entries old new = map path_of new ≡ map path_of old ++ map (below folder) entries
+abbrev pub AddsEntries : List ℕ → List Entry → List Entry → List Entry → Type 0
+AddsEntries folder entries old new = map path_seen new ≡ map path_seen old ++ map (below folder) entries
 
 -- The last entry is taken, or none was left.
-abbrev pub Takes : Option Entry → List Entry → List Entry → Type 0
-Takes None old new = (old ≡ []) × (new ≡ [])
-Takes (Some e) old new = old ≡ new ++ (e ∷ [])
+abbrev pub TakesNext : Option Entry → List Entry → List Entry → Type 0
+TakesNext None old new = (old ≡ []) × (new ≡ [])
+TakesNext (Some e) old new = old ≡ new ++ (e ∷ [])
 
 -- A folder is entered: what is checked of it comes behind what was still to come, of which the last is the next.
-pub record Enters (folder : List ℕ) (listed old new : List Entry) : Type 0 where
+pub record EntersFolder (folder : List ℕ) (listed old new : List Entry) : Type 0 where
   pub taken : List Entry
-  pub are : AreTaken listed taken
-  pub added : Adds folder taken old new
+  pub are : AreChecked listed taken
+  pub added : AddsEntries folder taken old new

@@ -15,7 +15,7 @@ pub struct FileName {
 impl FileName {
     /// The name with these bytes.
     pub fn from_bytes(alloc: Global, bytes: &[u8]) -> Result<FileName, AllocError>
-        ensures { IfOk result (spec.Names bytes.now) }
+        ensures { IfOk result (spec.NamesFile bytes.now) }
     {
         let text = String::from_utf8_lossy(alloc, bytes)?;
         Ok(FileName {
@@ -58,7 +58,7 @@ impl Walk {
 
     /// Takes the next one.
     pub fn next(&mut self) -> Option<Entry>
-        ensures { spec.Takes result self.old.rest.items self.new.rest.items }
+        ensures { spec.TakesNext result self.old.rest.items self.new.rest.items }
     {
         self.rest.pop()
     }
@@ -70,7 +70,7 @@ impl Walk {
         folder: &str,
         listed: Vec<Entry>,
     ) -> Result<(), AllocError>
-        ensures { OnOk result (spec.Enters folder.now listed.items self.old.rest.items
+        ensures { OnOk result (spec.EntersFolder folder.now listed.items self.old.rest.items
             self.new.rest.items) }
     {
         let taken = taken(listed)?;
@@ -82,7 +82,7 @@ impl Walk {
 
 /// The entries of a folder that are checked, by their names, the first one last.
 fn taken(listed: Vec<Entry>) -> Result<Vec<Entry>, AllocError>
-    ensures { IfOk result (λ taken. spec.AreTaken listed.items taken.items) }
+    ensures { IfOk result (λ taken. spec.AreChecked listed.items taken.items) }
 {
     let mut taken = listed;
     taken.retain(is_taken);
@@ -114,7 +114,7 @@ fn push_all(
     folder: &str,
     entries: &[Entry],
 ) -> Result<(), AllocError>
-    ensures { OnOk result (spec.Adds folder.now entries.now rest.old.items rest.new.items) }
+    ensures { OnOk result (spec.AddsEntries folder.now entries.now rest.old.items rest.new.items) }
 {
     for entry in entries {
         let entry = below(alloc, folder, entry)?;
@@ -127,7 +127,7 @@ fn push_all(
 
 /// The entry of a folder with its path.
 fn below(alloc: Global, folder: &str, entry: &Entry) -> Result<Entry, AllocError>
-    ensures { IfOk result (λ path. spec.path_of path ≡ spec.below folder.now entry.now) }
+    ensures { IfOk result (λ path. spec.path_seen path ≡ spec.below folder.now entry.now) }
 {
     let mut text = String::from_str(alloc, folder)?;
     if !folder.ends_with("/") {

@@ -52,7 +52,8 @@ pub(crate) fn wide_colon(text: &[char], start: usize, end: usize) -> Option<usiz
 /// The slash that begins a comment of another language, at a place or on a line before it of the same text.
 pub(crate) fn other_comment(text: &[char], end: usize) -> Option<usize>
     requires { end ≤ length text.now }
-    ensures near { IfSome result (λ at. (at ≡ end) ⊎ ((at < end) × spec.BeginsSomeLine text.now at)) }
+    ensures near { IfSome result (λ at. (at ≡ end)
+        ⊎ ((at < end) × spec.BeginsSomeLine text.now at)) }
     ensures is { IfSome result (spec.IsOtherComment text.now) }
 {
     if begins_other_comment(text, end) {

@@ -168,6 +168,11 @@ impl<'a> Guide<'a> {
         };
     }
 
+    /// Whether memory ran out for the events.
+    pub(crate) fn ran_out(&self) -> bool {
+        self.is_refused && matches!(self.fault, Fault::OutOfMemory)
+    }
+
     /// Goes on to the end: the fault that ends the events, if one does.
     pub(crate) fn into_fault(mut self) -> Option<Fault> {
         for _ in 0..usize::MAX {

@@ -204,7 +204,12 @@ pub(crate) fn broken_rules(
         guide.leave_out(stuck.text, "")?;
     }
     push_unprintable(&mut found, text, &guide, most)?;
+    let ran_out = guide.ran_out();
     drop(guide);
+    if ran_out {
+        drop(found);
+        return Err(AllocError);
+    }
     found.sort_by_cached_key(|(_, count)| *count)?;
     found.truncate(most);
     Ok(found)

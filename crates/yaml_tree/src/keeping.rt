@@ -78,7 +78,8 @@ impl NodeTable {
 
     // A collection ends: its parts are known now.
     pub(crate) fn close(&mut self, number: usize, row: Row, end: Mark) -> Result<(), AllocError>
-        ensures { OnOk result ((entry : Told) × (slice_get self.old.entries.items number ≡ Some entry)
+        ensures { OnOk result ((entry : Told)
+            × (slice_get self.old.entries.items number ≡ Some entry)
             × seen.ClosesEntry number row end entry self.old self.new) }
     {
         let Some(entry) = self.entries.get(number) else {

@@ -252,7 +252,8 @@ impl NodeTable {
     /// The number of a node with this anchor. In documents of one text there is at most one.
     #[must_use]
     pub fn with_anchor(&self, id: usize) -> Option<usize>
-        ensures { (es : List spec.Event) → spec.IsTable es self.now → spec.FindsNumber es id result }
+        ensures { (es : List spec.Event) → spec.IsTable es self.now
+            → spec.FindsNumber es id result }
     {
         if id == 0 {
             return None;
