@@ -12,7 +12,7 @@ use Rattle.saphyr_scanner.specs.TokensTaken.{AreApart, IsAtColumn}
 use Rattle.saphyr_scanner.specs.TokensInPlace as place
 use Rattle.saphyr_scanner.specs.TokensInPlace.{Begun, with_begun, turned_to, awaiting_colon, has_text, enclosures_behind, may_follow}
 use Rattle.saphyr_scanner.proofs.Effects.Moves.{DoesWithin, encloses, and_then, Same, lesser, further, allows_right}
-use Rattle.saphyr_scanner.proofs.Effects.Puts.{passes, indicated, freed, quiet_within, block_begins, loud}
+use Rattle.saphyr_scanner.proofs.Effects.Puts.{passes, indicated, freed, quiet_within, block_begins, loud, sequence_starts, mapping_starts}
 use Rattle.saphyr_scanner.proofs.Effects.Walked.{Premises, Walked, walked_then, at_most, Doing, at_reach, separate_walked}
 use Rattle.saphyr_scanner.proofs.LineTails.{OnLine}
 use Rattle.saphyr_scanner.proofs.Reached.{apart_reached}
@@ -110,10 +110,8 @@ next_entry_does c e allowed deep first second =
     (λ f. let r : Core = enter_block s.mark.col (pass_on 1 c) in
     walked_then (Premises c) (Behind r) (Doing None c) s (block.pass_dash r >>= remove_key) _ (dash_walked c s r a)
     (λ d g. at_most (omega arith) (and_then (λ n. n)
-    (block_begins (enclosure_of c.level.context) c _ tokens.BlockSequenceStart place.BlockSequence
-    (λ i. absurd (cc)) (λ p. refl) refl refl allowed (λ a. a.2) (λ f. absurd (let no = g.2 in cc))
-    (λ f. absurd (cc)) (λ p. refl)
-    (λ i p u t h. h) (λ x y. refl) (λ p all. refl) (λ p columns. refl) e
+    (block_begins (enclosure_of c.level.context) c _ tokens.BlockSequenceStart place.BlockSequence sequence_starts
+    allowed (λ a. a.2) (λ f. absurd (let no = g.2 in cc)) (λ f. absurd (cc)) e
     (further_right s.mark.col c f) (ap taken.begins_text first))
     (dash place.BlockSequence (enter_block s.mark.col c) (record d { key_allowed = true }) (λ a. a.2) first second e
     allowed refl g.0 refl g.1 (λ p. refl)))))
@@ -180,8 +178,8 @@ question g x c d turned none first second column s a allowed follows =
     let some = has_some t.span (omega (arith, later.index)) in
     let behind : enclosures_of c ≡ enclosures_behind tokens.Key t.span within =
     cc (question_encloses x (outside_of c), marked (has_text t.span) some) in
-    and_then (λ n. n) (encloses behind (quiet_within within 1 c t u c.level true refl none refl (λ y. refl)
-    (λ y. refl) refl none (λ _. rw (follows t.span, some) refl) (λ i. absurd (cc)) refl
+    and_then (λ n. n) (encloses behind (quiet_within within 1 c t u c.level true refl none
+    (record { quiet = refl; brackets = λ y. refl; depth = λ y. refl; no_node = refl }) none (λ _. rw (follows t.span, some) refl) (λ i. absurd (cc)) refl
     (plain_fronts t c (freed (with_cursor u c)) refl) (λ _ _ f. absurd (cc))
     (indicated 63 c u t (record { some = refl; unbroken = refl; is = first }) a (omega arith)
     (omega (arith, later.index)) (omega arith)
@@ -226,12 +224,10 @@ key_does c deep first second =
     (λ f. let r : Core = with_context x (enter_block s.mark.col c) in
     walked_then (Premises c) (Asked r) (Doing None c) s _ _ (question_walked (Premises c) r a)
     (λ d g. at_most (omega arith) (and_then (λ n. n)
-    (block_begins (enclosure_of c.level.context) c _ tokens.BlockMappingStart place.BlockMapping
-    (λ i. absurd (cc)) (λ p. refl) refl refl (allowed_in (in_block c) c.key_allowed w (further_block s.mark.col c f))
-    (λ a. a.2)
+    (block_begins (enclosure_of c.level.context) c _ tokens.BlockMappingStart place.BlockMapping mapping_starts
+    (allowed_in (in_block c) c.key_allowed w (further_block s.mark.col c f)) (λ a. a.2)
     (λ yes. absurd (let no = same_free (in_block c) (in_block r) c.required (question_block c.level.context) g.3 in
     let b = further_block s.mark.col c f in cc)) (λ yes. absurd (let b = further_block s.mark.col c f in cc))
-    (λ p. refl) (λ i p u t h. h) (λ j y. refl) (λ p all. refl) (λ p columns. refl)
     (further_block s.mark.col c f) (further_right s.mark.col c f) (ap taken.begins_text first)) (and_then (λ n. n)
     (lesser (with_begun place.BlockMapping (enclosures_of (enter_block s.mark.col c)))
     (forget_key (enter_block s.mark.col c)) (forget_key r)

@@ -16,8 +16,7 @@ use Rattle.saphyr_scanner.proofs.Blocks.{unrolled_cursor, unrolled_comment}
 use Rattle.saphyr_scanner.proofs.Counted.{stays, text_passed}
 use Rattle.saphyr_scanner.proofs.Effects.Moves.{Does, and_then, NoComment, Same, right_before, still, further}
 use Rattle.saphyr_scanner.proofs.Effects.Puts.{Reading, quiet}
-use Rattle.saphyr_scanner.proofs.Effects.Walked.{Premises, Walked, walked_then, at_most, resting, unsaved_step, at_reach}
-use Rattle.saphyr_scanner.proofs.Effects.Walked.{at_inside, read_walked, separate_walked}
+use Rattle.saphyr_scanner.proofs.Effects.Walked.{Premises, Walked, walked_then, at_most, resting, unsaved_step, at_reach, at_inside, read_walked, separate_walked}
 use Rattle.saphyr_scanner.proofs.Effects.Readers.{TextLaws}
 use Rattle.saphyr_scanner.proofs.Effects.States.{FetchesTokens, advances_advances, on_core_fetches, after_step_fetches, unroll_advances}
 use Rattle.saphyr_scanner.proofs.Effects.Steps.{begins_none, begins_forgotten}

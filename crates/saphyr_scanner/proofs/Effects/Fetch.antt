@@ -1,6 +1,6 @@
 -- What is done where a token is fetched, in one statement.
 use Rattle.saphyr_scanner.proofs.Common.{◌≡◌, ℕ, ◌+◌, ◌-◌, ◌≤◌, ◌<◌, Bool, true, false, List, [], ◌∷◌, ◌++◌, length, Result, Ok, Err, refl, sym, ap, ◌∙◌, arith, cond, subst, ◌⊎◌, inr, IsTrue, is_bom, is_z, is_flow, is_blank_or_breakz, is_document_start, is_document_end, Marker, Refusal, ◌>>=◌, Piece, by_test, Given, given_bind, given_of, and_parts, eqb-true}
-use Rattle.std.specs.Prelude.{codes, ◌&&◌, ◌||◌, slice_index, not, ◌==◌, nat_lt, Some, None}
+use Rattle.std.specs.Prelude.{◌&&◌, ◌||◌, slice_index, not, ◌==◌, nat_lt, Some, None}
 use Rattle.saphyr_scalar.specs.declared.values.BlockStyle.TheVariants as block_style
 use Rattle.saphyr_scanner.specs.declared.engine.level.Context.TheVariants as context
 use Rattle.saphyr_scanner.specs.Grammar.Tokens as tokens
@@ -19,9 +19,8 @@ use Rattle.saphyr_scanner.proofs.Ordered.Queue.{GrowsInOrder, grows_grows, core_
 use Rattle.saphyr_scanner.proofs.Added.Queue.{PlacesGoOn, place_goes_on, due, tokens_put}
 use Rattle.saphyr_scanner.proofs.Effects.Readers.{Readers, ReaderEnds}
 use Rattle.saphyr_scanner.proofs.Effects.Steps.{EffectAt, Goes, goes_none, gap_goes, drop_goes}
-use Rattle.saphyr_scanner.proofs.Effects.Walked.{Premises, Walked, walked_given, Doing, Stepped, walked_step}
-use Rattle.saphyr_scanner.proofs.Effects.Walked.{unsaved_step}
-use Rattle.saphyr_scanner.proofs.Effects.Flow.{open_sequence, open_mapping, close_sequence, close_mapping, sequence_starts, mapping_starts, sequence_opens, mapping_opens, sequence_closes, mapping_closes, sequence_enters, mapping_enters, sequence_leaves, mapping_leaves, pair_may_end, sequence_may_close, mapping_may_close, start_does, end_does, entry_does}
+use Rattle.saphyr_scanner.proofs.Effects.Walked.{Premises, Walked, walked_given, Doing, Stepped, walked_step, unsaved_step}
+use Rattle.saphyr_scanner.proofs.Effects.Flow.{open_sequence, open_mapping, close_sequence, close_mapping, sequence_enters, mapping_enters, sequence_leaves, mapping_leaves, pair_may_end, sequence_may_close, mapping_may_close, start_does, end_does, entry_does}
 use Rattle.saphyr_scanner.proofs.Effects.Values.{value_does, flow_value_does}
 use Rattle.saphyr_scanner.proofs.Effects.Blocks.{block_entry_does, key_does}
 use Rattle.saphyr_scanner.proofs.Effects.Scalars.{plain_start, plain_does, block_does}
@@ -60,13 +59,13 @@ step_does first second n c h f g deep =
     let still : (r : StepResult) → Walked (Premises c) (Doing None c) c.cursor r
     → Walked (Premises c) (Stepped n c) c.cursor r = λ r w. unsaved_step (Premises c) n c c.cursor r w in
     cases (Walked (Premises c) (Stepped n c) c.cursor) first second n c (record {
-      sequence = λ e. does _ (start_does 91 tokens.FlowSequenceStart context.FlowSequence open_sequence sequence_starts
-          sequence_opens sequence_enters refl n c (f ∙ e));
-      mapping = λ e. does _ (start_does 123 tokens.FlowMappingStart context.FlowMapping open_mapping mapping_starts
-          mapping_opens mapping_enters refl n c (f ∙ e));
-      sequence_end = λ e. still _ (end_does 93 tokens.FlowSequenceEnd close_sequence sequence_closes sequence_leaves
+      sequence = λ e. does _ (start_does 91 tokens.FlowSequenceStart context.FlowSequence open_sequence
+          sequence_enters refl n c (f ∙ e));
+      mapping = λ e. does _ (start_does 123 tokens.FlowMappingStart context.FlowMapping open_mapping
+          mapping_enters refl n c (f ∙ e));
+      sequence_end = λ e. still _ (end_does 93 tokens.FlowSequenceEnd close_sequence sequence_leaves
           (ends_pair c.level.context) c (pair_may_end c.level.context) (sequence_may_close c.level.context) (f ∙ e));
-      mapping_end = λ e. still _ (end_does 125 tokens.FlowMappingEnd close_mapping mapping_closes mapping_leaves false c
+      mapping_end = λ e. still _ (end_does 125 tokens.FlowMappingEnd close_mapping mapping_leaves false c
           (λ no. absurd (cc)) (mapping_may_close c.level.context) (f ∙ e));
       comma = λ e. still _ (entry_does c (f ∙ e));
       dash = λ e b. still _ (block_entry_does c deep (f ∙ e) (ap is_blank_or_breakz g ∙ b));

@@ -1,5 +1,5 @@
 -- What each step of flow collections does.
-use Rattle.saphyr_scanner.proofs.Common.{◌≡◌, ℕ, ◌+◌, ◌-◌, ◌≤◌, ◌<◌, Bool, true, false, List, [], ◌∷◌, length, suc, ◌∙◌, Some, None, refl, sym, ap, arith, subst, inl, inr, IsTrue, ◌&&◌, ◌==◌, slice_index, nat_le, codes, if◌then◌else◌, colon, comma, is_break, Marker, Span, Cursor, ◌>>=◌, pass, Context, Piece, by_test, lt-ltb}
+use Rattle.saphyr_scanner.proofs.Common.{◌≡◌, ℕ, ◌+◌, ◌-◌, ◌≤◌, ◌<◌, Bool, true, false, List, [], ◌∷◌, length, ◌∙◌, Some, None, refl, sym, ap, arith, subst, inl, inr, IsTrue, ◌&&◌, ◌==◌, slice_index, nat_le, codes, if◌then◌else◌, colon, comma, is_break, Marker, Span, Cursor, ◌>>=◌, pass, Context, Piece, by_test, lt-ltb}
 use Rattle.saphyr_input.specs.Classes.{is_one_of}
 use Rattle.saphyr_scanner.specs.declared.engine.level.Context.TheVariants as context
 use Rattle.saphyr_scanner.specs.Grammar.Tokens as tokens
@@ -10,23 +10,21 @@ use Rattle.saphyr_scanner.specs.Steps.Level.{Level, is_block, ends_pair, behind_
 use Rattle.saphyr_scanner.specs.Steps.Passing.{separate, pass_on, with_cursor}
 use Rattle.saphyr_scanner.specs.Steps.Flow as flow
 use Rattle.saphyr_scanner.specs.TokensTaken as taken
-use Rattle.saphyr_scanner.specs.TokensTaken.{Collections, Surroundings, open_behind, ends_json_behind, IsToken, IsFlowIndicator, begins_text}
+use Rattle.saphyr_scanner.specs.TokensTaken.{Collections, Surroundings, IsToken, IsFlowIndicator, begins_text}
 use Rattle.saphyr_scanner.specs.TokensInPlace as place
-use Rattle.saphyr_scanner.specs.TokensInPlace.{Enclosure, Enclosures, has_text, enclosures_behind, may_end_pair, is_of_flow_node, fits}
+use Rattle.saphyr_scanner.specs.TokensInPlace.{Enclosures, has_text, enclosures_behind, may_end_pair, fits}
 use Rattle.saphyr_scanner.specs.Limits.{most_open}
 use Rattle.saphyr_scanner.proofs.Added.Queue.{IsNoEnd}
 use Rattle.saphyr_scanner.proofs.Effects.Moves.{DoesWithin, Does, encloses, NoComment, and_then, Same, same, lesser, further, still_within, allows_right, same_right, leaving}
-use Rattle.saphyr_scanner.proofs.Effects.Puts.{freed, Reading, empty_reading, IndicatorStands, passes, indicated, quiet_within, saving, entered, left}
-use Rattle.saphyr_scanner.proofs.Effects.Walked.{Premises, Walked, walked_then, at_most, Doing}
-use Rattle.saphyr_scanner.proofs.Effects.Walked.{separate_walked}
+use Rattle.saphyr_scanner.proofs.Effects.Puts.{freed, Reading, empty_reading, IndicatorStands, passes, indicated, quiet_within, saving, entered, left, Enters, Leaves}
+use Rattle.saphyr_scanner.proofs.Effects.Walked.{Premises, Walked, walked_then, at_most, Doing, separate_walked}
 use Rattle.saphyr_scanner.proofs.LineTails.{OnLine}
 use Rattle.saphyr_scanner.proofs.Taken.Cores.{by_bool, surroundings, forget_requires}
 use Rattle.saphyr_scanner.proofs.Taken.SavedKeys.{apart_same}
-use Rattle.saphyr_scanner.proofs.Taken.Bare.{BeginsOther, other_begins, entry_same, entry_other, KeepsFronts, is_plain, plain_fronts, entry_fronts, brace_fronts}
+use Rattle.saphyr_scanner.proofs.Taken.Bare.{BeginsOther, other_begins, entry_same, entry_other, plain_fronts, entry_fronts, brace_fronts}
 use Rattle.saphyr_scanner.proofs.Taken.Indented.{other_than_colon}
 use Rattle.saphyr_scanner.proofs.Taken.Keys.{IsArrival}
-use Rattle.saphyr_scanner.proofs.Taken.Held.{begins_block, is_unbound, enclosure_of, outside_of, enclosures_of, Adjoins, FitsWithin}
-use Rattle.saphyr_scanner.proofs.Taken.InPlace.{deeper}
+use Rattle.saphyr_scanner.proofs.Taken.Held.{begins_block, enclosure_of, outside_of, enclosures_of, Adjoins, FitsWithin}
 use Rattle.saphyr_scanner.proofs.Taken.KeysInPlace.{no_text, Outside, free, calm}
 use Rattle.saphyr_scanner.proofs.Taken.Later.{apart_later}
 use Rattle.saphyr_scanner.proofs.Taken.Parts.{is_quiet, Begins, pair_ends}
@@ -44,40 +42,20 @@ pub record Bracket (x : ℕ) (kind : Kind) : Type 0 where
   pub other_kind : begins_block kind ≡ false
   pub is : (i : Surroundings) (span : Span) (s t : Cursor) → IsFlowIndicator x span s t → IsToken i kind span s t
 
--- how many brackets are open after one of more than no characters
-abbrev pub Counts : (ℕ → ℕ) → Kind → Type 0
-Counts count kind = (span : Span) → span.start.index < span.end.index → (opened : Collections)
-    → (open_behind kind span opened).brackets ≡ count opened.brackets
-
 pub has_some : (span : Span) → span.start.index < span.end.index → has_text span ≡ true
 has_some span l = lt-ltb span.start.index span.end.index l
 
-pub sequence_opens : Counts (λ n. n + 1) tokens.FlowSequenceStart
-sequence_opens span l opened = refl
-
-pub mapping_opens : Counts (λ n. n + 1) tokens.FlowMappingStart
-mapping_opens span l opened = rw (has_some span l) refl
-
-pub sequence_closes : Counts (λ n. n - 1) tokens.FlowSequenceEnd
-sequence_closes span l opened = refl
-
-pub mapping_closes : Counts (λ n. n - 1) tokens.FlowMappingEnd
-mapping_closes span l opened = rw (has_some span l) refl
-
--- what encloses the tokens after one that opens
-pub record Enters (kind : Kind) (x : Context) (span : Span) : Type 0 where
-  pub encloses : (all : Enclosures) → enclosures_behind kind span all ≡ place.entered (enclosure_of x) all
-  pub depth : (d : ℕ) → deeper kind span d ≡ suc d
-  pub of_node : IsTrue (is_of_flow_node kind span)
-  pub unbound : is_unbound kind span ≡ true
-  pub fits : (e : Enclosure) (columns : List ℕ) → IsTrue (fits e columns kind span)
-  pub fronts : (c d : Core) → d.key_allowed ≡ true → KeepsFronts (record { span = span; kind = kind }) c d
+brace_begins : (span : Span) → span.start.index < span.end.index
+    → Begins (record { span = span; kind = tokens.FlowMappingStart })
+brace_begins span l i s u h = grind arith
 
 abbrev pub EntersAll : Kind → Context → Type 0
 EntersAll kind x = (span : Span) → span.start.index < span.end.index → Enters kind x span
 
 pub sequence_enters : EntersAll tokens.FlowSequenceStart context.FlowSequence
 sequence_enters span l = record {
+  begins = λ i s u h. (h.1, ap (λ t. begins_text (slice_index t 0)) h.0.0);
+  brackets = λ opened. refl;
   encloses = λ all. refl;
   depth = λ d. refl;
   of_node = refl;
@@ -88,6 +66,8 @@ sequence_enters span l = record {
 
 pub mapping_enters : EntersAll tokens.FlowMappingStart context.FlowMapping
 mapping_enters span l = let some = has_some span l in record {
+  begins = brace_begins span l;
+  brackets = λ opened. rw some refl;
   encloses = λ all. rw some refl;
   depth = λ d. rw some refl;
   of_node = some;
@@ -95,15 +75,6 @@ mapping_enters span l = let some = has_some span l in record {
   fits = λ e columns. rw some refl;
   fronts = λ c d _. brace_fronts span c d some;
 }
-
--- what encloses the tokens after one that closes
-pub record Leaves (kind : Kind) (span : Span) : Type 0 where
-  pub encloses : (all : Enclosures)
-      → calm (enclosures_behind kind span all) ≡ place.left_for all.outer all.columns
-  pub depth : (d : ℕ) → deeper kind span (suc d) ≡ d
-  pub ends_json : (b : Bool) → ends_json_behind kind span b ≡ true
-  pub no_node : is_of_flow_node kind span ≡ false
-  pub plain : is_plain kind ≡ true
 
 abbrev pub LeavesAll : Kind → Type 0
 LeavesAll kind = (span : Span) → span.start.index < span.end.index → Leaves kind span
@@ -114,6 +85,7 @@ left_calm line es columns = grind arith
 
 pub sequence_leaves : LeavesAll tokens.FlowSequenceEnd
 sequence_leaves span l = record {
+  brackets = λ opened. refl;
   encloses = λ all. left_calm span.end.line all.outer all.columns;
   depth = λ d. omega arith;
   ends_json = λ b. refl;
@@ -124,6 +96,7 @@ sequence_leaves span l = record {
 pub mapping_leaves : LeavesAll tokens.FlowMappingEnd
 mapping_leaves span l =
     let some = has_some span l in record {
+      brackets = λ opened. rw some refl;
       encloses = λ all. rw some (left_calm span.end.line all.outer all.columns);
       depth = λ d. rw some (omega arith);
       ends_json = λ b. rw some refl;
@@ -159,9 +132,6 @@ pub mapping_may_close : (x : Context) → MayClose tokens.FlowMappingEnd false x
 mapping_may_close context.Block span l outside e = absurd (cc)
 mapping_may_close _ span l outside e = let some = has_some span l in rw some refl
 
-abbrev pub BeginsPiece : Kind → Type 0
-BeginsPiece kind = (span : Span) → span.start.index < span.end.index → Begins (record { span = span; kind = kind })
-
 bracket : {x : ℕ} {kind : Kind} → (x == 0) ≡ false → (x == colon) ≡ false → is_one_of (codes ":&!") x ≡ false
     → begins_text x ≡ true → is_break x ≡ false → is_quiet kind ≡ true → IsNoEnd kind → begins_block kind ≡ false
     → ((i : Surroundings) (span : Span) (s t : Cursor) → IsFlowIndicator x span s t → IsToken i kind span s t)
@@ -193,12 +163,6 @@ close_mapping = bracket refl refl refl refl refl refl (λ i. absurd (cc)) refl (
 comma_is_bracket : Bracket 44 tokens.FlowEntry
 comma_is_bracket = bracket refl refl refl refl refl refl (λ i. absurd (cc)) refl (λ i span s t h. h)
 
-pub sequence_starts : BeginsPiece tokens.FlowSequenceStart
-sequence_starts span l i s u h = (h.1, ap (λ t. begins_text (slice_index t 0)) h.0.0)
-
-pub mapping_starts : BeginsPiece tokens.FlowMappingStart
-mapping_starts span l i s u h = grind arith
-
 stands : (x : ℕ) (kind : Kind) (s : Cursor) → Bracket x kind → slice_index s.rest 0 ≡ x → IndicatorStands x s
 stands x kind s b f = record { some = b.some; unbroken = b.unbroken; is = f }
 
@@ -219,11 +183,10 @@ bracket_read x kind c u b f o =
 -- What `[` and `{` do. A candidate is saved first (`saving`), then one level is entered, unless too many are open,
 -- and last the separation behind the bracket is passed. The two steps of the claim follow that: the token is put
 -- (`entered`), and the rest only moves the place (`further`).
-pub start_does : (i : ℕ) (kind : Kind) (x : Context) → Bracket i kind → BeginsPiece kind → Counts (λ n. n + 1) kind
-    → EntersAll kind x → is_block x ≡ false → (n : ℕ) (c : Core) → slice_index c.cursor.rest 0 ≡ i
+pub start_does : (i : ℕ) (kind : Kind) (x : Context) → Bracket i kind → EntersAll kind x → is_block x ≡ false → (n : ℕ) (c : Core) → slice_index c.cursor.rest 0 ≡ i
     → Walked (Premises c) (Doing (Some n) c) c.cursor (flow.opening_steps x kind n c)
 unfolding flow.opening_steps flow.open_collection
-start_does i kind x b starts counts enters flows n c f =
+start_does i kind x b enters flows n c f =
     let P = Walked (Premises c) (Doing (Some n) c) c.cursor in
     saving n c (λ d. P (flow.open_collection x kind (go_deeper d))) (λ l r s.
     let d : Core = go_deeper (record c { level = l; required = r }) in
@@ -236,11 +199,8 @@ start_does i kind x b starts counts enters flows n c f =
     let behind : Core = record c { cursor = u; level = l; required = r } in
     let span : Span = record { start = c.cursor.mark; end = u.mark } in
     let some : c.cursor.mark.index < u.mark.index = omega (arith, later.index) in
-    let into = enters span some in
-    and_then (λ n. n) (entered n x c behind (bracket_piece kind c u) flows s refl (λ n. n) b.quiet (counts span some)
-    into.encloses into.depth into.of_node into.fits b.no_end into.unbound
-    (into.fronts c (flow.enter x behind) refl) (starts span some) refl
-    (other_than_colon i c.cursor.rest b.other f) (bracket_read i kind c u b f g.1))
+    and_then (λ n. n) (entered n x c behind (bracket_piece kind c u) flows s refl (λ n. n) b.quiet b.no_end
+    (enters span some) refl (other_than_colon i c.cursor.rest b.other f) (bracket_read i kind c u b f g.1))
     (further (flow.enter x behind) e.1 g.0 (taken.nothing u.mark u.rest)
     (λ _. allows_right (flow.enter x behind) e.1 (λ _. refl)
     (λ no. absurd (let same = ap (λ (l : Level). is_block l.context) g.0.0 in cc))
@@ -319,8 +279,12 @@ bracket_walked x kind bracket c d ends first free there silent may f alike put =
         let t = empty_piece c.cursor.mark tokens.FlowMappingEnd in
         let no = no_text c.cursor.mark.index in
         and_then (λ n. n) (encloses (rw no refl) (quiet_within (enclosures_of c) 0 b t c.cursor b.level true refl
-        refl refl (λ y. ap (λ (z : Collections). z.brackets) (pair_ends c.cursor.mark y)) (λ d. rw no refl) refl refl
-        (λ _. rw no may) (λ i. absurd (cc)) (rw no refl) (plain_fronts t b (freed b) refl) (λ _ _ f. absurd (cc))
+        refl (record {
+          quiet = refl;
+          brackets = λ y. ap (λ (z : Collections). z.brackets) (pair_ends c.cursor.mark y);
+          depth = λ d. rw no refl;
+          no_node = refl;
+        }) refl (λ _. rw no may) (λ i. absurd (cc)) (rw no refl) (plain_fronts t b (freed b) refl) (λ _ _ f. absurd (cc))
         (empty_reading b tokens.FlowMappingEnd (λ _. inr (refl, inl refl, refl)))))
         (still_within (place.turned_to place.Sequence (enclosures_of c)) (freed b) b (same b) refl
         (λ _. allows_right (freed b) b (λ _. refl) (λ e. absurd (let no = pair_flows c.level.context may in cc))
@@ -333,11 +297,10 @@ least_reached false i m l = omega (arith, l)
 -- A closing bracket ends its collection: the level outside becomes the innermost again, with its candidate key
 -- (`leaving`). A pair without braces that is open in the collection ends first (`ends`). Inside flow a value may be
 -- adjacent to the bracket, so its place is noted.
-pub end_does : (i : ℕ) (kind : Kind) → Bracket i kind → Counts (λ n. n - 1) kind → LeavesAll kind
-    → (ends : Bool) (c : Core) → EndsPair ends c.level.context → MayClose kind ends c.level.context
+pub end_does : (i : ℕ) (kind : Kind) → Bracket i kind → LeavesAll kind → (ends : Bool) (c : Core) → EndsPair ends c.level.context → MayClose kind ends c.level.context
     → slice_index c.cursor.rest 0 ≡ i → Walked (Premises c) (Doing None c) c.cursor (flow.closing_steps ends kind c)
 unfolding flow.closing_steps flow.close_collection
-end_does i kind b counts leaves ends c may close first =
+end_does i kind b leaves ends c may close first =
     by_test (in_block c) _ _ (Walked (Premises c) (Doing None c) c.cursor) (λ _ _. at_here c.cursor)
     (λ inside. leaving c
     (λ d. Walked (Premises c) (Doing None c) c.cursor (separate (pass_on 1 d) >>= λ e. completed_step
@@ -356,8 +319,7 @@ end_does i kind b counts leaves ends c may close first =
     encloses (m.encloses (outside_of c).columns ∙ sym (left_ended ends (enclosures_of c)) ∙ sym (out.encloses within))
     (left within (with_key None c) l ls t u n j
     (record { above = m.above; keys = m.keys; root = m.root; fewer = m.fewer; encloses = m.encloses }) b.quiet
-    (counts span some) out.depth (close span some (outside_of c) inside) b.no_end b.other_kind out.plain
-    out.no_node inside
+    b.no_end b.other_kind out (close span some (outside_of c) inside) inside
     (λ a. let i = least_reached c.deeper c.indent c.cursor.mark.col a.3 in omega (arith, i, right)) r) in
     by_test (is_block l.context) _ _ Closes (λ _. closes c.adjacent (inl refl))
     (λ _. closes u.mark.index (inr (refl, out.ends_json))))))
@@ -401,8 +363,8 @@ entry_does c first =
     })
     (λ u some _ r. encloses (entry_encloses x (outside_of c) (bracket_piece tokens.FlowEntry c u).span)
     (and_then (λ n. n) (quiet_within within 1 b (bracket_piece tokens.FlowEntry c u) u
-    (record { context = behind_entry x; key = None }) true (entry_block x) refl refl (λ y. refl) (λ e. refl) refl
-    refl (λ _. entry_fits x (outside_of c) (bracket_piece tokens.FlowEntry c u).span) (λ i. absurd (cc)) refl
+    (record { context = behind_entry x; key = None }) true (entry_block x) refl
+    (record { quiet = refl; brackets = λ y. refl; depth = λ e. refl; no_node = refl }) refl (λ _. entry_fits x (outside_of c) (bracket_piece tokens.FlowEntry c u).span) (λ i. absurd (cc)) refl
     (entry_fronts tokens.FlowEntry (bracket_piece tokens.FlowEntry c u).span b (turned u) refl refl)
     (λ _ _ f. absurd (cc)) r)
     (lesser (enclosures_behind tokens.FlowEntry (bracket_piece tokens.FlowEntry c u).span within)

@@ -1,11 +1,10 @@
 -- What a step does, in one statement, and the moves of which each step is put together. From the statement follow what
 -- is taken off the text, the order of the tokens, how many they are, what may be a key, and that each is a token of the
 -- text.
-use Rattle.saphyr_scanner.proofs.Common.{◌≡◌, ℕ, ◌+◌, ◌-◌, ◌≤◌, ◌<◌, ◌⊎◌, Bool, true, false, List, [], ◌∷◌, ◌++◌, length, Option, Some, None, arith, refl, sym, ap, ◌∙◌, subst, inl, Cursor}
+use Rattle.saphyr_scanner.proofs.Common.{◌≡◌, ℕ, ◌+◌, ◌-◌, ◌≤◌, Bool, true, false, List, [], ◌∷◌, ◌++◌, length, Option, Some, None, arith, refl, sym, ap, ◌∙◌, subst, inl, Cursor}
 use Rattle.saphyr_scanner.specs.Steps.Queue.{Queue, is_empty_list, next}
-use Rattle.saphyr_scanner.specs.Steps.Core.{Core, Action, Put, Open, act, perform}
+use Rattle.saphyr_scanner.specs.Steps.Core.{Core, Action, Put, Open, act, perform, in_block}
 use Rattle.saphyr_scanner.specs.Steps.Level.{Level, is_block}
-use Rattle.saphyr_scanner.specs.Steps.Core.{in_block}
 use Rattle.saphyr_scanner.specs.Steps.Flow as flow
 use Rattle.saphyr_scanner.specs.TokensTaken.{AreApart}
 use Rattle.saphyr_scanner.specs.TokensInPlace.{Enclosures, left_for}

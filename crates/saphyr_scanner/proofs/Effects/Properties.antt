@@ -93,15 +93,17 @@ name_does token_of x named keeps n c some f =
     walked_then (Premises c) _ Q here (anchors.anchor here) _
     (read_walked (Premises c) here (anchors.anchor here) (λ e q laws. here_at here e.mark (laws.0.name here e q)))
     (λ y e.
-    let e0 = e in
     let span : Span = record { start = here.mark; end = y.1.mark } in
     let kind : Kind = token_of y.0 in
     saved n c (with_cursor y.1 d) (record { span = span; kind = kind }) s refl (inl refl) (λ m. inl m) (named.quiet y.0)
-    (named.keeps y.0 span) (named.of_node y.0 span) (named.no_end y.0) (λ _ _ no. absurd (cc))
+    (named.keeps y.0 span) (named.of_node y.0 span) (named.no_end y.0)
     (keeps y.0 span c (with_cursor y.1 d) (saved_free n c l r s) f)
-    (λ i. named.of i y.0 span) refl (other_than_colon x here.rest named.other f) (λ a laws e _ _.
-    let place = ap (λ (u : Cursor). u.mark.col) (laws.name here y.1 y.0 some e0).5 in
-    let deep = a.0 (sym (same_block n c l r s) ∙ e) in inl (omega (arith, place, deep))) (λ _ _ _ allowed. absurd (cc))
+    (λ i. named.of i y.0 span) refl (other_than_colon x here.rest named.other f) (λ a laws.
+    let place = ap (λ (u : Cursor). u.mark.col) (laws.name here y.1 y.0 some e).5 in (
+      λ no. absurd (cc),
+      λ b _ _. let deep = a.0 (sym (same_block n c l r s) ∙ b) in inl (omega (arith, place, deep)),
+      λ _ allowed. absurd (cc),
+    ))
     (token_read c kind y.1 (λ laws. laws.name here y.1 y.0 some e) (λ laws. laws.name here y.1 y.0 some e) (λ laws b.
     let w = laws.name here y.1 y.0 some e in
     let first : w.0 ≡ x = sym (ap (λ t. slice_index t 0) w.2) ∙ f in
@@ -126,18 +128,20 @@ tag_does n c first =
     (read_walked (Premises c) here (tags.tag f here) (λ e q laws. here_at here e.mark (laws.0.tag f here e q))) (λ y e.
     let span : Span = record { start = here.mark; end = y.2.mark } in
     saved n c (with_cursor y.2 d) (record { span = span; kind = tokens.Tag y.0 y.1 }) s refl (inl refl) (λ m. inl m)
-    refl (neutral _ span refl) refl (λ i. absurd (cc)) (λ _ _ no. absurd (cc))
+    refl (neutral _ span refl) refl (λ i. absurd (cc))
     (property_fronts (tokens.Tag y.0 y.1) span c (with_cursor y.2 d) refl (saved_free n c l r s)
     (ap (is_one_of (codes ":&!")) first))
     (λ i a b k. (
       k.6.start,
       ap (λ t. begins_text (slice_index t 0)) k.6.is ∙ ap begins_text (tag_begins k.0 b.rest k.1 k.2 k.3),
-    )) refl (other_than_colon 33 here.rest refl first) (λ a laws b _ _.
+    )) refl (other_than_colon 33 here.rest refl first) (λ a laws.
     let w = laws.tag f here y.2 y.0 y.1 first e in
     let place = ap (λ (u : Cursor). u.mark.col) w.6 in
-    let some = tag_some w.0 w.1 w.2 w.4 in
-    let deep = a.0 (sym (same_block n c l r s) ∙ b) in inl (omega (arith, place, deep, some)))
-    (λ _ _ _ allowed. absurd (cc))
+    let some = tag_some w.0 w.1 w.2 w.4 in (
+      λ no. absurd (cc),
+      λ b _ _. let deep = a.0 (sym (same_block n c l r s) ∙ b) in inl (omega (arith, place, deep, some)),
+      λ _ allowed. absurd (cc),
+    ))
     (token_read c (tokens.Tag y.0 y.1) y.2 (λ laws. laws.tag f here y.2 y.0 y.1 first e)
     (λ laws. laws.tag f here y.2 y.0 y.1 first e) (λ laws _.
     let w = laws.tag f here y.2 y.0 y.1 first e in

@@ -2,29 +2,27 @@
 use Rattle.saphyr_scanner.proofs.Common.{◌<◌, ◌≡◌, ℕ, ◌+◌, ◌≤◌, Bool, true, false, List, [], ◌∷◌, length, Option, Some, None, arith, refl, sym, ap, ◌∙◌, subst, inl, inr, IsTrue, is_break, Span, Cursor, pass, Context, Opening, Piece, by_test}
 use Rattle.std.specs.Prelude.{◌-◌, ◌==◌, slice_index, not, suc}
 use Rattle.saphyr_scanner.specs.declared.queue.Opening.TheVariants as opening
+use Rattle.saphyr_scanner.specs.Grammar.Tokens as tokens
 use Rattle.saphyr_scanner.specs.Grammar.Tokens.{Kind}
 use Rattle.saphyr_scanner.specs.Steps.Queue.{Queue, is_empty_list, next, with_piece, with_opening, empty_piece}
-use Rattle.saphyr_scanner.specs.Steps.Core.{Core, Put, Open, at_mark}
+use Rattle.saphyr_scanner.specs.Steps.Core.{Core, Put, Open, at_mark, in_block, save_key, forget_key, with_key, enter_block}
 use Rattle.saphyr_scanner.specs.Steps.Level.{Candidate, Level, is_block, begins_pair}
-use Rattle.saphyr_scanner.specs.Steps.Core.{in_block, save_key, forget_key, with_key, enter_block}
 use Rattle.saphyr_scanner.specs.Steps.Flow as flow
 use Rattle.saphyr_scanner.specs.Steps.Passing.{with_cursor}
 use Rattle.saphyr_scanner.specs.TokensTaken as taken
-use Rattle.saphyr_scanner.specs.TokensTaken.{Collections, Surroundings, AreApart, IsToken, TakesCharacter, IsBlockStart, begins_text, open_behind, collections_behind}
+use Rattle.saphyr_scanner.specs.TokensTaken.{Collections, Surroundings, AreApart, IsToken, TakesCharacter, IsBlockStart, begins_text, open_behind, collections_behind, ends_json_behind}
 use Rattle.saphyr_scanner.proofs.Added.Queue.{IsNoEnd, at_most_one, one_at_most, open_blocks}
 use Rattle.saphyr_scanner.proofs.Effects.Readers.{Readers, ReaderEnds, ReadsSpan, TextLaws}
 use Rattle.saphyr_scanner.proofs.Effects.Moves.{Around, DoesWithin, Does, encloses, IsBeforePlace, IsNextPlace, Left, NoComment, around}
 use Rattle.saphyr_scalar.proofs.Plain.Behind.{IsNoted}
 use Rattle.saphyr_scanner.proofs.Taken.Bare.{HasFreeEntry, KeepsFronts, is_plain, plain_fronts}
 use Rattle.saphyr_scanner.proofs.Taken.Candidates.{KeyAbove, LevelsAbove, Above}
-use Rattle.saphyr_scanner.proofs.Taken.Cores.{HoldsWithin, surroundings, IsTokenThere, outermost, holds_put, next_put, quiet_opens, quiet_put, loud_put}
-use Rattle.saphyr_scanner.proofs.Taken.SavedKeys.{IsSaved, Saved, saved_indented}
+use Rattle.saphyr_scanner.proofs.Taken.Cores.{HoldsWithin, surroundings, IsTokenThere, holds_put, next_put, quiet_opens, quiet_put, loud_put, QuietToken, TakesToken, indicator_is_passed}
+use Rattle.saphyr_scanner.proofs.Taken.SavedKeys.{IsSaved, Saved, saved_indented, saved_keys, open_quiet, open_loud}
 use Rattle.saphyr_scanner.proofs.Taken.Indented.{BeginsNoNode, HasNoColon, IsRight, IsPastLine, root_inner, no_node_fits, indented_then, waits_then}
-use Rattle.saphyr_scanner.proofs.Taken.Neutral.{KeepsBrackets, Neutral}
-use Rattle.saphyr_scanner.proofs.Taken.Cores.{indicator_is_passed}
-use Rattle.saphyr_scanner.proofs.Taken.SavedKeys.{saved_keys, open_quiet, open_loud}
+use Rattle.saphyr_scanner.proofs.Taken.Neutral.{Neutral}
 use Rattle.saphyr_scanner.proofs.Taken.Held.{enclosure_of, outside_of, enclosures_of, began_at, Setting, FitsWithin, Adjoins, begins_block, closes_keys, ClosesKeys, IsParted, is_unbound, open_keys, unbound_parted, same_calm, unbound_calm, node_parted}
-use Rattle.saphyr_scanner.proofs.Taken.Keys.{KeepsDepth, IsArrival, keeps_depth, leads_in, leads_out, lower, keys_put, keys_weaken}
+use Rattle.saphyr_scanner.proofs.Taken.Keys.{IsArrival, keeps_depth, leads_in, leads_out, lower, keys_put, keys_weaken}
 use Rattle.saphyr_scanner.proofs.Taken.OpenedKeys.{below_key}
 use Rattle.saphyr_scanner.proofs.Taken.InPlace.{deeper}
 use Rattle.saphyr_scanner.proofs.Taken.KeysInPlace.{in_key, awaited, MayOpen, Outside, free, calmed, calm}
@@ -40,7 +38,7 @@ use Rattle.saphyr_scanner.proofs.Taken.Places.{Reaches, character_reached}
 pub record Reading (k : ℕ) (c : Core) (t : Piece) (u : Cursor) : Type 0 where
   pub less : Readers → length u.rest + k ≤ length c.cursor.rest
   pub span : ReaderEnds → ReadsSpan c.cursor t.span u
-  pub token : TextLaws → (behind : Cursor) × IsTokenThere c t c.cursor behind × AreApart behind u
+  pub token : TextLaws → TakesToken c t u
 
 -- a token without characters
 pub empty_reading : (c : Core) (kind : Kind)
@@ -70,7 +68,7 @@ passes x s h = character_reached x s (pass 1 s) h.unbroken (indicator_is_passed 
 -- its token, with separation after it
 pub indicated : (x : ℕ) (c : Core) (u : Cursor) (t : Piece) → IndicatorStands x c.cursor → AreApart (pass 1 c.cursor) u
     → c.cursor.mark.index ≤ t.span.start.index → t.span.start.index ≤ t.span.end.index → t.span.end.index ≤ u.mark.index
-    → (TakesCharacter x c.cursor (pass 1 c.cursor) → IsTokenThere c t c.cursor (pass 1 c.cursor)) → Reading 1 c t u
+    → (TakesCharacter x c.cursor (pass 1 c.cursor) → IsTokenThere c t (pass 1 c.cursor)) → Reading 1 c t u
 indicated x c u t stands apart begins inside ends is =
     let takes = indicator_is_passed x c.cursor stands.some stands.is in
     let l : length c.cursor.rest ≡ length (x ∷ (pass 1 c.cursor).rest) = ap length takes.0 in
@@ -102,23 +100,19 @@ freed c = record c { key_allowed = true }
 
 -- one that doesn't change which block collections and brackets are open
 pub quiet_within : {A : Type 0} (within : Enclosures) (k : ℕ) (c : Core) (t : Piece) (u : Cursor)
-    → (l : Level) (allowed : Bool) → is_block l.context ≡ in_block c → l.key ≡ None
-    → is_quiet t.kind ≡ true → KeepsBrackets t → KeepsDepth t → is_of_flow_node t.kind t.span ≡ false
+    → (l : Level) (allowed : Bool) → is_block l.context ≡ in_block c → l.key ≡ None → QuietToken t
     → c.level.key ≡ None → (A → FitsWithin within t) → IsNoEnd t.kind → is_unbound t.kind t.span ≡ true
     → KeepsFronts t c (record c { cursor = u; level = l; key_allowed = allowed })
     → (A → IsRight (record c { cursor = u; level = l; key_allowed = allowed })) → Reading k c t u
     → DoesWithin A within (enclosures_behind t.kind t.span within) None k 1 c
     (record c { cursor = u; level = l; key_allowed = allowed }) (Put t ∷ [])
-quiet_within within k c t u l allowed block free q b depth other none fit e unbound fronts right r =
+quiet_within within k c t u l allowed block free q none fit e unbound fronts right r =
     let d : Core = record c { cursor = u; level = l; key_allowed = allowed } in
     encloses (sym (unbound_calm t.kind t.span within unbound))
     (putting within (calm (enclosures_behind t.kind t.span within)) None k 0 c d t r e refl refl (λ m. inl m)
     (omega arith) (λ h _ a. (let P : Option Candidate → Type 0 = λ y. KeyAbove h y in subst P (sym free) tt, a.1))
-    (λ premise laws opened from p _ h.
-    let w = r.token laws in
-    quiet_put within opened from c d p t c.cursor w.0 q b depth other none (fit premise)
-    (unbound_parted t c d unbound fronts) (right premise) (taken.nothing c.cursor.mark c.cursor.rest) w.1 w.2
-    (record {
+    (λ premise laws opened from p _ h. quiet_put c d t q none (r.token laws) (fit premise)
+    (unbound_parted t c d unbound fronts) (right premise) (record {
       block = block;
       key = free ∙ sym none;
       outer = refl;
@@ -137,43 +131,56 @@ pub quiet : {A : Type 0} (k : ℕ) (c : Core) (t : Piece) (u : Cursor) (allowed 
 quiet k c t u allowed q b other none e unbound plain right r =
     encloses (sym (b.encloses (enclosure_of c.level.context) (outside_of c))
     ∙ unbound_calm t.kind t.span (enclosures_of c) unbound)
-    (quiet_within (enclosures_of c) k c t u c.level allowed refl none q b.brackets b.depth other none
+    (quiet_within (enclosures_of c) k c t u c.level allowed refl none
+    (record { quiet = q; brackets = b.brackets; depth = b.depth; no_node = other }) none
     (λ _. b.fits (enclosure_of c.level.context) (outside_of c).columns) e unbound (plain_fronts t c _ plain) right r)
 
+-- what the start of a block collection changes
+pub record StartsBlock (kind : Kind) (g : Begun) : Type 0 where
+  pub no_end : IsNoEnd kind
+  pub no_key : (span : Span) → closes_keys kind span ≡ false
+  pub plain : is_plain kind ≡ true
+  pub calm : calmed g ≡ g
+  pub no_node : (span : Span) → is_of_flow_node kind span ≡ false
+  pub is : (i : Surroundings) (span : Span) (s t : Cursor) → IsBlockStart i.indent span s t → IsToken i kind span s t
+  pub opens : (span : Span) (opened : Collections)
+      → collections_behind kind span opened ≡ with_column span.start.col opened
+  pub encloses : (span : Span) (all : Enclosures) → enclosures_behind kind span all ≡ begun_at g span.start.col all
+  pub fits : (e : Enclosure) (span : Span) (columns : List ℕ) → IsTrue (fits e columns kind span)
+
+pub sequence_starts : StartsBlock tokens.BlockSequenceStart place.BlockSequence
+sequence_starts = grind arith
+
+pub mapping_starts : StartsBlock tokens.BlockMappingStart place.BlockMapping
+mapping_starts = grind arith
+
 -- a block collection begins, where no token may be a key any more, nor has to be
-pub block_begins : {A : Type 0} (e : Enclosure) (c : Core) (r : Bool) (kind : Kind) (g : Begun) → IsNoEnd kind
-    → ((span : Span) → closes_keys kind span ≡ false) → is_plain kind ≡ true → calmed g ≡ g → c.key_allowed ≡ true
-    → (A → c.cursor.mark.line < top) → (c.required ≡ true → c.level.key ≡ None)
-    → (r ≡ true → c.required ≡ true) → ((span : Span) → is_of_flow_node kind span ≡ false)
-    → ((i : Surroundings) (span : Span) (s t : Cursor) → IsBlockStart i.indent span s t → IsToken i kind span s t)
-    → ((span : Span) (opened : Collections) → collections_behind kind span opened ≡ with_column span.start.col opened)
-    → ((span : Span) (all : Enclosures) → enclosures_behind kind span all ≡ begun_at g span.start.col all)
-    → ((span : Span) (columns : List ℕ) → IsTrue (fits e columns kind span))
-    → in_block c ≡ true → c.indent ≤ c.cursor.mark.col → IsTrue (begins_text (slice_index c.cursor.rest 0))
+pub block_begins : {A : Type 0} (e : Enclosure) (c : Core) (r : Bool) (kind : Kind) (g : Begun) → StartsBlock kind g
+    → c.key_allowed ≡ true → (A → c.cursor.mark.line < top) → (c.required ≡ true → c.level.key ≡ None)
+    → (r ≡ true → c.required ≡ true) → in_block c ≡ true → c.indent ≤ c.cursor.mark.col → IsTrue (begins_text (slice_index c.cursor.rest 0))
     → DoesWithin A (free e (outside_of c))
     (with_begun g (free e (outside_of (enter_block c.cursor.mark.col c)))) None 0 3 c
     (record (with_key None (enter_block c.cursor.mark.col c)) { required = r }) (at_mark c.cursor.mark kind ∷ [])
-block_begins e c r kind g n other plain same allowed small unasked required node is opens begins fit b right first =
+block_begins e c r kind g starts allowed small unasked required b right first =
     let d : Core = record (with_key None (enter_block c.cursor.mark.col c)) { required = r } in
     let within = free e (outside_of c) in
     let none : AreApart c.cursor c.cursor = taken.nothing c.cursor.mark c.cursor.rest in
     let t = empty_piece c.cursor.mark kind in
     let token : (b : Bool) → IsToken (surroundings b c) kind (record { start = c.cursor.mark; end = c.cursor.mark })
-    c.cursor c.cursor = λ b. is (surroundings b c) (record { start = c.cursor.mark; end = c.cursor.mark }) c.cursor
+    c.cursor c.cursor = λ b. starts.is (surroundings b c) (record { start = c.cursor.mark; end = c.cursor.mark }) c.cursor
     c.cursor (refl, refl, refl, first, right) in
-    encloses (ap (λ x. with_begun x (free e (outside_of d))) (sym same)
-    ∙ ap calm (sym (began_at g e c.cursor.mark.col c) ∙ sym (begins t.span within)))
-    (putting within (calm (enclosures_behind kind t.span within)) None 0 2 c d t (empty_reading c kind token) n refl
-    refl
+    encloses (ap (λ x. with_begun x (free e (outside_of d))) (sym starts.calm)
+    ∙ ap calm (sym (began_at g e c.cursor.mark.col c) ∙ sym (starts.encloses t.span within)))
+    (putting within (calm (enclosures_behind kind t.span within)) None 0 2 c d t (empty_reading c kind token)
+    starts.no_end refl refl
     (λ m. inl m)
     (let y = one_at_most (c.cursor.mark.col + 1) in omega (arith, y)) (λ h _ a. (tt, a.1))
     (λ premise _ opened from q _ h.
-    loud_put within opened from c d q t c.cursor c.cursor none (λ i _. token i) none
-    (λ x k. rw (opens (record { start = c.cursor.mark; end = c.cursor.mark }) x) ((refl, k.0), k.1)) refl
-    (fit t.span within.columns)
-    ((λ _. (allowed, refl, small premise)), open_keys t d (other t.span), plain_fronts t c d plain)
-    (λ _ f. absurd (let a = allowed in cc))
-    (node t.span) b unasked required refl (outermost within opened from c q h b) b h))
+    loud_put c d t (c.cursor, (λ i _. token i), none)
+    (λ x k. rw (starts.opens (record { start = c.cursor.mark; end = c.cursor.mark }) x) ((refl, k.0), k.1)) refl
+    (starts.fits e t.span within.columns)
+    ((λ _. (allowed, refl, small premise)), open_keys t d (starts.no_key t.span), plain_fronts t c d starts.plain)
+    (λ _ f. absurd (let a = allowed in cc)) (starts.no_node t.span) b unasked required refl refl b h))
 
 -- outside flow a token that changes nothing that is open, where no token may be a key
 pub loud : {A : Type 0} (within : Enclosures) (k : ℕ) (c : Core) (t : Piece) (u : Cursor)
@@ -186,10 +193,8 @@ loud within k c t u same fit e other node parted b none r =
     encloses (sym (same_calm t.kind t.span within other))
     (putting within (calm (enclosures_behind t.kind t.span within)) None k 0 c d t r e refl refl (λ m. inl m)
     (omega arith) (λ h _ a. a) (λ premise laws opened from q _ h.
-    let w = r.token laws in
-    loud_put within opened from c d q t c.cursor w.0 (taken.nothing c.cursor.mark c.cursor.rest) w.1 w.2
-    (λ x k. rw (same x) k) refl fit (parted premise) (λ _ f. absurd (cc)) node b (λ _. none) (λ e. e) none
-    (outermost within opened from c q h b) b h))
+    loud_put c d t (r.token laws) (λ x k. rw (same x) k) refl fit (parted premise) (λ _ f. absurd (cc)) node b
+    (λ _. none) (λ e. e) none refl b h))
 
 -- ## A key is saved
 
@@ -229,12 +234,11 @@ saved_around n c d s a = grind arith
 -- the token that may be a key
 pub saved : (n : ℕ) (c d : Core) (t : Piece) → IsSaved n c d.level d.required → Stays c d → Adjoins t c d
     → (c.comment ≡ None → IsNoted d.comment d.cursor) → is_quiet t.kind ≡ true → Neutral t
-    → IsTrue (is_of_flow_node t.kind t.span) → IsNoEnd t.kind → (IsArrival c → TextLaws → ClosesKeys t d)
-    → KeepsFronts t c d → Begins t → t.span.start ≡ c.cursor.mark → HasNoColon c.cursor.rest
-    → (IsArrival c → TextLaws → IsRight d)
-    → (IsArrival c → TextLaws → IsPastLine c.cursor.mark.line d) → Reading 1 c t d.cursor
-    → Does (IsArrival c) (Some n) 1 5 c d (Put t ∷ [])
-saved n c d t s a j m q b node e closes fronts begins start some right past h =
+    → IsTrue (is_of_flow_node t.kind t.span) → IsNoEnd t.kind → KeepsFronts t c d → Begins t
+    → t.span.start ≡ c.cursor.mark → HasNoColon c.cursor.rest
+    → (IsArrival c → TextLaws → ClosesKeys t d × IsRight d × IsPastLine c.cursor.mark.line d)
+    → Reading 1 c t d.cursor → Does (IsArrival c) (Some n) 1 5 c d (Put t ∷ [])
+saved n c d t s a j m q b node e fronts begins start some behind h =
     let outer = ap (λ (x : Around). x.outer) a in
     let indent = ap (λ (x : Around). x.indent) a in
     let indents = ap (λ (x : Around). x.outer_indents) a in
@@ -245,17 +249,16 @@ saved n c d t s a j m q b node e closes fronts begins start some right past h =
     (ap (λ (x : Around). x.started) a) (ap (λ (x : Around). x.ended) a) m (omega (arith, blocks))
     (λ i l x. let P : List Level → Type 0 = λ ls. LevelsAbove i ls in
     (saved_above i n c d.level d.required s l x.0, subst P (sym outer) x.1)) (λ arrival laws opened from p i k.
-    let w = h.token laws in
+    let after = behind arrival laws in
     let Q : ℕ → Type 0 = λ j. IsSaved j c d.level d.required in
     let key : Saved (next p) c (with_cursor c.cursor d) =
     record { level = subst Q i.0 s; cursor = refl; outer = outer; indent = indent; outer_indents = indents } in
     record {
-      taken = holds_put within opened from c d p t c.cursor w.0 (taken.nothing c.cursor.mark c.cursor.rest) w.1 w.2
+      taken = holds_put c d t (h.token laws)
           (quiet_opens t c d q indent indents (λ x z. b.brackets x ∙ z ∙ sym (ap length outer))) j
-          (b.fits (enclosure_of c.level.context) within.columns)
-          (node_parted t c d node (closes arrival laws) fronts) (right arrival laws)
+          (b.fits (enclosure_of c.level.context) within.columns) (node_parted t c d node after.0 fronts) after.1
           (saved_indented opened from c (with_cursor c.cursor d) d p t key refl refl arrival (λ _. (start, some))
-          (past arrival laws) k) k;
+          after.2 k) k;
       keys = saved_keys opened.enclosures 0 c p t (with_cursor c.cursor d) q node (b.depth 0)
           (keeps_depth t c.level c.outer (inr node) b.depth) begins start i.1 key
           (λ allowed. k.taken.past allowed arrival.2) k.keys;
@@ -263,17 +266,23 @@ saved n c d t s a j m q b node e closes fronts begins start some right past h =
 
 -- ## A bracket
 
+-- what encloses the tokens after one that opens
+pub record Enters (kind : Kind) (x : Context) (span : Span) : Type 0 where
+  pub begins : Begins (record { span = span; kind = kind })
+  pub brackets : (opened : Collections) → (open_behind kind span opened).brackets ≡ opened.brackets + 1
+  pub encloses : (all : Enclosures) → enclosures_behind kind span all ≡ place.entered (enclosure_of x) all
+  pub depth : (d : ℕ) → deeper kind span d ≡ suc d
+  pub of_node : IsTrue (is_of_flow_node kind span)
+  pub unbound : is_unbound kind span ≡ true
+  pub fits : (e : Enclosure) (columns : List ℕ) → IsTrue (fits e columns kind span)
+  pub fronts : (c d : Core) → d.key_allowed ≡ true → KeepsFronts (record { span = span; kind = kind }) c d
+
 -- the token that opens a flow collection, and may be a key
 pub entered : (n : ℕ) (x : Context) (c d : Core) (t : Piece) → is_block x ≡ false → IsSaved n c d.level d.required
-    → around d ≡ around c → (c.comment ≡ None → d.comment ≡ None) → is_quiet t.kind ≡ true
-    → ((opened : Collections) → (open_behind t.kind t.span opened).brackets ≡ opened.brackets + 1)
-    → ((all : Enclosures) → enclosures_behind t.kind t.span all ≡ place.entered (enclosure_of x) all)
-    → ((e : ℕ) → deeper t.kind t.span e ≡ suc e) → IsTrue (is_of_flow_node t.kind t.span)
-    → ((e : Enclosure) (columns : List ℕ) → IsTrue (fits e columns t.kind t.span))
-    → IsNoEnd t.kind → is_unbound t.kind t.span ≡ true → KeepsFronts t c (flow.enter x d) → Begins t
+    → around d ≡ around c → NoComment c d → is_quiet t.kind ≡ true → IsNoEnd t.kind → Enters t.kind x t.span
     → t.span.start ≡ c.cursor.mark → HasNoColon c.cursor.rest → Reading 1 c t d.cursor
     → Does (IsArrival c) (Some n) 1 5 c (flow.enter x d) (Put t ∷ [])
-entered n x c d t flows s a m q b enters depth node fit e unbound fronts begins start some h =
+entered n x c d t flows s a m q e into start some h =
     let r : Core = flow.enter x d in
     let outer = ap (λ (x : Around). x.outer) a in
     let indent = ap (λ (x : Around). x.indent) a in
@@ -281,69 +290,73 @@ entered n x c d t flows s a m q b enters depth node fit e unbound fronts begins 
     let blocks : open_blocks r ≡ open_blocks c = ap (λ (x : Around). at_most_one x.indent + length x.outer_indents) a in
     let within = enclosures_of c in
     let stays : Stays c d = ap (λ (y : Around). record y { adjacent = c.adjacent }) a in
-    encloses (ap (place.entered (enclosure_of x)) (saved_around n c d s stays) ∙ sym (enters within)
-    ∙ sym (unbound_calm t.kind t.span within unbound))
+    encloses (ap (place.entered (enclosure_of x)) (saved_around n c d s stays) ∙ sym (into.encloses within)
+    ∙ sym (unbound_calm t.kind t.span within into.unbound))
     (putting within (calm (enclosures_behind t.kind t.span within)) (Some n) 1 4 c r t h e
     (ap (λ (x : Around). x.started) a) (ap (λ (x : Around). x.ended) a)
     (λ f. inl (m f)) (omega (arith, blocks))
     (λ i l y. let P : List Level → Type 0 = λ ls. LevelsAbove i ls in
     (tt, (saved_above i n c d.level d.required s l y.0, subst P (sym outer) y.1)))
     (λ arrival laws opened from p i k.
-    let w = h.token laws in
     let Q : ℕ → Type 0 = λ j. IsSaved j c d.level d.required in
     let key : Saved (next p) c (with_cursor c.cursor d) =
     record { level = subst Q i.0 s; cursor = refl; outer = outer; indent = indent; outer_indents = indents } in
     record {
-      taken = holds_put within opened from c r p t c.cursor w.0 (taken.nothing c.cursor.mark c.cursor.rest) w.1 w.2
-          (quiet_opens t c r q indent indents (λ y z. b y ∙ (let l = ap length outer in omega (arith, z, l))))
-          (inl (ap (λ (x : Around). x.adjacent) a))
-          (fit (enclosure_of c.level.context) within.columns) (unbound_parted t c r unbound fronts)
-          (λ no. absurd (cc))
+      taken = holds_put c r t (h.token laws)
+          (quiet_opens t c r q indent indents (λ y z. into.brackets y ∙ (let l = ap length outer in
+          omega (arith, z, l)))) (inl (ap (λ (x : Around). x.adjacent) a))
+          (into.fits (enclosure_of c.level.context) within.columns)
+          (unbound_parted t c r into.unbound (into.fronts c r refl)) (λ no. absurd (cc))
           (saved_indented opened from c (with_cursor c.cursor d) r p t key refl refl arrival (λ _. (start, some))
           (λ no. absurd (cc)) k) k;
       keys = (
         flows,
         tt,
-        saved_keys opened.enclosures 1 c p t (with_cursor c.cursor d) q node (depth 0)
-            (leads_in t (c.level ∷ c.outer) 0 node depth) begins start i.1 key
+        saved_keys opened.enclosures 1 c p t (with_cursor c.cursor d) q into.of_node (into.depth 0)
+            (leads_in t (c.level ∷ c.outer) 0 into.of_node into.depth) into.begins start i.1 key
             (λ allowed. k.taken.past allowed arrival.2) k.keys,
       );
     }))
 
+-- what encloses the tokens after one that closes
+pub record Leaves (kind : Kind) (span : Span) : Type 0 where
+  pub brackets : (opened : Collections) → (open_behind kind span opened).brackets ≡ opened.brackets - 1
+  pub encloses : (all : Enclosures)
+      → calm (enclosures_behind kind span all) ≡ place.left_for all.outer all.columns
+  pub depth : (d : ℕ) → deeper kind span (suc d) ≡ d
+  pub ends_json : (b : Bool) → ends_json_behind kind span b ≡ true
+  pub no_node : is_of_flow_node kind span ≡ false
+  pub plain : is_plain kind ≡ true
+
 -- the token that closes a flow collection, which is left for the level around it
 pub left : {A : Type 0} (within : Enclosures) (c : Core) (l : Level) (ls : List Level) (t : Piece) (u : Cursor) (n : ℕ)
     → Adjoins t c (record c { cursor = u; level = l; outer = ls; key_allowed = false; adjacent = n })
-    → Left c l ls → is_quiet t.kind ≡ true
-    → ((opened : Collections) → (open_behind t.kind t.span opened).brackets ≡ opened.brackets - 1)
-    → ((e : ℕ) → deeper t.kind t.span (suc e) ≡ e) → FitsWithin within t
-    → IsNoEnd t.kind → begins_block t.kind ≡ false → is_plain t.kind ≡ true → is_of_flow_node t.kind t.span ≡ false
-    → in_block c ≡ false
-    → (A → c.indent ≤ u.mark.col) → Reading 1 c t u
+    → Left c l ls → is_quiet t.kind ≡ true → IsNoEnd t.kind → begins_block t.kind ≡ false → Leaves t.kind t.span
+    → FitsWithin within t → in_block c ≡ false → (A → c.indent ≤ u.mark.col) → Reading 1 c t u
     → DoesWithin A within (calm (enclosures_behind t.kind t.span within)) None 1 1 c
     (record c { cursor = u; level = l; outer = ls; key_allowed = false; adjacent = n }) (Put t ∷ [])
-left within c l ls t u n j z q b depth fit e other plain node flows right h =
+left within c l ls t u n j z q e other out fit flows right h =
     let d : Core = record c { cursor = u; level = l; outer = ls; key_allowed = false; adjacent = n } in
     putting within (calm (enclosures_behind t.kind t.span within)) None 1 0 c d t h e refl refl (λ m. inl m)
     (omega arith) (λ i _ a. z.above i a.1) (λ premise laws opened from p _ k.
-    let w = h.token laws in
     let r = with_piece t p in
     let all = opened.enclosures in
     let some : is_empty_list c.outer ≡ false = sym k.keys.0 ∙ flows in
-    let fits = no_node_fits all p t node in
+    let fits = no_node_fits all p t out.no_node in
     let outers = keys_weaken opened.enclosures 1 (lower (next p) c.level.key) (next r) p c.indent c.outer
     (let low = below_key opened.enclosures 0 (next p) p (is_block c.level.context) c.indent c.level.key k.keys.1 in
     omega (arith, next_put t p, low)) k.keys.2 in
     record {
-      taken = holds_put within opened from c d p t c.cursor w.0 (taken.nothing c.cursor.mark c.cursor.rest) w.1 w.2
-          (quiet_opens t c d q refl refl (λ y v. b y ∙ ap (λ i. i - 1) v ∙ sym z.fewer)) j fit
-          ((λ yes. absurd (cc)), (λ no. absurd (cc)), plain_fronts t c d plain) (λ _ _ _. inl (right premise))
+      taken = holds_put c d t (h.token laws)
+          (quiet_opens t c d q refl refl (λ y v. out.brackets y ∙ ap (λ i. i - 1) v ∙ sym z.fewer)) j fit
+          ((λ yes. absurd (cc)), (λ no. absurd (cc)), plain_fronts t c d out.plain) (λ _ _ _. inl (right premise))
           (λ line y. record {
             free = λ no. indented_then all p t fits (y.free no);
             waits = λ yes. waits_then all c d p t (z.root some ∙ sym (root_inner c.level c.outer some)) line
                 (y.waits yes) (λ _ allowed. absurd (cc));
           }) k;
       keys = z.keys opened.enclosures (next r) r
-          (keys_put opened.enclosures 1 0 (next r) p c.indent c.outer t q (leads_out t c.outer 0 depth) outers);
+          (keys_put opened.enclosures 1 0 (next r) p c.indent c.outer t q (leads_out t c.outer 0 out.depth) outers);
     })
 
 -- ## A candidate turns out to be a key

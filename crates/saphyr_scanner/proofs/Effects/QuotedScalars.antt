@@ -11,9 +11,7 @@ use Rattle.saphyr_scanner.specs.TokensInPlace.{is_flow_style}
 use Rattle.saphyr_scanner.specs.TokensTaken.{Surroundings, AreApart, IsPassedOver, IsToken, IsQuotedToken, begins_text, ends_json_behind}
 use Rattle.saphyr_scanner.proofs.Effects.Moves.{Around}
 use Rattle.saphyr_scanner.proofs.Effects.Puts.{saving, saved, same_block}
-use Rattle.saphyr_scanner.proofs.Effects.Walked.{Premises, Walked, walked_then, Doing, at_inside, read_walked}
-use Rattle.saphyr_scanner.proofs.Effects.Walked.{at_reach, separate_walked, gap_walked}
-use Rattle.saphyr_scanner.proofs.Effects.Readers.{TextLaws}
+use Rattle.saphyr_scanner.proofs.Effects.Walked.{Premises, Walked, walked_then, Doing, at_inside, read_walked, at_reach, separate_walked, gap_walked}
 use Rattle.saphyr_scanner.proofs.LineTails.{OnLine}
 use Rattle.saphyr_scanner.proofs.LessIndented.{less_indented}
 use Rattle.saphyr_scanner.proofs.Reached.{apart_reached, passed_reached}
@@ -23,7 +21,6 @@ use Rattle.saphyr_scanner.proofs.Taken.InPlace.{begun_by}
 use Rattle.saphyr_scanner.proofs.Taken.KeysInPlace.{IsPast}
 use Rattle.saphyr_scanner.proofs.Taken.SavedKeys.{IsSaved}
 use Rattle.saphyr_scanner.proofs.Taken.Indented.{BeginsNoNode, other_than_colon}
-use Rattle.saphyr_scanner.proofs.Taken.Keys.{IsArrival}
 use Rattle.saphyr_scanner.proofs.Taken.Neutral.{neutral}
 use Rattle.saphyr_scanner.proofs.Taken.Later.{top, apart_later, break_begins_no_text, passed_later, end_stays}
 use Rattle.saphyr_scanner.proofs.Taken.OnLine.{quoted_shorter}
@@ -47,34 +44,18 @@ record Quoting (quote : Quote) : Type 0 where
   flow : is_flow_style (quote_style quote) ≡ true
   quiet : (value : List ℕ) → is_quiet (quote_kind quote value) ≡ true
   ends_json : (value : List ℕ) (span : Span) (b : Bool) → ends_json_behind (quote_kind quote value) span b ≡ true
-  is : (i : Surroundings) (value : List ℕ) (span : Span) (s t : Cursor) → IsQuotedToken quote i.indent value span s t
-      → IsToken i (quote_kind quote value) span s t
   of : (i : Surroundings) (value : List ℕ) (span : Span) (s t : Cursor) → IsToken i (quote_kind quote value) span s t
       → Starts span s
   past : (value : List ℕ) (span : Span) (block : Bool) (n : ℕ) → span.end.line < n
       → IsPast (begun_by (quote_kind quote value) span) block n
 
 quoting : (quote : Quote) → Quoting quote
-quoting Double = record {
-  other = refl;
-  unbroken = refl;
-  flow = refl;
-  quiet = λ v. refl;
-  ends_json = λ v p b. refl;
-  is = λ i v p s t k. k;
-  of = λ i v p s t k. (k.4, ap (λ l. begins_text (slice_index l 0)) k.1.1);
-  past = λ v p b n l. l;
-}
-quoting Single = record {
-  other = refl;
-  unbroken = refl;
-  flow = refl;
-  quiet = λ v. refl;
-  ends_json = λ v p b. refl;
-  is = λ i v p s t k. k;
-  of = λ i v p s t k. (k.4, ap (λ l. begins_text (slice_index l 0)) k.1.1);
-  past = λ v p b n l. l;
-}
+quoting quote = grind arith
+
+quoted_is : (quote : Quote) (i : Surroundings) (value : List ℕ) (span : Span) (s t : Cursor)
+    → IsQuotedToken quote i.indent value span s t → IsToken i (quote_kind quote value) span s t
+quoted_is Double i value span s t h = h
+quoted_is Single i value span s t h = h
 
 -- later lines of quoted scalars have to reach the column of the innermost block collection at least
 least_right : (c : Core) → c.indent - 1 ≤ least_column c
@@ -103,13 +84,13 @@ character_right : (c : ℕ) (m : Marker) (t : List ℕ) (n : Marker) (u : List �
 character_right c u0 u1 u2 u3 u4 e k less low small line = grind (arith, passed_later)
 
 -- behind quotes that end on a line the text goes on right of them, or no node begins
-quotes_end : (i : ℕ) (s x u v : Cursor) (j : ℕ) (quote : Quote) → slice_index s.rest 0 ≡ mark quote
+quotes_end : {x u : Cursor} (i : ℕ) (s v : Cursor) (j : ℕ) (quote : Quote) → slice_index s.rest 0 ≡ mark quote
     → is_break (mark quote) ≡ false → IsPassed s.mark s.rest x.mark x.rest → length x.rest < length s.rest
     → OnLine x u → AreApart u v → IsTrue (begins_text (slice_index v.rest 0)) → j ≡ i → i ≤ s.mark.col + 1
     → s.mark.line < top → v.mark.line < top → v.mark.line ≡ u.mark.line
     → IsTrue (is_breakz (slice_index u.rest 0)) ⊎ (s.mark.line ≡ u.mark.line)
     → (j ≤ v.mark.col) ⊎ BeginsNoNode v.rest
-quotes_end i s x u v j quote first unbroken passed less o apart begins same deep low small line u0 = grind
+quotes_end {x} {u} i s v j quote first unbroken passed less o apart begins same deep low small line u0 = grind
     (arith, apart_later, on_line_same, character_right, or_cases, break_passed, end_stays)
 
 -- A quoted scalar puts its token behind three readings: of the scalar, of what separates it on its line from what
@@ -149,41 +130,33 @@ quotes_do quote n c first l r s =
     let a = apart_later x.1.mark x.1.rest u.mark u.rest g.1.apart in
     let b = apart_later u.mark u.rest v.mark v.rest k.1 in
     let same = k.0.0 ∙ g.0.0 in
-    let past : IsArrival c → TextLaws → (x.1.mark.line ≤ top) × (here.mark.line ≤ x.1.mark.line) = λ arrival laws.
-    let p = passed_later here.mark here.rest x.1.mark x.1.rest (laws.quotes quote low here x.1 x.0 first e).3 in
-    let z = p.lines (let small = arrival.2 in omega (arith, small)) in (z.1, z.0) in
     saved n c (scalar.adjacent_here f) t (rw (same, k.0.3 ∙ g.0.3) s)
     (ap (λ (a : Around). record a { adjacent = c.adjacent }) (k.0.1 ∙ g.0.1))
     (inr (refl, (quoting quote).ends_json x.0 t.span))
     (λ m. inl (k.0.2 (g.0.2 m))) ((quoting quote).quiet x.0) (neutral _ t.span refl) (quoting quote).flow
-    (λ i. absurd (cc))
-    (λ arrival laws allowed small.
-    let p = past arrival laws in
-    let line = on_line_same x.1 u g.1 in
-    elim (k.3.begins allowed) [
-      | inl before ↦ absurd (let same = g.2 in cc)
-      | inr later ↦ (quoting quote).past x.0 t.span _ v.mark.line (later.1 (omega (arith, p.0, line)) small)
-    ])
-    (plain_fronts t c (scalar.adjacent_here f) (plain_quote quote x.0))
+    (λ i. absurd (cc)) (plain_fronts t c (scalar.adjacent_here f) (plain_quote quote x.0))
     (λ i. (quoting quote).of i x.0 t.span) refl (other_than_colon (mark quote) here.rest (quoting quote).other first)
-    (λ arrival laws i allowed small.
-    let p = past arrival laws in
-    let line = on_line_same x.1 u g.1 in
-    let ends = k.3.ends i allowed (omega (arith, p.0, line)) in
-    let block = ap (λ (m : Level). is_block m.context) (sym same) ∙ i in
-    let indent = ap (λ (z : Around). z.indent) (k.0.1 ∙ g.0.1) in
+    (λ arrival laws.
     let w = laws.quotes quote low here x.1 x.0 first e in
-    quotes_end c.indent here x.1 u v f.indent quote first (quoting quote).unbroken w.3
-    (quoted_shorter quote w.0 here.rest x.1.rest w.1) g.1 k.1 k.2 indent
-    (arrival.0 (sym (same_block n c l r s) ∙ block)) arrival.2 small ends.1
-    (goes_on_outside here.mark y.1 (ap (λ (m : Level). is_block m.context) (sym k.0.0) ∙ i) goes))
-    (λ arrival laws i allowed small.
-    let p = past arrival laws in
+    let p = (passed_later here.mark here.rest x.1.mark x.1.rest w.3).lines
+    (let small = arrival.2 in omega (arith, small)) in
     let line = on_line_same x.1 u g.1 in
+    let later : f.key_allowed ≡ true → v.mark.line < top → u.mark.line < v.mark.line = λ allowed small.
     elim (k.3.begins allowed) [
       | inl before ↦ absurd (let same = g.2 in cc)
-      | inr later ↦ inl (let z = later.1 (omega (arith, p.0, line)) small in omega (arith, p.1, line, z))
-    ])
+      | inr later ↦ later.1 (omega (arith, p.1, line)) small
+    ] in (
+      λ allowed small. (quoting quote).past x.0 t.span _ v.mark.line (later allowed small),
+      λ i allowed small.
+          let ends = k.3.ends i allowed (omega (arith, p.1, line)) in
+          let block = ap (λ (m : Level). is_block m.context) (sym same) ∙ i in
+          let indent = ap (λ (z : Around). z.indent) (k.0.1 ∙ g.0.1) in
+          quotes_end c.indent here v f.indent quote first (quoting quote).unbroken w.3
+          (quoted_shorter quote w.0 here.rest x.1.rest w.1) g.1 k.1 k.2 indent
+          (arrival.0 (sym (same_block n c l r s) ∙ block)) arrival.2 small ends.1
+          (goes_on_outside here.mark y.1 (ap (λ (m : Level). is_block m.context) (sym k.0.0) ∙ i) goes),
+      λ _ allowed small. inl (let z = later allowed small in omega (arith, p.0, line, z)),
+    ))
     (record {
       less = λ laws. let z = laws.quoted_scalar quote low here x.1 x.0 first e in
           omega (arith, z, a.index, a.counted, b.index, b.counted);
@@ -199,7 +172,7 @@ quotes_do quote n c first l r s =
           };
       token = λ laws. let w = laws.quotes quote low here x.1 x.0 first e in (
         x.1,
-        (λ j _. (quoting quote).is (surroundings j c) x.0 t.span here x.1 (
+        (λ j _. quoted_is quote (surroundings j c) x.0 t.span here x.1 (
           w.0,
           w.1,
           sym w.2,

@@ -1,5 +1,5 @@
 -- What each step of scalars does, by the laws of the readers.
-use Rattle.saphyr_scanner.proofs.Common.{◌≡◌, ◌≢◌, ℕ, ◌+◌, ◌<◌, Bool, true, false, List, [], ◌∷◌, length, Some, IsTrue, IsFalse, refl, sym, ap, ◌∙◌, arith, subst, inl, inr, ◌&&◌, ◌||◌, ◌==◌, slice_index, not, nat_lt, codes, is_break, is_blank_or_breakz, is_one_of, is_blank_or_break, BlockStyle, Marker, IsSpelledPlain, IsPlainReading, Cursor, Piece, or_parts, ne_eqb, ampersand, apostrophe, asterisk, at_sign, exclamation_mark, grave_accent, left_brace, left_bracket, number_sign, percent_sign, quotation_mark, right_brace, right_bracket, by_test, given_of}
+use Rattle.saphyr_scanner.proofs.Common.{◌≡◌, ◌≢◌, ℕ, ◌+◌, ◌<◌, Bool, true, false, List, [], ◌∷◌, length, Some, IsTrue, IsFalse, refl, sym, ap, ◌∙◌, arith, subst, inl, ◌&&◌, ◌||◌, ◌==◌, slice_index, not, nat_lt, codes, is_break, is_blank_or_breakz, is_one_of, is_blank_or_break, BlockStyle, Marker, IsSpelledPlain, IsPlainReading, Cursor, Piece, or_parts, ne_eqb, ampersand, apostrophe, asterisk, at_sign, exclamation_mark, grave_accent, left_brace, left_bracket, number_sign, percent_sign, quotation_mark, right_brace, right_bracket, by_test, given_of}
 use Rattle.saphyr_scalar.specs.declared.scalar.style.ScalarStyle.TheVariants.{Plain}
 use Rattle.saphyr_scalar.specs.Steps.Block as blocks
 use Rattle.saphyr_scalar.specs.Steps.Plain as words
@@ -84,12 +84,15 @@ plain_does n c starts =
     (plain_ends f c.indent here) e in
     let t : Piece = record { span = record { start = here.mark; end = x.1 }; kind = tokens.Scalar Plain x.0 } in
     saved n c (scalar.behind_plain x.2 x.3 d) t s refl (inl refl) (λ _. ends.0) refl (neutral _ t.span refl) refl
-    (λ i. absurd (cc)) (λ _ _ allowed small. ends.5 allowed small)
+    (λ i. absurd (cc))
     (plain_fronts t c (scalar.behind_plain x.2 x.3 d) refl)
     (λ i a b k. (k.start, plain_begins (slice_index a.rest 0) k.begins k.is_non_space)) refl
     (λ colon blank. absurd (let no = starts.no_indicator (ap (λ x. is_one_of (codes "-?:") x) colon) in cc))
-    (λ arrival _ i allowed _. inl (ends.2 (rw i refl) (arrival.0 (sym (same_block n c l r s) ∙ i)) allowed))
-    (λ _ _ _ allowed small. inl (ends.4 allowed small))
+    (λ arrival _. (
+      λ allowed small. ends.5 allowed small,
+      λ i allowed _. inl (ends.2 (rw i refl) (arrival.0 (sym (same_block n c l r s) ∙ i)) allowed),
+      λ _ allowed small. inl (ends.4 allowed small),
+    ))
     (record {
       less = λ laws. let z = laws.plain f c.indent here x.3 x.0 x.1 x.2 e in omega (arith, z);
       span = λ laws. let z = laws.plain f c.indent here x.3 x.0 x.1 x.2 e in
@@ -144,7 +147,7 @@ block_does style n c b some f =
       };
       fetched = λ laws text small opened from q later g arrival k.
           let Q : ℕ → Type 0 = λ j. IsSaved j c l r in
-          block_fetched laws text small opened from q style c d later
+          block_fetched laws text small style later
           (record { level = subst Q g s; cursor = refl; outer = refl; indent = refl; outer_indents = refl }) refl refl
           arrival k b (same_block n c l r s ∙ b) f x e;
       noted = λ m. inl m;

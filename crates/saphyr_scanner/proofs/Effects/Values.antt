@@ -7,7 +7,7 @@ use Rattle.saphyr_scanner.specs.Grammar.Tokens as tokens
 use Rattle.saphyr_scanner.specs.Steps.Queue.{empty_piece}
 use Rattle.saphyr_scanner.specs.Steps.Core.{Core, Action, Step, Open, at_mark, in_block, is_too_far, forget_key, with_key, go_deeper, is_further, enter_block, with_context}
 use Rattle.saphyr_scanner.specs.Steps.Level.{Candidate, Level, is_block, begins_pair, behind_colon}
-use Rattle.saphyr_scanner.specs.Steps.Passing.{separate, pass_on, with_cursor}
+use Rattle.saphyr_scanner.specs.Steps.Passing.{separate, pass_on}
 use Rattle.saphyr_scanner.specs.Steps.Value as value
 use Rattle.saphyr_scanner.specs.Steps.Fetch as fetching
 use Rattle.saphyr_scanner.specs.TokensTaken as taken
@@ -15,17 +15,14 @@ use Rattle.saphyr_scanner.specs.TokensTaken.{AreApart, Collections, parts_colon}
 use Rattle.saphyr_scanner.specs.TokensInPlace as place
 use Rattle.saphyr_scanner.specs.TokensInPlace.{Enclosure, Enclosures, turned_to, behind_pair_colon, may_begin_pair, may_begin_key, with_begun, is_in_brackets, is_at_column, is_near}
 use Rattle.saphyr_scanner.proofs.Effects.Moves.{DoesWithin, encloses, and_then, Around, Same, same, same_around, lesser, still_within, right_before}
-use Rattle.saphyr_scanner.proofs.Effects.Puts.{empty_reading, IndicatorStands, passes, indicated, quiet_within, block_begins, key_opens}
-use Rattle.saphyr_scanner.proofs.Effects.Puts.{mapping_opens}
+use Rattle.saphyr_scanner.proofs.Effects.Puts.{empty_reading, IndicatorStands, passes, indicated, quiet_within, block_begins, key_opens, mapping_starts, mapping_opens}
 use Rattle.saphyr_scanner.proofs.Effects.Blocks.{allowed_in}
-use Rattle.saphyr_scanner.proofs.Effects.Walked.{Premises, Walked, walked_then, walked_map, at_most, Doing, at_reach}
-use Rattle.saphyr_scanner.proofs.Effects.Walked.{separate_walked}
+use Rattle.saphyr_scanner.proofs.Effects.Walked.{Premises, Walked, walked_then, walked_map, at_most, Doing, at_reach, separate_walked}
 use Rattle.saphyr_scanner.proofs.Reached.{apart_reached}
 use Rattle.saphyr_scanner.proofs.Taken.Cores.{by_bool}
-use Rattle.saphyr_scanner.proofs.Taken.SavedKeys.{further_block}
+use Rattle.saphyr_scanner.proofs.Taken.SavedKeys.{further_block, apart_same}
 use Rattle.saphyr_scanner.proofs.Taken.Keys.{IsDeep, IsBehindKey, IsArrival}
 use Rattle.saphyr_scanner.proofs.Taken.Bare.{plain_fronts, pair_fronts, entry_same, entry_turned, colon_pair}
-use Rattle.saphyr_scanner.proofs.Taken.SavedKeys.{apart_same}
 use Rattle.saphyr_scanner.proofs.Taken.Indented.{IsRight}
 use Rattle.saphyr_scanner.proofs.Taken.Held.{enclosure_of, columns_of, outside_of, enclosures_of, FitsWithin}
 use Rattle.saphyr_scanner.proofs.Taken.KeysInPlace.{no_text, Outside, free, in_key}
@@ -96,8 +93,8 @@ colon_does within e d u first parted a s there none right fit =
     let later = apart_later (pass 1 e.cursor).mark (pass 1 e.cursor).rest u.mark u.rest a in
     let t = empty_piece e.cursor.mark tokens.Value in
     let r : Core = record e { cursor = u; key_allowed = d.key_allowed } in
-    and_then (λ n. n) (quiet_within within 1 e t u e.level d.key_allowed refl none refl (λ x. refl) (λ x. refl) refl
-    none fit (λ i. absurd (cc)) refl (plain_fronts t e r refl) (λ p. right_before e d u s there (right p))
+    and_then (λ n. n) (quiet_within within 1 e t u e.level d.key_allowed refl none
+    (record { quiet = refl; brackets = λ x. refl; depth = λ x. refl; no_node = refl }) none fit (λ i. absurd (cc)) refl (plain_fronts t e r refl) (λ p. right_before e d u s there (right p))
     (indicated 58 e u t (record { some = refl; unbroken = refl; is = first }) a
     (omega arith) (omega arith) (omega (arith, later.index)) (λ t b given. (
       t,
@@ -286,10 +283,8 @@ alone_does b c d x t none =
     (λ f. let r = same_blocks column c d g.0 in
     let allowed = sym g.2 ∙ allowed_in (in_block d) d.key_allowed w (further_block column d f) in
     encloses (turned_in_block b x c d (behind_pair_colon e) column t same) (and_then (λ n. n)
-    (block_begins e c c.required tokens.BlockMappingStart place.BlockMapping (λ i. absurd (cc)) (λ p. refl) refl refl
-    allowed t.small (λ _. free_key) (λ r. r) (λ p. refl) (λ i p v t h. h) (λ x y. refl) (λ p all. refl)
-    (λ p columns. refl)
-    (block_same c d g.0 (further_block column d f)) (right_same column c d g.0 f) (ap taken.begins_text t.first))
+    (block_begins e c c.required tokens.BlockMappingStart place.BlockMapping mapping_starts allowed t.small
+    (λ _. free_key) (λ r. r) (block_same c d g.0 (further_block column d f)) (right_same column c d g.0 f) (ap taken.begins_text t.first))
     (colon_does (with_begun place.BlockMapping (free e (outside_of (enter_block column c))))
     (with_key None (enter_block column c)) (Into true) u t.first t.parted g.1 (
       no_key d.level none ∙ ap (λ (l : Level). record { context = l.context; key = None }) g.0.0,
@@ -320,10 +315,12 @@ alone_does b c d x t none =
         let t = empty_piece c.cursor.mark tokens.FlowMappingStart in
         let no = no_text c.cursor.mark.index in
         and_then (λ n. n) (encloses (rw no refl)
-        (quiet_within (free e outside) 0 c t c.cursor c.level c.key_allowed refl
-        none refl
-        (λ x. ap (λ (y : Collections). y.brackets) (pair_starts c.cursor.mark x)) (λ x. rw no refl) no none
-        (λ _. rw no may) (λ i. absurd (cc)) refl (pair_fronts t.span c c (pair, none) first)
+        (quiet_within (free e outside) 0 c t c.cursor c.level c.key_allowed refl none (record {
+          quiet = refl;
+          brackets = λ x. ap (λ (y : Collections). y.brackets) (pair_starts c.cursor.mark x);
+          depth = λ x. rw no refl;
+          no_node = no;
+        }) none (λ _. rw no may) (λ i. absurd (cc)) refl (pair_fronts t.span c c (pair, none) first)
         (λ _ b. absurd (let no = flows in cc))
         (empty_reading c tokens.FlowMappingStart (λ _. inr (refl, inl refl, refl)))))
         (still_within (free place.PairKey outside) c c (same c) refl (λ _. ((λ a. inl a), (λ h. h), λ front h. h)))

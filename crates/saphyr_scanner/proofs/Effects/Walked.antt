@@ -4,8 +4,7 @@ use Rattle.saphyr_input.specs.declared.input.SkipTabs.TheVariants as tabs
 use Rattle.saphyr_scanner.specs.Steps.Queue.{Queue, next}
 use Rattle.saphyr_scanner.specs.Steps.Core.{Core, Action, Step, StepResult, perform, least_column}
 use Rattle.saphyr_scanner.specs.Steps.Gap as gaps
-use Rattle.saphyr_scanner.specs.Steps.Passing.{separate, with_cursor, pass_gap, check_comment, goes_on_behind}
-use Rattle.saphyr_scanner.specs.Steps.Passing.{behind_gap, check_comment_of}
+use Rattle.saphyr_scanner.specs.Steps.Passing.{separate, with_cursor, pass_gap, check_comment, goes_on_behind, behind_gap, check_comment_of}
 use Rattle.saphyr_scanner.specs.TokensTaken.{AreApart, begins_text}
 use Rattle.saphyr_scanner.specs.TokensInPlace.{Enclosures}
 use Rattle.saphyr_scanner.proofs.Effects.Readers.{TextLaws, RefusalLaws}

@@ -23,7 +23,7 @@ use Rattle.saphyr_scanner.specs.Steps.State.{State, with_rest}
 use Rattle.saphyr_scanner.specs.Views.Engine.{stopped_by}
 use Rattle.saphyr_scanner.specs.Views.Scanning.{Scanning, is_decided, is_growing, text_in}
 use Rattle.saphyr_scanner.proofs.Effects.Readers.{Readers}
-use Rattle.saphyr_scanner.proofs.Handing.Filling.{fetched_is_one_more, no_key_settles, read, settled_fill, smaller_read}
+use Rattle.saphyr_scanner.proofs.Handing.Filling.{no_key_settles, smaller_read}
 use Rattle.saphyr_scanner.proofs.WhatCame.Cores.{states, core_came, far_came}
 use Rattle.saphyr_scanner.proofs.WhatCame.Fetches.{token_came}
 

@@ -239,7 +239,7 @@ pub tokens_end : (old : Scanning) (e : Refusal) → (is_growing old.growth ≡ t
 unfolding remaining tokens_over tokens_in
 tokens_end old e seen h more = rw (far_refused old.growth more old.state e seen h) refl
 
--- What ends the tokens where a candidate is too far ends them so, whatever comes, unless more comes and it is undecided.
+-- What ends the tokens where a candidate is too far ends them whatever comes, unless more comes and it is undecided.
 pub refuses_far : (old seen new : Scanning) (r : Result Unit Stopped) (rest : List ℕ) → old ≡ seen
     → (is_growing old.growth ≡ true → is_decided r rest new.stop ≡ true)
     → Moves (λ _. new.state) (stopped_by r new.stop) (without_far_key old.state)

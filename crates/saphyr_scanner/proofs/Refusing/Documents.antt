@@ -1,12 +1,11 @@
 -- Where a fetch of the next token refuses.
 use Rattle.std.proofs.Common.{◌≡◌, ℕ, Bool, true, length, Option, Some, None, Result, Ok, Err, refl, ◌∙◌, inl, arith}
-use Rattle.std.specs.Prelude.{codes, ◌&&◌, ◌==◌, nat_lt, slice_index}
+use Rattle.std.specs.Prelude.{◌&&◌, ◌==◌, nat_lt, slice_index}
 use Rattle.saphyr_input.specs.Classes.{is_bom, is_z}
 use Rattle.saphyr_input.specs.Places.{is_document_start, is_document_end}
 use Rattle.saphyr_scalar.specs.declared.scalar.position.Marker.{Marker}
 use Rattle.saphyr_scalar.specs.declared.scalar.fault.Refusal.{Refusal}
 use Rattle.saphyr_scalar.specs.Views.Cursor.{Cursor, ◌>>=◌}
-use Rattle.saphyr_scanner.specs.Grammar.Tokens as tokens
 use Rattle.saphyr_scanner.specs.Steps.Queue.{Queue, next}
 use Rattle.saphyr_scanner.specs.Steps.Core.{Core, StepResult, drop_far_key, least_column}
 use Rattle.saphyr_scanner.specs.Steps.Document as document

@@ -17,11 +17,9 @@ use Rattle.saphyr_scanner.proofs.Taken.Later.{top, LaterThan, later_later, apart
 use Rattle.saphyr_scanner.proofs.Taken.Bare.{entry_same, entry_closed, block_no_pair}
 use Rattle.saphyr_scanner.proofs.Taken.Held.{enclosures_of, Setting, Taken, taken_within, AllowsKey, taken_further}
 use Rattle.saphyr_scanner.proofs.Taken.Indented.{BeginsNoNode, stays_no_node, IsRight, root_key}
-use Rattle.saphyr_scanner.proofs.Taken.Keys.{Keys}
+use Rattle.saphyr_scanner.proofs.Taken.Keys.{Keys, IsNear, IsBehindKey}
 use Rattle.saphyr_scanner.proofs.Taken.Cores.{Alike, alike_enclosures, keys_lesser, no_keys, outermost_level}
-use Rattle.saphyr_scanner.proofs.Taken.SavedKeys.{line_near}
-use Rattle.saphyr_scanner.proofs.Taken.Keys.{IsNear, IsBehindKey}
-use Rattle.saphyr_scanner.proofs.Taken.SavedKeys.{key_known}
+use Rattle.saphyr_scanner.proofs.Taken.SavedKeys.{line_near, key_known}
 use Rattle.saphyr_scanner.proofs.Taken.States.{line_small, taken_later, key_stands, Live, TakenState, unroll_taken, blocks_levels}
 
 -- ## What is passed

@@ -137,23 +137,23 @@ surroundings ends_json c = record { in_flow = not (in_block c); indent = c.inden
 abbrev pub IsJsonEndAt : Bool → Core → Type 0
 IsJsonEndAt ends_json c = c.cursor.mark.index ≡ c.adjacent → in_block c ≡ false → ends_json ≡ true
 
-abbrev pub IsTokenThere : Core → Piece → Cursor → Cursor → Type 0
-IsTokenThere c t here behind = (b : Bool) → IsJsonEndAt b c → IsToken (surroundings b c) t.kind t.span here behind
+abbrev pub IsTokenThere : Core → Piece → Cursor → Type 0
+IsTokenThere c t behind = (b : Bool) → IsJsonEndAt b c → IsToken (surroundings b c) t.kind t.span c.cursor behind
+
+-- a token is taken from the place of c, with separation after it up to u
+abbrev pub TakesToken : Core → Piece → Cursor → Type 0
+TakesToken c t u = (behind : Cursor) × IsTokenThere c t behind × AreApart behind u
 
 pub some_outer : (ls : List Level) → is_empty_list ls ≡ false → 0 < length ls
 some_outer ls e = grind arith
 
 -- a token is put after the others
-pub holds_put : (within : Enclosures) (opened : Setting) (from : Cursor) (c d : Core) (q : Queue) (t : Piece)
-    (here behind : Cursor)
-    → AreApart c.cursor here → IsTokenThere c t here behind
-    → AreApart behind d.cursor → Opens t c d → Adjoins t c d → FitsWithin within t → IsParted t c d → IsRight d
+pub holds_put : {within : Enclosures} {opened : Setting} {from : Cursor} {q : Queue} (c d : Core) (t : Piece)
+    → TakesToken c t d.cursor → Opens t c d → Adjoins t c d → FitsWithin within t → IsParted t c d → IsRight d
     → PutsIndented opened c d q t → HoldsWithin within opened from c q
     → TakenWithin (calm (enclosures_behind t.kind t.span within)) opened from d (with_piece t q)
-holds_put within opened from c d q t here behind a is b o adjoins f parted right puts h =
-    let P : Bool → Bool → Type 0 = λ e x. IsToken
-    (record { in_flow = x; indent = c.indent; ends_json = e }) t.kind t.span here behind in
-    taken_put within opened from c d q t here behind a
+holds_put {within} {opened} {from} {q} c d t (behind, is, b) o adjoins f parted right puts h =
+    taken_put within opened from c d q t behind
     (λ e k. rw (open_in_flow within opened from c q h) (is e (λ i n. k.1 i (some_outer c.outer (sym h.keys.0 ∙ n))))) b
     o adjoins f parted right puts h.taken
 
@@ -179,18 +179,22 @@ same_root l m ls ms k e = ap (λ x. root_key (m ∷ x)) e ∙ own ls
     own [] = k
     own (x ∷ xs) = refl
 
--- a quiet token from here to after, and separation to the place that is reached
-pub quiet_put : (within : Enclosures) (opened : Setting) (from : Cursor) (c d : Core) (q : Queue) (t : Piece)
-    (here behind : Cursor)
-    → is_quiet t.kind ≡ true → KeepsBrackets t → KeepsDepth t → is_of_flow_node t.kind t.span ≡ false
-    → c.level.key ≡ None → FitsWithin within t → IsParted t c d → IsRight d → AreApart c.cursor here
-    → IsTokenThere c t here behind → AreApart behind d.cursor
+-- a token of no flow node, after which as much is open
+pub record QuietToken (t : Piece) : Type 0 where
+  pub quiet : is_quiet t.kind ≡ true
+  pub brackets : KeepsBrackets t
+  pub depth : KeepsDepth t
+  pub no_node : is_of_flow_node t.kind t.span ≡ false
+
+pub quiet_put : {within : Enclosures} {opened : Setting} {from : Cursor} {q : Queue} (c d : Core) (t : Piece)
+    → QuietToken t → c.level.key ≡ None → TakesToken c t d.cursor → FitsWithin within t → IsParted t c d → IsRight d
     → Nearly c d → HoldsWithin within opened from c q
     → HoldsWithin (calm (enclosures_behind t.kind t.span within)) opened from d (with_piece t q)
-quiet_put within opened from c d q t here behind e f depth other none fit parted right a is b l h = record {
-  taken = holds_put within opened from c d q t here behind a is b
-      (quiet_opens t c d e l.indent l.outer_indents (λ x n. f x ∙ n ∙ sym (ap length l.outer))) (inl l.adjacent) fit
-      parted right (λ line k. indented_put opened.enclosures c d q t (no_node_fits opened.enclosures q t other)
+quiet_put {within} {opened} {from} {q} c d t e none token fit parted right l h = record {
+  taken = holds_put c d t token
+      (quiet_opens t c d e.quiet l.indent l.outer_indents (λ x n. e.brackets x ∙ n ∙ sym (ap length l.outer)))
+      (inl l.adjacent) fit parted right
+      (λ line k. indented_put opened.enclosures c d q t (no_node_fits opened.enclosures q t e.no_node)
       (record {
         required = l.required;
         root = λ _. same_root c.level d.level c.outer d.outer l.key l.outer;
@@ -203,25 +207,23 @@ quiet_put within opened from c d q t here behind e f depth other none fit parted
       refl l.outer (keys_lesser all (next (with_piece t q)) (with_piece t q) c.indent c.level d.level c.outer
       (record { block = l.block; key = inl l.key })
       (keys_weaken all 0 (next q) (next (with_piece t q)) (with_piece t q) c.indent (c.level ∷ c.outer)
-      (omega (arith, next_put t q)) (keys_put all 0 0 (next q) q c.indent (c.level ∷ c.outer) t e
-      (keeps_depth t c.level c.outer (inl none) depth) h.keys)));
+      (omega (arith, next_put t q)) (keys_put all 0 0 (next q) q c.indent (c.level ∷ c.outer) t e.quiet
+      (keeps_depth t c.level c.outer (inl none) e.depth) h.keys)));
 }
 
 -- a token of no flow node, where none has to be a key, and after which none is a candidate
-pub loud_put : (within : Enclosures) (opened : Setting) (from : Cursor) (c d : Core) (q : Queue) (t : Piece)
-    (here behind : Cursor)
-    → AreApart c.cursor here → IsTokenThere c t here behind
-    → AreApart behind d.cursor → Opens t c d → d.adjacent ≡ c.adjacent → FitsWithin within t → IsParted t c d
+pub loud_put : {within : Enclosures} {opened : Setting} {from : Cursor} {q : Queue} (c d : Core) (t : Piece)
+    → TakesToken c t d.cursor → Opens t c d → d.adjacent ≡ c.adjacent → FitsWithin within t → IsParted t c d
     → IsRight d → is_of_flow_node t.kind t.span ≡ false → in_block c ≡ true
     → (c.required ≡ true → c.level.key ≡ None) → (d.required ≡ true → c.required ≡ true)
-    → d.level.key ≡ None → d.outer ≡ [] → in_block d ≡ true
-    → HoldsWithin within opened from c q
+    → d.level.key ≡ None → d.outer ≡ c.outer → in_block d ≡ true → HoldsWithin within opened from c q
     → HoldsWithin (calm (enclosures_behind t.kind t.span within)) opened from d (with_piece t q)
-loud_put within opened from c d q t here behind a is b o stays fit parted right other block none back k n f h = record {
-  taken = holds_put within opened from c d q t here behind a is b o (inl stays) fit parted right
+loud_put {within} {opened} {from} {q} c d t token o stays fit parted right other block none back k n f h = record {
+  taken = holds_put c d t token o (inl stays) fit parted right
       (λ line w. indented_alone opened.enclosures c d q t (no_node_fits opened.enclosures q t other)
       (λ e. none_own within opened from c q h (none e) block) back w) h;
-  keys = no_keys opened.enclosures (next (with_piece t q)) (with_piece t q) d.indent d.level d.outer k n f;
+  keys = no_keys opened.enclosures (next (with_piece t q)) (with_piece t q) d.indent d.level d.outer k
+      (n ∙ outermost within opened from c q h block) f;
 }
 
 -- ## What is passed

@@ -174,7 +174,7 @@ end_fetched opened from s h =
     by_test s.core.required _ _ (Given P) (λ _. tt)
     (λ _. record {
       taken = taken_put (enclosures_of t.core) opened from t.core (document.core_at_end t.core) t.queue
-          (empty_piece m tokens.StreamEnd) t.core.cursor t.core.cursor (taken.nothing _ _) (λ _ _.
+          (empty_piece m tokens.StreamEnd) t.core.cursor (λ _ _.
           (ap (λ (c : Cursor). c.rest) same ∙ empty, (refl, there, refl))) (taken.nothing _ _)
           (λ cs k. k) (inl refl) refl
           (unbound_parted (empty_piece m tokens.StreamEnd) t.core (document.core_at_end t.core) refl

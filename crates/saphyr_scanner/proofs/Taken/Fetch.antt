@@ -1,5 +1,5 @@
 -- Each token that is fetched is taken from the text.
-use Rattle.saphyr_scanner.proofs.Common.{◌≡◌, ℕ, ◌^◌, ◌<◌, true, false, List, [], length, None, Result, Ok, Err, refl, ◌∙◌, inl, inr, arith, ◌&&◌, ◌==◌, slice_index, not, nat_lt, nat_le, codes, is_z, is_bom, is_document_start, is_document_end, Marker, Refusal, Cursor, start_cursor, ◌>>=◌, by_test, and_false, Given, given_bind, given_of, and_parts, not-true, eqb-true, ltb-false}
+use Rattle.saphyr_scanner.proofs.Common.{◌≡◌, ℕ, ◌^◌, ◌<◌, true, false, List, [], length, None, Result, Ok, Err, refl, ◌∙◌, inl, inr, arith, ◌&&◌, ◌==◌, slice_index, not, nat_lt, nat_le, is_z, is_bom, is_document_start, is_document_end, Marker, Refusal, Cursor, start_cursor, ◌>>=◌, by_test, and_false, Given, given_bind, given_of, and_parts, not-true, eqb-true, ltb-false}
 use Rattle.saphyr_scanner.specs.Grammar.Tokens as tokens
 use Rattle.saphyr_scanner.specs.Steps.Queue.{Queue, with_piece, next, empty_piece}
 use Rattle.saphyr_scanner.specs.Steps.Core.{StepResult, in_block, is_too_far, forget_key, drop_far_key, least_column}
@@ -17,7 +17,7 @@ use Rattle.saphyr_scanner.proofs.Taken.Parts.{tokens_part}
 use Rattle.saphyr_scanner.proofs.Taken.Bare.{plain_fronts}
 use Rattle.saphyr_scanner.proofs.Taken.Held.{enclosures_of, Setting, unbound_parted, taken_put}
 use Rattle.saphyr_scanner.proofs.Taken.Indented.{no_node_fits, indented_put}
-use Rattle.saphyr_scanner.proofs.Taken.Cores.{no_keys, quiet_put}
+use Rattle.saphyr_scanner.proofs.Taken.Cores.{no_keys, quiet_put, HoldsTaken}
 use Rattle.saphyr_scanner.proofs.Effects.Walked.{Premises, Walked, walked_given, Stepped}
 use Rattle.saphyr_scanner.proofs.Effects.Documents.{Documented, start_walked, end_marker_walked, mark_walked, directive_walked, documents_advance, documents_hold}
 use Rattle.saphyr_scanner.proofs.Taken.States.{line_small, taken_later, unrolled_required, Live, Fetched, holds_fetched, FetchedStep, TakenState}
@@ -129,12 +129,12 @@ begin_live : (opened : Setting) (from : Cursor) (s : State) → s.core.level.key
     → Live opened.enclosures (record s.core { started = true })
     (with_piece (empty_piece s.core.cursor.mark tokens.StreamStart) s.queue)
 begin_live opened from s none at h l nz =
-    (quiet_put (enclosures_of s.core) opened from s.core (record s.core { started = true }) s.queue
-    (empty_piece s.core.cursor.mark tokens.StreamStart) s.core.cursor s.core.cursor refl (λ x. refl)
-    (λ d. refl) refl none refl
+    let held : HoldsTaken opened from s.core s.queue = record { taken = h; keys = l nz } in
+    (quiet_put s.core (record s.core { started = true }) (empty_piece s.core.cursor.mark tokens.StreamStart)
+    (record { quiet = refl; brackets = λ x. refl; depth = λ d. refl; no_node = refl }) none
+    (s.core.cursor, (λ _ _. (at, (refl, inl refl, refl))), taken.nothing _ _) refl
     (unbound_parted (empty_piece s.core.cursor.mark tokens.StreamStart) s.core (record s.core { started = true }) refl
-    (plain_fronts _ s.core (record s.core { started = true }) refl))
-    h.right (taken.nothing _ _) (λ _ _. (at, (refl, inl refl, refl))) (taken.nothing _ _)
+    (plain_fronts _ s.core (record s.core { started = true }) refl)) h.right
     (record {
       block = refl;
       key = refl;
@@ -143,8 +143,7 @@ begin_live opened from s none at h l nz =
       outer_indents = refl;
       adjacent = refl;
       required = refl;
-    })
-    (record { taken = h; keys = l nz })).keys
+    }) held).keys
 
 begin_read : (opened : Setting) (from : Cursor) (s : State) → s.core.ended ≡ false → s.core.level.key ≡ None
     → s.core.cursor.mark.index ≡ 0 → TakenState opened from s → Live opened.enclosures s.core s.queue
@@ -152,7 +151,7 @@ begin_read : (opened : Setting) (from : Cursor) (s : State) → s.core.ended ≡
 begin_read opened from s going none at h l = record {
   fetched = record {
     taken = taken_put (enclosures_of s.core) opened from s.core (record s.core { started = true }) s.queue
-        (empty_piece s.core.cursor.mark tokens.StreamStart) s.core.cursor s.core.cursor (taken.nothing _ _)
+        (empty_piece s.core.cursor.mark tokens.StreamStart) s.core.cursor
         (λ _ _. (at, (refl, inl refl, refl))) (taken.nothing _ _) (λ cs k. (k.0, k.1)) (inl refl) refl
         (unbound_parted (empty_piece s.core.cursor.mark tokens.StreamStart) s.core (record s.core { started = true })
         refl (plain_fronts _ s.core (record s.core { started = true }) refl)) h.right

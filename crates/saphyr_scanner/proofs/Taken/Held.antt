@@ -98,12 +98,11 @@ EndsJson t = (b : Bool) → ends_json_behind t.kind t.span b ≡ true
 abbrev pub Adjoins : Piece → Core → Core → Type 0
 Adjoins t c d = (d.adjacent ≡ c.adjacent) ⊎ ((d.adjacent ≡ d.cursor.mark.index) × EndsJson t)
 
-keeps_put : (i : Surroundings) (c d : Core) (t : Piece) (here behind : Cursor) (opened : Collections)
-    → AreApart c.cursor here → IsToken i t.kind t.span here behind → AreApart behind d.cursor
-    → i.in_flow ≡ nat_lt 0 (length c.outer) → opened.brackets ≡ length c.outer
+keeps_put : (i : Surroundings) (c d : Core) (t : Piece) (behind : Cursor) (opened : Collections)
+    → IsToken i t.kind t.span c.cursor behind → AreApart behind d.cursor → i.in_flow ≡ nat_lt 0 (length c.outer) → opened.brackets ≡ length c.outer
     → (open_behind t.kind t.span opened).brackets ≡ length d.outer → Adjoins t c d → KeepsPlace opened.ends_json c
     → KeepsPlace (open_behind t.kind t.span opened).ends_json d
-keeps_put i c d t here behind opened a is b flows before after adjoins k = grind
+keeps_put i c d t behind opened is b flows before after adjoins k = grind
     (arith, apart_later, token_later, ltb-false, token_goes_on)
 
 -- ## The tokens
@@ -313,22 +312,19 @@ abbrev pub PutsIndented : Setting → Core → Core → Queue → Piece → Type
 PutsIndented opened c d q t = c.cursor.mark.line ≤ d.cursor.mark.line → Indented opened.enclosures c q
     → Indented opened.enclosures d (with_piece t q)
 
--- a token is put after the others
+-- a token is put after the others, from the place that is reached
 pub taken_put : (within : Enclosures) (opened : Setting) (from : Cursor) (c d : Core) (q : Queue) (t : Piece)
-    (here behind : Cursor)
-    → AreApart c.cursor here
-    → ((b : Bool) → KeepsPlace b c → IsToken (surroundings_of b c) t.kind t.span here behind)
+    (behind : Cursor) → ((b : Bool) → KeepsPlace b c → IsToken (surroundings_of b c) t.kind t.span c.cursor behind)
     → AreApart behind d.cursor → Opens t c d → Adjoins t c d → FitsWithin within t → IsParted t c d → IsRight d
     → PutsIndented opened c d q t → TakenWithin within opened from c q
     → TakenWithin (calm (enclosures_behind t.kind t.span within)) opened from d (with_piece t q)
-taken_put within opened from c d q t here behind a known b o adjoins f parted right puts h =
+taken_put within opened from c d q t behind known b o adjoins f parted right puts h =
     let open_now = open_all (flat q.places) opened.collections in
     let around = surroundings_of open_now.ends_json c in
     let is = known open_now.ends_json h.place in
     let i : surroundings_in open_now ≡ around = stands_in open_now c h.stands in
     let stands_then = o open_now h.stands in
-    let apart = apart_apart h.last.mark h.last.rest c.cursor.mark c.cursor.rest here.mark here.rest h.apart a in
-    let one : AreTokens open_now (t ∷ []) h.last behind = (here, behind, apart, rw i is, refl) in
+    let one : AreTokens open_now (t ∷ []) h.last behind = (c.cursor, behind, h.apart, rw i is, refl) in
     let all = tokens_append opened.collections (flat q.places) (t ∷ []) from h.last behind h.tokens one in
     let same : flat q.places ++ t ∷ [] ≡ flat (with_piece t q).places = sym (flat_put t q) in
     let open_then : open_all (flat (with_piece t q).places) opened.collections ≡ open_behind t.kind t.span open_now =
@@ -342,10 +338,8 @@ taken_put within opened from c d q t here behind a known b o adjoins f parted ri
     ≡ front_behind t.kind (fronts (flat q.places) opened.front) =
     ap (λ l. fronts l opened.front) (flat_put t q) ∙ fronts_append (flat q.places) (t ∷ []) opened.front in
     let first = (tokens_later opened.collections (flat q.places) from h.last h.tokens).lines h.small in
-    let last = (apart_later h.last.mark h.last.rest here.mark here.rest apart).lines first.1 in
-    let own = (apart_later c.cursor.mark c.cursor.rest here.mark here.rest a).lines
-    ((apart_later h.last.mark h.last.rest c.cursor.mark c.cursor.rest h.apart).lines first.1).1 in
-    let token = (token_later around t.kind t.span here behind is).lines last.1 in
+    let here = (apart_later h.last.mark h.last.rest c.cursor.mark c.cursor.rest h.apart).lines first.1 in
+    let token = (token_later around t.kind t.span c.cursor behind is).lines here.1 in
     let ends = (apart_later behind.mark behind.rest d.cursor.mark d.cursor.rest b).lines token.1 in
     record {
       last = behind;
@@ -356,16 +350,15 @@ taken_put within opened from c d q t here behind a known b o adjoins f parted ri
           (put_fits within now t c d h.encloses f parted h.past, tt));
       encloses = cc (behind_begun t.kind t.span (calmed now.begun) now);
       small = h.small;
-      ends = rw begun (begun_ends around t.kind t.span here behind last.1 is);
+      ends = rw begun (begun_ends around t.kind t.span c.cursor behind here.1 is);
       past = λ e small. rw begun (parted.1 e small);
       bare = subst (AreBare opened.front) same
           (bare_append (flat q.places) (t ∷ []) opened.front h.bare (fit.0, tt));
       agrees = h.agrees;
       entry = subst (λ f. IsEntry f d) (sym front) fit.1;
-      indented = puts (omega (arith, own.0, token.0, ends.0)) h.indented;
+      indented = puts (omega (arith, token.0, ends.0)) h.indented;
       right = right;
-      place = rw open_then (keeps_put around c d t here behind open_now a is b refl h.stands.1 stands_then.1 adjoins
-          h.place);
+      place = rw open_then (keeps_put around c d t behind open_now is b refl h.stands.1 stands_then.1 adjoins h.place);
     }
   where
     put_fits : (within now : Enclosures) (t : Piece) (c d : Core) → calm now ≡ within → FitsWithin within t

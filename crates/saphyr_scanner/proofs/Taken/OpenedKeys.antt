@@ -176,20 +176,24 @@ column_ends_json : (o : Opening) (column : ℕ) (opened : Collections)
     → (column_of o column opened).ends_json ≡ opened.ends_json
 column_ends_json o column opened = grind arith
 
+-- nothing is passed, and no flow collection is entered or left
+pub record Unmoved (c d : Core) : Type 0 where
+  pub cursor : d.cursor ≡ c.cursor
+  pub allowed : d.key_allowed ≡ c.key_allowed
+  pub levels : length d.outer ≡ length c.outer
+  pub adjacent : d.adjacent ≡ c.adjacent
+  pub block : in_block d ≡ in_block c
+
 -- the tokens, where a candidate of the innermost level turns out to be a key
-pub taken_open : (e : Enclosure) (outside : Outside) (opened : Setting) (from : Cursor) (c d : Core) (q : Queue)
-    (b : ℕ) (block : Bool) (k : Candidate)
-    (o : Opening) → Key opened.enclosures 0 b q block c.indent k → (opens_block o ≡ true → block ≡ true)
-    → (o ≡ opening.FlowMappingAndKey → block ≡ false) → in_block c ≡ block → in_block d ≡ block
-    → (opens_block o ≡ true → EndsOnLine k.mark c.cursor)
-    → (opens_block o ≡ true → c.indent ≤ k.mark.col) → (opens_block o ≡ false → block ≡ true → k.mark.col < c.indent)
-    → (block ≡ false → 0 < length c.outer) → MayOpen o e → d.cursor ≡ c.cursor → d.key_allowed ≡ c.key_allowed
-    → length d.outer ≡ length c.outer → d.adjacent ≡ c.adjacent
-    → ((open_now : Collections) → Stands open_now c → Stands (column_of o k.mark.col open_now) d)
+pub taken_open : {opened : Setting} {from : Cursor} {q : Queue} {b : ℕ} (e : Enclosure) (outside : Outside)
+    (c d : Core) (k : Candidate) (o : Opening) → Key opened.enclosures 0 b q (in_block c) c.indent k
+    → (opens_block o ≡ true → (in_block c ≡ true) × EndsOnLine k.mark c.cursor × (c.indent ≤ k.mark.col))
+    → (opens_block o ≡ false → in_block c ≡ true → k.mark.col < c.indent)
+    → (o ≡ opening.FlowMappingAndKey → in_block c ≡ false) → (in_block c ≡ false → 0 < length c.outer)
+    → MayOpen o e → Unmoved c d → ((open_now : Collections) → Stands open_now c → Stands (column_of o k.mark.col open_now) d)
     → (IsRight c → IsRight d) → OpensKey c d k → TakenWithin (free e outside) opened from c q
     → TakenWithin (awaited o k.mark (free e outside)) opened from d (with_opening k.place o q)
-taken_open e outside opened from c d q b block k o x f flow before behind near right left outer m there allowed levels
-    stays s on opens h =
+taken_open {opened} {from} {q} e outside c d k o x block left flow outer m unmoved s on opens h =
     let n : k.place - q.handed ≡ length x.front = omega (arith, x.at) in
     let now : (with_opening k.place o q).places ≡ x.front ++ place_with_front o x.token ∷ x.back =
     cc (with_opening_there o x.front (bare_place x.token) x.back) in
@@ -203,32 +207,32 @@ taken_open e outside opened from c d q b block k o x f flow before behind near r
     ap (λ l. open_all (flat l) opened.collections) x.places
     ∙ ap (λ l. open_all l opened.collections) (flat_append x.front (bare_place x.token ∷ x.back))
     ∙ open_append (flat x.front) (x.token ∷ flat x.back) opened.collections in
-    let indent : block ≡ true → least_column_in now_open.columns ≡ c.indent =
+    let indent : in_block c ≡ true → least_column_in now_open.columns ≡ c.indent =
     λ g. ap least_column_in (sym (quiet_columns (x.token ∷ flat x.back) now_open x.quiet)
     ∙ ap (λ (y : Collections). y.columns) (sym same))
     ∙ stack_indent (open_all (flat q.places) opened.collections).columns c.indent c.outer_indents h.stands.0 in
     let further : opens_block o ≡ true → least_column_in now_open.columns ≤ x.token.span.start.col =
-    λ g. let i = indent (f g) in let r = right g in omega (arith, i, r, column) in
+    λ g. let i = indent (block g).0 in let r = (block g).2 in omega (arith, i, r, column) in
     let brackets : now_open.brackets ≡ length c.outer =
     let b = same_brackets (x.token ∷ flat x.back) now_open 0 0 (omega arith) x.inside in
     let n = ap (λ (y : Collections). y.brackets) same in
     omega (arith, b, n, h.stands.1) in
-    let by : (b : Bool) → block ≡ b → opens_block o ≡ false → nat_lt 0 now_open.brackets ≡ false
+    let by : (b : Bool) → in_block c ≡ b → opens_block o ≡ false → nat_lt 0 now_open.brackets ≡ false
     → IsAtColumn (least_column_in now_open.columns) x.token.span.start = λ b g. elim b as
-    (λ y. block ≡ y → opens_block o ≡ false → nat_lt 0 now_open.brackets ≡ false
+    (λ y. in_block c ≡ y → opens_block o ≡ false → nat_lt 0 now_open.brackets ≡ false
     → IsAtColumn (least_column_in now_open.columns) x.token.span.start) [
       | true ↦ λ e n z. let i = indent e in let l = left n e in let w = x.deep e in omega (arith, i, l, w, column)
       | false ↦ λ e n z. absurd (let some = outer e in let none = ltb-false 0 now_open.brackets z in
           omega (arith, some, none, brackets))
     ] g in
     let on_line : opens_block o ≡ true → EndsOnLine x.token.span.start h.last = λ g.
-    let last = (apart_later h.last.mark h.last.rest c.cursor.mark c.cursor.rest h.apart).kept (near g).1 in
+    let last = (apart_later h.last.mark h.last.rest c.cursor.mark c.cursor.rest h.apart).kept (block g).1.1 in
     let start = ap (λ (m : Marker). m.line) x.marked in (
-      omega (arith, last, start, (near g).0),
-      omega (arith, last, (near g).1),
+      omega (arith, last, start, (block g).1.0),
+      omega (arith, last, (block g).1.1),
     ) in
     let all = place_tokens opened.collections o x.front x.token x.back from h.last x.begins quiet
-    on_line further x.inside (by block refl) (subst P x.places h.tokens) in
+    on_line further x.inside (by (in_block c) refl) (subst P x.places h.tokens) in
     let stands_now = s (open_all (flat (x.front ++ bare_place x.token ∷ x.back)) opened.collections)
     (subst S x.places h.stands) in
     let is : open_all (flat (x.front ++ place_with_front o x.token ∷ x.back)) opened.collections
@@ -236,9 +240,9 @@ taken_open e outside opened from c d q b block k o x f flow before behind near r
     place_open opened.collections o x.front x.token x.back quiet
     ∙ ap (λ j. column_of o j (open_all (flat (x.front ++ bare_place x.token ∷ x.back)) opened.collections)) column in
     let now_begun = (all_behind (flat x.front) opened.enclosures).begun in
-    let past : (y : Bool) → block ≡ y → IsPast now_begun y x.token.span.start.line = λ y g.
+    let past : (y : Bool) → in_block c ≡ y → IsPast now_begun y x.token.span.start.line = λ y g.
     subst (λ z. IsPast now_begun z x.token.span.start.line) g
-    (subst (λ (j : Marker). IsPast now_begun block j.line) (sym x.marked) x.past) in
+    (subst (λ (j : Marker). IsPast now_begun (in_block c) j.line) (sym x.marked) x.past) in
     let bare_before = bare_parts (flat x.front) (x.token ∷ flat x.back) opened.front
     (subst (AreBare opened.front) (ap flat x.places ∙ flat_append x.front (bare_place x.token ∷ x.back)) h.bare) in
     let bare_now = bare_opened o x.token (flat x.back) (fronts (flat x.front) opened.front) now_begun
@@ -250,7 +254,7 @@ taken_open e outside opened from c d q b block k o x f flow before behind near r
     ap (λ l. fronts l opened.front) pieces
     ∙ fronts_append (flat x.front) (place_pieces o x.token ++ flat x.back) opened.front ∙ bare_now.ends in
     let places = place_in_place e outside opened.enclosures o x.front x.token x.back m
-    (λ g. past true (f (ap opens_block g))) x.quiet x.inside
+    (λ g. past true (block (ap opens_block g)).0) x.quiet x.inside
     (subst (λ l. AreInPlace opened.enclosures (flat l)) x.places h.in_place)
     (ap (λ l. calm (all_behind (flat l) opened.enclosures)) (sym x.places) ∙ h.encloses) in
     let begun : (all_behind (flat (with_opening k.place o q).places) opened.enclosures).begun
@@ -261,7 +265,7 @@ taken_open e outside opened from c d q b block k o x f flow before behind near r
     record {
       last = h.last;
       tokens = subst P (sym now) all;
-      apart = subst R (sym there) h.apart;
+      apart = subst R (sym unmoved.cursor) h.apart;
       stands = subst Q (sym now) (subst (λ (l : Collections). Stands l d) (sym is) stands_now);
       in_place = subst (λ l. AreInPlace opened.enclosures (flat l)) (sym now) places.in_place;
       encloses = ap (λ l. calm (all_behind (flat l) opened.enclosures)) now ∙ places.behind
@@ -271,20 +275,21 @@ taken_open e outside opened from c d q b block k o x f flow before behind near r
           opened.collections)) ∙ ap (λ (y : Collections). y.ends_json) (sym is)
           ∙ ap (λ l. (open_all (flat l) opened.collections).ends_json) (sym now))
           (keeps_further (open_all (flat q.places) opened.collections).ends_json c d
-          (omega (arith, ap (λ (u : Cursor). u.mark.index) there)) stays levels h.place);
+          (omega (arith, ap (λ (u : Cursor). u.mark.index) unmoved.cursor)) unmoved.adjacent unmoved.levels
+          h.place);
       small = h.small;
       indented = indented_open opened.enclosures c d q (with_opening k.place o q) k x.front x.back
           (bare_place x.token) (place_with_front o x.token) x.places now refl x.at
           (λ l. subst (λ ps. AreIndented opened.enclosures (flat ps)) (sym now) (places.indented l))
-          (let line = ap (λ (u : Cursor). u.mark.line) there in omega (arith, line)) opens h.indented;
+          (let line = ap (λ (u : Cursor). u.mark.line) unmoved.cursor in omega (arith, line)) opens h.indented;
       right = on h.right;
       ends = subst (λ g. EndsOn g h.last.mark.line) (sym begun) h.ends;
       past = λ i small. subst (λ g. IsPast g (in_block d) d.cursor.mark.line) (sym begun) (subst
           (λ (u : Cursor). IsPast (all_behind (flat q.places) opened.enclosures).begun (in_block d) u.mark.line)
-          (sym there) (subst
+          (sym unmoved.cursor) (subst
           (λ z. IsPast (all_behind (flat q.places) opened.enclosures).begun z c.cursor.mark.line)
-          (before ∙ sym behind)
-          (h.past (sym allowed ∙ i) (subst (λ (u : Cursor). u.mark.line < top) there small))));
+          (sym unmoved.block)
+          (h.past (sym unmoved.allowed ∙ i) (subst (λ (u : Cursor). u.mark.line < top) unmoved.cursor small))));
       bare = subst (AreBare opened.front) (sym pieces) (bare_append (flat x.front)
           (place_pieces o x.token ++ flat x.back) opened.front bare_before.0 bare_now.bare);
       agrees = h.agrees;

@@ -1,5 +1,5 @@
 -- Each token of a text leads from a place of it to a later one, and begins and ends at places of it.
-use Rattle.saphyr_scanner.proofs.Common.{◌≡◌, ℕ, Bool, ◌⊎◌, true, false, List, [], ◌∷◌, ◌++◌, IsFalse, refl, sym, ap, arith, subst, inl, inr, slice_index, is_blank, is_break, is_blank_or_break, Marker, Span, BlockStyle, Quote, Single, Double, Cursor, start_cursor, version, tag_prefix, reserved, end_of_text, IsPlainReading, NoBreaks, directive_no_break, Piece, or_false_right}
+use Rattle.saphyr_scanner.proofs.Common.{◌≡◌, ℕ, Bool, true, false, List, [], ◌∷◌, ◌++◌, IsFalse, refl, ap, arith, inl, inr, slice_index, is_blank, is_break, is_blank_or_break, Marker, Span, BlockStyle, Quote, Single, Double, Cursor, start_cursor, version, tag_prefix, reserved, end_of_text, IsPlainReading, NoBreaks, directive_no_break, Piece, or_false_right}
 use Rattle.saphyr_scalar.specs.declared.scalar.style.ScalarStyle.TheVariants as style
 use Rattle.saphyr_scalar.specs.declared.values.BlockStyle.TheVariants as block_style
 use Rattle.saphyr_scanner.specs.Grammar.Tokens as tokens

@@ -226,10 +226,9 @@ open_quiet e outside opened from c q k o f flow m left is h =
     let n = next_open k.place o q in
     let r = with_opening k.place o q in
     record {
-      taken = taken_open e outside opened from c (forget_key c) q (next q) (is_block c.level.context) k o key
-          (λ g. absurd (cc)) flow refl refl (λ g. absurd (cc)) (λ g. absurd (cc)) (λ _ g. left g)
+      taken = taken_open e outside c (forget_key c) k o key (λ g. absurd (cc)) (λ _ g. left g) flow
           (λ g. some_outer c.outer (sym h.keys.0 ∙ g)) m
-          refl refl refl refl (λ l s. rw (quiet_column o k.mark.col l f) s) (λ right. right)
+          (record { cursor = refl; allowed = refl; levels = refl; adjacent = refl; block = refl }) (λ l s. rw (quiet_column o k.mark.col l f) s) (λ right. right)
           (by (in_block c) refl known.1) h.taken;
       keys = (
         h.keys.0,
@@ -270,10 +269,9 @@ open_loud e outside opened from c q k b may near right other is h =
     let d : Core = forget_key (enter_block k.mark.col c) in
     let r = with_opening k.place opening.BlockMappingAndKey q in
     record {
-      taken = taken_open e outside opened from c d q (next q) (is_block c.level.context) k opening.BlockMappingAndKey
-          known.0
-          (λ f. b) (λ f. absurd (cc)) refl refl (λ f. near) (λ f. right) (λ f. absurd (cc)) (λ f. absurd (cc)) may
-          refl refl refl refl
+      taken = taken_open e outside c d k opening.BlockMappingAndKey known.0 (λ _. (b, near, right))
+          (λ f. absurd (cc)) (λ f. absurd (cc)) (λ f. absurd (cc)) may
+          (record { cursor = refl; allowed = refl; levels = refl; adjacent = refl; block = refl })
           (λ l s. ((refl, s.0), s.1)) (λ _ _ _ _. inr other)
           (inl (own_key c (outermost (free e outside) opened from c q h b) ∙ is, rw b refl)) h.taken;
       keys = no_keys opened.enclosures (next r) r d.indent d.level d.outer refl

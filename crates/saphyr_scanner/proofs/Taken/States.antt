@@ -25,9 +25,7 @@ use Rattle.saphyr_scanner.proofs.Taken.Held.{Stack, stands_same, enclosures_of, 
 use Rattle.saphyr_scanner.proofs.Taken.Indented.{IsRight, IsPastLine, KeepsRequired, no_node_fits, indented_put}
 use Rattle.saphyr_scanner.proofs.Taken.Keys.{Key, Keys, IsArrival}
 use Rattle.saphyr_scanner.proofs.Taken.Cores.{HoldsTaken, no_keys, outermost}
-use Rattle.saphyr_scanner.proofs.Taken.SavedKeys.{IsSaved, Saved, saved_indented, saved_enclosures}
-use Rattle.saphyr_scanner.proofs.Taken.SavedKeys.{apart_same}
-use Rattle.saphyr_scanner.proofs.Taken.SavedKeys.{key_known}
+use Rattle.saphyr_scanner.proofs.Taken.SavedKeys.{IsSaved, Saved, saved_indented, saved_enclosures, apart_same, key_known}
 use Rattle.saphyr_scanner.proofs.Effects.Readers.{TextLaws}
 use Rattle.saphyr_scanner.proofs.Queues.{flat_append}
 
@@ -142,16 +140,15 @@ block_calm style value span all = grind arith
 -- outside brackets alone, so no level is around (`outermost`). A candidate that it leaves behind is too far, as the
 -- scalar goes over a line's end (`far_of`), or else the text is at its end.
 pub block_fetched : TextLaws → (text : List ℕ) → length text < 2 ^ 63
-    → (opened : Setting) (from : Cursor) (q : Queue) (style : BlockStyle) (c d : Core)
-    → LaterThan (start_cursor text) from
-    → Saved (next q) c d → d.adjacent ≡ c.adjacent → d.key_allowed ≡ true → IsArrival c → HoldsTaken opened from c q
+    → {opened : Setting} {from : Cursor} {q : Queue} {c d : Core} (style : BlockStyle)
+    → LaterThan (start_cursor text) from → Saved (next q) c d → d.adjacent ≡ c.adjacent → d.key_allowed ≡ true → IsArrival c → HoldsTaken opened from c q
     → in_block c ≡ true → in_block d ≡ true → slice_index c.cursor.rest 0 ≡ taken.block_indicator style
     → (x : List ℕ × Span × Cursor) → blocks.block_scalar style c.indent c.cursor ≡ Ok x
     → Fetched opened from (with_cursor x.2 d) (with_piece (record {
       span = record { start = x.1.start; end = x.1.end };
       kind = tokens.Scalar (scalar.style_of style) x.0;
     }) q)
-block_fetched laws text small opened from q style c d l s stays allowed arrival h b bd first x e =
+block_fetched laws text small {opened} {from} {q} {c} {d} style l s stays allowed arrival h b bd first x e =
     let p = laws.block_place style c.indent c.cursor x.2 x.0 x.1 first e in
     let piece : Piece = record {
       span = record { start = x.1.start; end = x.1.end };
@@ -183,7 +180,7 @@ block_fetched laws text small opened from q style c d l s stays allowed arrival 
       taken = taken_within (calm (enclosures_behind piece.kind piece.span (enclosures_of c))) (enclosures_of e2) opened
           from e2 (with_piece piece q)
           (saved_enclosures (next q) c d s ∙ sym (block_calm style x.0 piece.span (enclosures_of c)))
-          (taken_put (enclosures_of c) opened from c e2 q piece c.cursor x.2 (taken.nothing _ _)
+          (taken_put (enclosures_of c) opened from c e2 q piece x.2
           (λ i _. rw none (block_token style c.indent i x.0 x.1 c.cursor x.2 is)) (taken.nothing _ _)
           (λ cs k. stands_same cs c e2 s.indent s.outer_indents (ap length s.outer) k) (inl stays) refl
           (unbound_parted piece c e2 (rw (no_flow_style style) refl) (plain_fronts piece c e2 refl))
@@ -255,7 +252,7 @@ block_taken opened from column m s e p h =
     taken_within (block_ended (enclosures_of s.core)) (enclosures_of (end_block m s).core) opened from
     (end_block m s).core (end_block m s).queue (ended_enclosures column m s e)
     (taken_put (enclosures_of s.core) opened from s.core (end_block m s).core s.queue (empty_piece m tokens.BlockEnd)
-    s.core.cursor s.core.cursor (taken.nothing _ _) (λ _ _. block_end column m s.core.indent s.core.cursor e p)
+    s.core.cursor (λ _ _. block_end column m s.core.indent s.core.cursor e p)
     (apart_same s.core.cursor (end_block m s).core.cursor (block_cursor m s))
     (λ x k. (
       outer_indent_stack s.core.outer_indents x.columns s.core k.0,

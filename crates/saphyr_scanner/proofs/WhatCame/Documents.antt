@@ -103,8 +103,8 @@ module _ (more : List ℕ) where
   unfolding state_behind_byte_order_mark
   byte_order_came s mark = choose (nat_lt 0 s.core.cursor.mark.col || not (in_block s.core))
       (λ _. reports (shows is_bom true s.core.cursor.rest mark (λ e. absurd (cc))))
-      (λ _. and_then _ (content_came 0 s some_of_four) (λ t _. on (λ c. Ok (put_passed s.core.cursor.mark tokens.ByteOrderMark c t))
-      (mark_came t.core) stays))
+      (λ _. and_then _ (content_came 0 s some_of_four) (λ t _.
+      on (λ c. Ok (put_passed s.core.cursor.mark tokens.ByteOrderMark c t)) (mark_came t.core) stays))
 
   -- ## Directives
 

@@ -1,5 +1,5 @@
 -- What is between two tokens.
-use Rattle.std.proofs.Common.{◌≡◌, ℕ, Bool, true, false, List, [], ◌∷◌, ◌++◌, Option, Some, None, Result, Ok, refl, arith}
+use Rattle.std.proofs.Common.{◌≡◌, ℕ, Bool, true, false, List, [], ◌∷◌, ◌++◌, Option, Some, None, Result, Ok, refl}
 use Rattle.std.specs.Prelude.{◌&&◌, ◌||◌, ◌==◌, not}
 use Rattle.saphyr_input.specs.Classes.{is_bom, is_z, is_yaml_non_break}
 use Rattle.saphyr_input.proofs.Basics.Booleans.{and_true_left, either}

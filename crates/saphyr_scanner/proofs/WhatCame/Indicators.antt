@@ -64,8 +64,8 @@ module _ (more : List ℕ) where
   mark_came : (space : Bool) (c : Core)
       → Sure cores more c.cursor.rest (behind_mark space c) (behind_mark space (longer_core more c))
   unfolding behind_mark
-  mark_came space c = choose (not space) (λ _. missing_refused 0 c.cursor.rest (λ left. left)) (λ _. choose_first (λ x. x == 9)
-      (λ is. reports (shows_is 9 c.cursor.rest refl is)) (λ _. stays))
+  mark_came space c = choose (not space) (λ _. missing_refused 0 c.cursor.rest (λ left. left))
+      (λ _. choose_first (λ x. x == 9) (λ is. reports (shows_is 9 c.cursor.rest refl is)) (λ _. stays))
 
   question_came : (c : Core)
       → Sure cores more (drop 1 c.cursor.rest) (pass_question c) (pass_question (longer_core more c))
@@ -80,8 +80,8 @@ module _ (more : List ℕ) where
       (λ _. and_then _ (and_then _
       (on (λ d. remove_key (with_context (behind_question c.level.context) d)) (roll_came more 1 c c.cursor.mark.col)
       (remove_came more 1 (with_context (behind_question c.level.context) (roll c.cursor.mark.col c))
-      (second_of_four (roll c.cursor.mark.col c).cursor.rest))) (λ d _. question_came (record d { key_allowed = in_block d })))
-      (λ d _. stays))
+      (second_of_four (roll c.cursor.mark.col c).cursor.rest)))
+      (λ d _. question_came (record d { key_allowed = in_block d }))) (λ d _. stays))
 
   -- ## Flow collections
 
@@ -121,8 +121,8 @@ module _ (more : List ℕ) where
 
   pub flow_entry_came : (c : Core) → Stepped c (flow_entry_steps c) (flow_entry_steps (longer_core more c))
   unfolding flow_entry_steps next_flow_entry
-  flow_entry_came c = and_then _ (remove_came more 0 c (some_of_four c.cursor.rest)) (λ d _. further (later_drop 1 _) (and_then _
-      (on separate (pass_came more 1 (with_context (behind_entry d.level.context) (record d { key_allowed = true })))
+  flow_entry_came c = and_then _ (remove_came more 0 c (some_of_four c.cursor.rest))
+      (λ d _. further (later_drop 1 _) (and_then _ (on separate (pass_came more 1 (with_context (behind_entry d.level.context) (record d { key_allowed = true })))
       (separate_came more _)) (λ e _. stays)))
 
   -- ## The colon

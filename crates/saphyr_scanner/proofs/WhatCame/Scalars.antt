@@ -1,5 +1,5 @@
 -- Scalars, and properties.
-use Rattle.std.proofs.Common.{◌≡◌, ℕ, true, false, List, refl, arith}
+use Rattle.std.proofs.Common.{◌≡◌, ℕ, true, false, List, arith}
 use Rattle.std.specs.Prelude.{◌&&◌, not, nat_lt}
 use Rattle.saphyr_scalar.specs.declared.values.BlockStyle.{BlockStyle}
 use Rattle.saphyr_scalar.specs.declared.values.Quote.{Quote}

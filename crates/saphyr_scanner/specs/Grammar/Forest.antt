@@ -3,8 +3,7 @@
 -- their escapes resolved, and so are the percent escapes of tags and prefixes.
 use Rattle.std.specs.Prelude.{◌≢◌, ℕ, ◌+◌, max, Bool, false, List, [], ◌∷◌, ◌++◌, Option, None, codes, encode_utf8_all}
 pub use Rattle.saphyr_scalar.specs.declared.scalar.style.ScalarStyle.{ScalarStyle}
-pub use Rattle.saphyr_scalar.specs.declared.scalar.style.ScalarStyle.TheVariants.{Plain, SingleQuoted, DoubleQuoted}
-pub use Rattle.saphyr_scalar.specs.declared.scalar.style.ScalarStyle.TheVariants.{Literal, Folded}
+pub use Rattle.saphyr_scalar.specs.declared.scalar.style.ScalarStyle.TheVariants.{Plain, SingleQuoted, DoubleQuoted, Literal, Folded}
 
 -- how a scalar is written (7.3, 8.1)
 abbrev pub Style : Type 0

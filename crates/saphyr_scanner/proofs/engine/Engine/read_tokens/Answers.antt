@@ -1,6 +1,5 @@
-use Rattle.std.proofs.Common.{◌≡◌, ℕ, false, true, Result, Ok, Err, rules, subst, sym, ◌∙◌}
-use Rattle.saphyr_scanner.specs.Steps.Fetch.{fetch_within, fill, needs_token}
-use Rattle.saphyr_scanner.specs.Steps.State.{State}
+use Rattle.std.proofs.Common.{◌≡◌, false, true, rules, sym, ◌∙◌}
+use Rattle.saphyr_scanner.specs.Steps.Fetch.{needs_token}
 use Rattle.saphyr_scanner.specs.Views.Engine.{state}
 use Rattle.saphyr_scanner.proofs.Handing.Filling.{read_is, smaller_read, fetched_is_one_more, settled_fill, filled_in_at_once}
 use Rattle.saphyr_scanner.proofs.engine.Engine.read_tokens.Goals as goal

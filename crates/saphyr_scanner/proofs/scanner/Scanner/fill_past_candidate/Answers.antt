@@ -1,7 +1,6 @@
 -- A candidate that is too far is dropped, and the tokens stay.
-use Rattle.std.proofs.Common.{◌≡◌, ◌∙◌, List, ℕ, false, rules, ap, sym}
-use Rattle.saphyr_scanner.specs.Steps.Fetch.{needs_token, without_far_key}
-use Rattle.saphyr_scanner.specs.Views.Scanning.{Scanning, tokens_in}
+use Rattle.std.proofs.Common.{◌≡◌, false, rules}
+use Rattle.saphyr_scanner.specs.Steps.Fetch.{needs_token}
 use Rattle.saphyr_scanner.proofs.Handing.Filling.{settled_once, still_settled}
 use Rattle.saphyr_scanner.proofs.Handing.Turns.{filled_ready, readies_from, stays_so}
 use Rattle.saphyr_scanner.proofs.scanner.Scanner.fill_past_candidate.Goals as goal

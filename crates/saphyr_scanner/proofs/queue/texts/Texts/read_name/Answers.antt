@@ -23,7 +23,5 @@ returns-in_ok-place-in-Ok g c =
     (IsUtf8-string_bytes old.texts) (IsUtf8-string_bytes new) in
     let text = drop (length before) grown in
     let read : name_whole here ≡ Ok (text, there.mark, tt {0}, there) = rw behind.0 refl in
-    token_placed (name_kind c.args.kind) here.mark c.mark-start.result there.mark c.mark.result c.args.self.now
-    (seen_texts old.spent before old.extents.items) c.of_text.new.texts there c.in_ok-place-in-Ok.place (tt {0}) text
-    (name_kind c.args.kind text) (name_whole here) c.mark-start.ensures.value c.mark.ensures.value refl c.self.view_is
+    token_placed (name_kind c.args.kind) c.mark-start.ensures.value c.mark.ensures.value refl c.self.view_is
     read (c.in_ok-place-in-Ok.ensures.place text (seen_texts old.spent before old.extents.items) added.0 added.1)

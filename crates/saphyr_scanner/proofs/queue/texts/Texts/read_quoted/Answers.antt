@@ -6,7 +6,6 @@ use Rattle.saphyr_scalar.specs.Steps.Quoted.{quoted}
 use Rattle.saphyr_scalar.specs.Views.Reader.{cursor_of}
 use Rattle.saphyr_scalar.proofs.Properties.TagSteps.{front_behind}
 use Rattle.saphyr_scanner.specs.Views.Reads.{quote_kind, quoted_whole}
-use Rattle.saphyr_scanner.specs.Views.Tokens.{kind_with, text_parts}
 use Rattle.saphyr_scanner.proofs.QueuedReads.{seen_texts, text_added, token_placed}
 use Rattle.saphyr_scanner.proofs.queue.texts.Texts.read_quoted.Goals as goal
 
@@ -30,9 +29,6 @@ returns-in_ok-place-in-Ok g c =
     let ends = rw c.mark-start.ensures.value at c.in_ok-is_at_end-in-Ok.ensures in
     let read : quoted_whole a.in_block a.quote a.indent here ≡ Ok (text, left.mark, at_end, left) =
     rw (behind.0, ends) refl in
-    token_placed (quote_kind a.quote) here.mark c.mark-start.result left.mark c.mark.result a.self.now
-    (seen_texts old.spent before old.extents.items) c.of_text.new.texts left c.in_ok-place-in-Ok.place
-    at_end text (kind_with c.kind_of.result (text_parts text))
-    (quoted_whole a.in_block a.quote a.indent here) c.mark-start.ensures.value c.mark.ensures.value
+    token_placed (quote_kind a.quote) c.mark-start.ensures.value c.mark.ensures.value
     (c.kind_of.ensures text) c.self.view_is read
     (c.in_ok-place-in-Ok.ensures.place text (seen_texts old.spent before old.extents.items) added.0 added.1)

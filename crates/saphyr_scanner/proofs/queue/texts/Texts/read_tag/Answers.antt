@@ -25,8 +25,6 @@ returns-in_ok-place-in-Ok g c =
     let text = drop (length before) grown in
     let both : List ℕ × List ℕ = (take handle text, drop handle text) in
     let read : tag_whole c.args.in_flow here ≡ Ok (both, there.mark, tt {0}, there) = rw behind.0 refl in
-    token_placed tag_kind here.mark c.mark-start.result there.mark c.mark-end.result c.args.self.now
-    (seen_texts old.spent before old.extents.items) c.of_texts.new.texts there c.in_ok-place-in-Ok.place (tt {0}) both
-    (tag_kind both) (tag_whole c.args.in_flow here) c.mark-start.ensures.value c.mark-end.ensures.value refl
+    token_placed tag_kind c.mark-start.ensures.value c.mark-end.ensures.value refl
     c.self.view_is read (c.in_ok-place-in-Ok.ensures.place (take handle text) (drop handle text)
     (seen_texts old.spent before old.extents.items) added.0 added.1 added.2)
