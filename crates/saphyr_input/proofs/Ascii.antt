@@ -2,14 +2,13 @@
 use Rattle.std.proofs.Common.{◌≡◌, ℕ, ◌+◌, ◌<◌, ◌≤◌, Bool, true, false, List, [], ◌∷◌, ◌++◌, length, take, drop, get_or, IsUtf8, refl, sym, ap, ◌∙◌, subst, arith, add-one, inl, inr, ◌&&◌, ◌==◌, encode_utf8, encode_utf8_all, zero, suc, lit<, add-zero, rules, length-append}
 use Rattle.std.specs.List.{prefix_len}
 use Rattle.std.specs.Str.{chars, IsAscii, IsCharBoundary}
-use Rattle.std.proofs.lemmas.Bool.{cases_lt, eqb-true}
+use Rattle.std.proofs.lemmas.Bool.{cases_lt, eqb-true, false≢true}
 use Rattle.std.proofs.lemmas.Bool.Decides.{nat_tests}
 use Rattle.std.proofs.lemmas.List.{append-nil, get_or_append_left, take-append-drop, drop_at, take_at, length-take-le, get_or-take, get_or-drop, drop_all, get_or_past}
 use Rattle.std.proofs.lemmas.List.Sums.{prefix_len-le-length, prefix_len_passes, prefix_len_stops}
 use Rattle.std.proofs.lemmas.Str.{chars-nil, chars-append, chars-IsAscii, IsUtf8-from_ascii, IsUtf8-drop, IsCharBoundary-start, IsCharBoundary-after_ascii, byte_from_char, char_from_byte, chars_from_encodes, length-encode, len_utf8_bounds}
 use Rattle.std.proofs.lemmas.Str.Ascii.{IsAscii-from_reads}
 use Rattle.std.specs.Prelude.{nat_lt, not}
-use Rattle.std.proofs.lemmas.Bool.{false≢true}
 use Rattle.saphyr_input.specs.Fronts.{ascii_in, IsAsciiClass, StandsFor, IsFirstByte, is_marker}
 use Rattle.saphyr_input.specs.Classes.{is_blank_or_breakz, is_yaml_non_break, is_yaml_non_space}
 use Rattle.saphyr_input.proofs.Basics.Booleans.{and_true_left, and_true_right}

@@ -158,18 +158,17 @@ pub record TakesWords (p : Set) (q : Joint) (start now text grown : List ℕ) (n
   pub countable : length start < 2 ^ 64
   pub moved : grown ≡ text ++ encode_utf8_all (take n start)
 
-turn : (p : Set) (q : Joint) (start now text grown : List ℕ) (n c d loaded : ℕ)
+turn : {p : Set} {q : Joint} {start now text grown : List ℕ} {n c d loaded : ℕ}
     → TakesWords p q start now text grown n c loaded → d ≡ get_or now 1 0 → 0 < c → (p c || q c d) ≡ true
     → WordGoes p q now
-turn p q start now text grown n c d loaded t next some h =
-    word_goes p q now (rw (← t.read) some) (rw (← t.read, ← next) h)
+turn {p} {q} {now = now} t next some h = word_goes p q now (rw (← t.read) some) (rw (← t.read, ← next) h)
 
-pub takes_more : (p : Set) (q : Joint) (start now after text grown pushed : List ℕ) (n c d e loaded more : ℕ)
+pub takes_more : {p : Set} {q : Joint} {start now after text grown pushed : List ℕ} {n c d e loaded more : ℕ}
     → TakesWords p q start now text grown n c loaded → d ≡ get_or now 1 0 → 0 < c → (p c || q c d) ≡ true
     → after ≡ drop 1 now → pushed ≡ grown ++ encode_utf8 c → e ≡ get_or after 0 0 → 2 ≤ more
     → TakesWords p q start after text pushed (n + 1) e more
-takes_more p q start now after text grown pushed n c d e loaded more t next some h taken put read ready =
-    let one = turn p q start now text grown n c d loaded t next some h in
+takes_more {start = start} {now} {text = text} {grown} {pushed} {n} t next some h taken put read ready =
+    let one = turn t next some h in
     record {
       run = rw taken (omega (arith, one.run, t.run));
       left = taken ∙ ap (drop 1) t.left ∙ drop-drop 1 n start;
@@ -181,10 +180,10 @@ takes_more p q start now after text grown pushed n c d e loaded more t next some
           (rw (← t.read) put);
     }
 
-pub takes_all : (p : Set) (q : Joint) (start now text grown : List ℕ) (n c d loaded : ℕ)
+pub takes_all : {p : Set} {q : Joint} {start now text grown : List ℕ} {n c d loaded : ℕ}
     → TakesWords p q start now text grown n c loaded → d ≡ get_or now 1 0 → (p c || q c d) ≡ false
     → TransfersWords p q n start now text grown
-takes_all p q start now text grown n c d loaded t next h =
+takes_all {p} {q} {now = now} t next h =
     let none = words_end p q now (rw (← t.read, ← next) h) in
     record { count = omega (arith, none, t.run); transfers = record { taken = t.left; appended = t.moved } }
 

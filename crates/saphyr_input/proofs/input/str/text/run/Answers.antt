@@ -5,23 +5,13 @@ use Rattle.saphyr_input.proofs.input.str.text.run.Goals as goal
 
 pub overflow_add-count : goal.overflow_add-count
 overflow_add-count g c =
-    omega (
-      arith,
-      c.in-Some.ensures.part,
-      c.ascii_run-ascii.ensures.part,
-      c.loop-wide.invariant.run,
-      run_fits g.C.CharSet.test c.args.text.now c.utf8.text,
-    )
+    let fits = run_fits g.C.CharSet.test c.args.text.now c.utf8.text in
+    omega (arith, c.in-Some.ensures.part, c.ascii_run-ascii.ensures.part, c.loop-wide.invariant.run, fits)
 
 pub overflow_add-count-in-Some : goal.overflow_add-count-in-Some
 overflow_add-count-in-Some g c =
-    omega (
-      arith,
-      c.in-Some.ensures.part,
-      c.ascii_run-ascii.ensures.part,
-      c.loop-wide.invariant.run,
-      run_fits g.C.CharSet.test c.args.text.now c.utf8.text,
-    )
+    let fits = run_fits g.C.CharSet.test c.args.text.now c.utf8.text in
+    omega (arith, c.in-Some.ensures.part, c.ascii_run-ascii.ensures.part, c.loop-wide.invariant.run, fits)
 
 pub loop-wide-preserved : goal.loop-wide-preserved
 loop-wide-preserved g c =
