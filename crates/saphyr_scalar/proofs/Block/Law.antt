@@ -162,7 +162,19 @@ pub behind_cut : (st : BlockStyle) (indent : ℕ) (start : Marker) (c : Chomping
     → behind_leading_lines st indent start c limit (with_column no_lines u.mark.col, u) ≡ Ok y → Behind st c i u y.0 y.2
 unfolding behind_leading_lines
 behind_cut st indent start c i limit u y z blank e =
-    grind (arith, as_read_behind, encode_utf8_all, z_is_nul, lines_spaces, no_space, nul_no_indentation, no_start, z_is_none, nothing_alone, nothing_read)
+    grind (
+      arith,
+      as_read_behind,
+      encode_utf8_all,
+      z_is_nul,
+      lines_spaces,
+      no_space,
+      nul_no_indentation,
+      no_start,
+      z_is_none,
+      nothing_alone,
+      nothing_read,
+    )
 
 behind_place : (st : BlockStyle) (indent : ℕ) (start : Marker) (h : BlockHeader) (u : Cursor) (y : Read)
     → IsBehindHeaderLine u

@@ -39,4 +39,18 @@ pub block_scalar_refused : (style : BlockStyle) (indent : ℕ) (s : Cursor) → 
     → 0 < length s.rest → Refused (IsRefusedInside s) (block_scalar style indent s)
 unfolding block_scalar behind_header header header_behind
 block_scalar_refused style indent s b some =
-    grind (arith, one_passed, refused_bind, given_of, header_ends, leading_refused, passed_passed, empty_passes, refused_more, indicator_refused, inside_start, end_refused, header_goes)
+    grind (
+      arith,
+      one_passed,
+      refused_bind,
+      given_of,
+      header_ends,
+      leading_refused,
+      passed_passed,
+      empty_passes,
+      refused_more,
+      indicator_refused,
+      inside_start,
+      end_refused,
+      header_goes,
+    )

@@ -91,9 +91,9 @@ pub record Skipped (st : BlockStyle) (i : ℕ) (ab : Option Bool) (before after 
   pub clear : is_break (slice_index t.rest 0) ≡ false
   pub shorter : length t.rest ≤ length s.rest
 
-pub skipped : (st : BlockStyle) (i : ℕ) (ab : Option Bool) (before after : EmptyLines) (s t : Cursor)
+pub skipped : {st : BlockStyle} {i : ℕ} {ab : Option Bool} {before after : EmptyLines} {s t : Cursor}
     → (after, t) ≡ pass_empty_lines_at (Some i) before s → Skipped st i ab before after s t
-skipped st i ab before after s t e = subst (λ r. Skipped st i ab before r.0 s r.1) (sym e)
+skipped {st} {i} {ab} {before} {s = s} e = subst (λ r. Skipped st i ab before r.0 s r.1) (sym e)
     (record {
       same = between_skips st i ab before s.blank_so_far s.mark s.rest;
       space = (stopped (Some i) before s.blank_so_far s.mark s.rest).0;
@@ -225,16 +225,28 @@ pub line_read : (st : BlockStyle) (i : ℕ) (ab : Option Bool) (k : ℕ) (text m
     → more ≡ text ++ encode_utf8_all (break_before st ab k below) → SameLine more here grown end
     → LineRead st i ab k text grown here end below
 line_read st i ab k text more grown here end below h e pushed read =
-    grind (arith, nat_tests, starts, line_begins, line_run, front_text, run_ends, shorter, length-drop, some_content, prefix_len-le-length)
+    grind (
+      arith,
+      nat_tests,
+      starts,
+      line_begins,
+      line_run,
+      front_text,
+      run_ends,
+      shorter,
+      length-drop,
+      some_content,
+      prefix_len-le-length,
+    )
 
 -- a turn of the lines, up to the content's end
-pub turn : (st : BlockStyle) (i : ℕ) (ab : Option Bool) (before after : EmptyLines) (text more grown : List ℕ)
-    (s t here end : Cursor) (below : Bool) → Skipped st i ab before after s t → here ≡ t
+pub turn : {before after : EmptyLines} {more grown : List ℕ} {s t here end : Cursor} {below : Bool} (st : BlockStyle)
+    (i : ℕ) (ab : Option Bool) (text : List ℕ) → Skipped st i ab before after s t → here ≡ t
     → line_starts i t.mark.col t.rest ≡ true → below ≡ is_blank (slice_index here.rest 0)
     → more ≡ text ++ encode_utf8_all (break_before st ab after.count below) → SameLine more here grown end
     → (with_lines text (between_at st i ab before.count s) ≡ with_lines grown (line_at st i below end))
     × (is_yaml_non_break (slice_index end.rest 0) ≡ false) × (length end.rest < length s.rest)
-turn st i ab before after text more grown s t here end below skip same h e pushed read =
+turn {after = after} {more} {grown} {s} {here = here} {end} {below} st i ab text skip same h e pushed read =
     let r = line_read st i ab after.count text more grown here end below
     (ap (λ (x : Cursor). line_starts i x.mark.col x.rest) same ∙ h) e pushed read in
     let less : length here.rest ≤ length s.rest = rw same skip.shorter in (
@@ -261,11 +273,11 @@ pub cut : (st : BlockStyle) (i : ℕ) (more : Bool) (text : List ℕ) (end look 
 cut st i more text end look c same read h ends = grind (arith, line_cut, append-nil)
 
 -- no line begins
-pub last : (st : BlockStyle) (i : ℕ) (ab : Option Bool) (before after : EmptyLines) (text : List ℕ) (s t here : Cursor)
-    (b : Bool) → Skipped st i ab before after s t → here ≡ t → line_starts i t.mark.col t.rest ≡ false → b ≡ is_some ab
+pub last : {before after : EmptyLines} {s t here : Cursor} {b : Bool} (st : BlockStyle) (i : ℕ) (ab : Option Bool)
+    (text : List ℕ) → Skipped st i ab before after s t → here ≡ t → line_starts i t.mark.col t.rest ≡ false → b ≡ is_some ab
     → with_lines text (between_at st i ab before.count s)
     ≡ (text, record { broken = b; empty_lines = after.count }, here)
-last st i ab before after text s t here b skip same h e = grind (arith, no_line, append-nil)
+last {before} {after} {s} {t} {here} {b} st i ab text skip same h e = grind (arith, no_line, append-nil)
 
 abbrev SameLines : List ℕ → LinesRead → List ℕ → BlockEnd → Cursor → Type 0
 SameLines text read grown end t =

@@ -42,8 +42,8 @@ none_in (suc k) = none_in k
 -- the first content line is the last line
 whole_cut : (st : BlockStyle) (c : Chomping) (i k : ℕ) (x : List ℕ) (e : Ending) → 0 < length x
     → whole st c i (empties k) (spaces i ++ x) e ≡ line_feeds k ++ (x ++ reading.chomped c (is_at_end e) 0)
-whole_cut st c i k x e some =
-    grind (arith, nat_tests, full_content, content_of, content_after, contents_after, ends_after, append-nil, append_assoc)
+whole_cut st c i k x e some = grind
+    (arith, nat_tests, full_content, content_of, content_after, contents_after, ends_after, append-nil, append_assoc)
 
 -- lines come after the first content line
 whole_broken : (st : BlockStyle) (c : Chomping) (i k : ℕ) (x text : List ℕ) (e : Ending)

@@ -1,5 +1,5 @@
 -- The handle of a tag directive, read behind its `!`.
-use Rattle.saphyr_scalar.proofs.Common.{◌≡◌, ℕ, ◌<◌, ◌≤◌, true, false, List, [], ◌++◌, length, slice_index, Ok, refl, sym, ap, ◌∙◌, arith, ◌==◌, codes, encode_utf8, nat_tests, nil_from_length, exclamation_mark, is_z, Marker, Cursor, pass, refuse_open}
+use Rattle.saphyr_scalar.proofs.Common.{◌≡◌, ℕ, ◌<◌, ◌≤◌, true, false, List, [], ◌++◌, length, slice_index, Ok, sym, ap, ◌∙◌, arith, ◌==◌, codes, encode_utf8, nat_tests, nil_from_length, exclamation_mark, is_z, Marker, Cursor, pass, refuse_open}
 use Rattle.saphyr_scalar.specs.declared.scalar.fault.FaultText.TheVariants as fault
 use Rattle.saphyr_scalar.specs.Steps.Directive.{handle, handle_behind_word}
 use Rattle.saphyr_scalar.proofs.Given.{text_given}

@@ -1,5 +1,5 @@
 -- What is read as a tag directive is spelled so.
-use Rattle.saphyr_scalar.proofs.Common.{◌≡◌, ℕ, ◌+◌, Bool, true, false, List, [], ◌∷◌, ◌++◌, length, length-append, append_assoc, take, drop, slice_index, nat_eq, cond, Result, Ok, Err, refl, sym, ap, ◌∙◌, arith, subst, encode_utf8_all, inl, inr, ◌||◌, ◌==◌, codes, encode_utf8, prefix_len, eqb-true, take-append-drop, exclamation_mark, is_alpha, is_tag_char, is_blank, is_blank_or_breakz, Marker, Refusal, Uri, Cursor, ◌>>=◌, along, pass_all_blanks, is_missing, refuse_open, or_true_swap, other_than, by_test, run_ends}
+use Rattle.saphyr_scalar.proofs.Common.{◌≡◌, ℕ, ◌+◌, Bool, true, false, List, [], ◌∷◌, ◌++◌, length, length-append, append_assoc, take, drop, slice_index, nat_eq, cond, Result, Ok, refl, sym, ap, ◌∙◌, arith, subst, encode_utf8_all, inl, inr, ◌||◌, ◌==◌, codes, encode_utf8, prefix_len, eqb-true, take-append-drop, exclamation_mark, is_alpha, is_tag_char, is_blank, is_blank_or_breakz, Marker, Refusal, Uri, Cursor, ◌>>=◌, along, pass_all_blanks, is_missing, refuse_open, or_true_swap, other_than, by_test, run_ends}
 use Rattle.saphyr_scalar.specs.declared.scalar.fault.FaultText.TheVariants as fault
 use Rattle.saphyr_scalar.specs.Steps.Directive.{handle_behind_word, handle, prefix, behind_prefix, tag_directive}
 use Rattle.saphyr_scalar.specs.Spelling.Directive.{ReadDirective, tag_prefix, AreSomeBlanks, IsWholeHandle}

@@ -72,7 +72,18 @@ separation_read : (m : Marker) (tail x : List ℕ) → IsLineTail tail → is_br
     → separation Yes (mid_line m (tail ++ x)) ≡ Ok (found_blanks Yes (tail ++ x), mid_line (along m (length tail)) x)
 unfolding separation
 separation_read m tail x is ends =
-    grind (arith, nat_tests, blanks_passed, tail_len, drop-append_seam, nothing_refused, no_bom, and_right, other_than, tail_first)
+    grind (
+      arith,
+      nat_tests,
+      blanks_passed,
+      tail_len,
+      drop-append_seam,
+      nothing_refused,
+      no_bom,
+      and_right,
+      other_than,
+      tail_first,
+    )
 
 pub line_read : (start m : Marker) (tail x : List ℕ) → IsLineTail tail → is_breakz (slice_index x 0) ≡ true
     → line_end start (mid_line m (tail ++ x)) ≡ Ok (pass_break (mid_line (along m (length tail)) x))

@@ -48,8 +48,8 @@ digits_spelled start n v m (c ∷ cs) w u le =
       text = ap (λ r. c ∷ r) others.text;
       place = cc (along_more m 1 (length others.digits) (suc (length others.digits)) (omega arith));
     })
-    (λ _ h. no_result (record { text = fault.VersionNumberTooLong; mark = start; may_change = false }) (w, u) (DigitsOf n v w m (c ∷ cs) u)
-    h)) (λ _ h. number_ended start n v w m (c ∷ cs) u le h)
+    (λ _ h. no_result (record { text = fault.VersionNumberTooLong; mark = start; may_change = false }) (w, u)
+    (DigitsOf n v w m (c ∷ cs) u) h)) (λ _ h. number_ended start n v w m (c ∷ cs) u le h)
 
 pub some_of_length : (t : List ℕ) → 0 < length t → t ≢ []
 some_of_length t lt e = let k : length t ≡ 0 = ap (λ (u : List ℕ). length u) e in absurd (omega arith)

@@ -1,5 +1,5 @@
 -- Each spelled anchor is read, and what is read as one is spelled so.
-use Rattle.saphyr_scalar.proofs.Common.{◌≡◌, ◌≢◌, ℕ, ◌+◌, ◌<◌, false, List, [], ◌∷◌, ◌++◌, length, drop, take, slice_index, nat_eq, ◌==◌, Ok, refl, sym, ap, ◌∙◌, arith, encode_utf8_all, take-append-drop, is_anchor_char, Marker, Cursor, along, pass, prefix_len, first_and_rest, run_ends}
+use Rattle.saphyr_scalar.proofs.Common.{◌≡◌, ◌≢◌, ℕ, ◌+◌, ◌<◌, false, List, [], ◌∷◌, ◌++◌, length, drop, take, slice_index, nat_eq, ◌==◌, Ok, refl, sym, ap, ◌∙◌, encode_utf8_all, take-append-drop, is_anchor_char, Marker, Cursor, along, pass, prefix_len, first_and_rest, run_ends}
 use Rattle.saphyr_scalar.specs.Steps.Quoted.{mid_line, with_run}
 use Rattle.saphyr_scalar.specs.Steps.Anchor.{anchor, anchor_name_of}
 use Rattle.saphyr_scalar.specs.Spelling.Tag.{IsAnchorName}

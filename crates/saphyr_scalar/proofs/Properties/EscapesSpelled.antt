@@ -20,7 +20,8 @@ encoded_spelled : (start : Marker) (w v c : ℕ) (s u : Cursor) → encoded_char
     → Chosen {A = ℕ × Cursor} (is_encoded w v) (v, s) (c, u)
 unfolding encoded_character
 encoded_spelled start w v c s u h =
-    cond_ok (is_encoded w v) (v, s) (c, u) (record { text = fault.TagEscapeCodePoint; mark = start; may_change = false }) h
+    cond_ok (is_encoded w v) (v, s) (c, u)
+    (record { text = fault.TagEscapeCodePoint; mark = start; may_change = false }) h
 
 leading_spelled : (start : Marker) (b c : ℕ) (s u : Cursor) → behind_leading_byte start b s ≡ Ok (c, u)
     → LeadingOf start b c s u

@@ -1,6 +1,5 @@
 -- Percent escapes, read a byte at a time, and the characters of uris.
 use Rattle.saphyr_scalar.proofs.Common.{◌≡◌, ℕ, zero, suc, ◌+◌, ◌-◌, ◌*◌, ◌^◌, ◌<◌, true, false, List, [], ◌∷◌, ◌++◌, length, drop, length-drop, slice_index, nat_eq, Result, Ok, Err, refl, sym, ap, ◌∙◌, arith, subst, encode_utf8, pow-le-pow_right, pow_more, nat_tests, append-nil, IsErrAnd, Marker, Refusal, UriSet, Uri, Suffix, Cursor, ◌>>=◌, along, Gives, by_test}
-use Rattle.saphyr_scalar.specs.declared.scalar.fault.FaultText.TheVariants as fault
 use Rattle.saphyr_scalar.specs.Steps.Quoted.{with_front, mid_line}
 use Rattle.saphyr_scalar.specs.Steps.Tag.{is_in_set, byte_value, shows_byte, is_encoded, escaped_byte, utf8_width, leading_bits, trailing_byte, trailing_bytes, encoded_character, behind_leading_byte, percent_escape, uri_character, uri_tail, decoded_characters, decoded_at}
 use Rattle.saphyr_scalar.proofs.Moving.{along_none, along_more, drop_more, bind_same}

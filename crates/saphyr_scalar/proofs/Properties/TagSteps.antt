@@ -37,7 +37,8 @@ verbatim_ended start before grown read t u h ends past = grind (arith, front_beh
 
 pub verbatim_open : (start : Marker) (before grown : List ℕ) (read : TextRead) (t : Cursor)
     → with_front before read ≡ Ok (grown, t) → (slice_index t.rest 0 ≡ greater_than → ⊥)
-    → with_tag before (read >>= verbatim_end start) ≡ refuse_open (is_missing 0 t.rest) fault.VerbatimTagEndExpected start
+    → with_tag before (read >>= verbatim_end start)
+    ≡ refuse_open (is_missing 0 t.rest) fault.VerbatimTagEndExpected start
 unfolding verbatim_end
 verbatim_open start before grown read t h more = grind (arith, front_behind, nat_tests)
 

@@ -1,5 +1,5 @@
 -- What is between the words of a quoted scalar, and its closing quote.
-use Rattle.saphyr_scalar.proofs.Common.{◌≡◌, ℕ, ◌<◌, ◌≤◌, Bool, true, false, List, [], ◌∷◌, ◌++◌, length, length-drop, drop, slice_index, Result, Ok, refl, sym, ap, ◌∙◌, arith, IsTrue, ◌==◌, OnOk, nat_tests, append-nil, is_z, is_blank, is_break, Marker, Refusal, Stop, Quote, Double, ReadsOn, Cursor, refuse_open, along, pass, pass_break, pass_line, next_line, backslash}
+use Rattle.saphyr_scalar.proofs.Common.{◌≡◌, ℕ, ◌<◌, ◌≤◌, true, false, List, [], ◌∷◌, ◌++◌, length, drop, slice_index, Result, Ok, refl, sym, ap, ◌∙◌, arith, IsTrue, ◌==◌, OnOk, nat_tests, append-nil, is_z, is_blank, is_break, Marker, Refusal, Stop, Quote, Double, ReadsOn, Cursor, refuse_open, along, pass, pass_break, pass_line, next_line, backslash}
 use Rattle.saphyr_scalar.specs.declared.scalar.fault.FaultText.TheVariants as fault
 use Rattle.saphyr_scalar.specs.Values.Flow as flow
 use Rattle.saphyr_scalar.proofs.NoBreaks.{mark_no_nul}

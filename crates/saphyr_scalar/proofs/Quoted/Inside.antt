@@ -102,7 +102,8 @@ run_blanks q indent start bytes m (c ∷ cs) =
 
 -- NUL, or the end
 pub at_end : (q : Quote) (indent : ℕ) (start : Marker) (bytes : List ℕ) (m : Marker) (xs : List ℕ)
-    → slice_index xs 0 ≡ 0 → inner_text q indent start (on_line bytes) 0 m xs ≡ refuse_open true fault.EndInsideQuotes start
+    → slice_index xs 0 ≡ 0
+    → inner_text q indent start (on_line bytes) 0 m xs ≡ refuse_open true fault.EndInsideQuotes start
 unfolding inner_text end_gap
 at_end q indent start bytes m [] h = refl
 at_end q indent start bytes m (c ∷ cs) h = rw h refl

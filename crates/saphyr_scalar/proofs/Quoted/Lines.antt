@@ -98,8 +98,8 @@ begins_end q indent start m escaped n b false left = refl
 behind_lines : (q : Quote) (indent : ℕ) (start m : Marker) (escaped : Bool) (n c : ℕ) (cs : List ℕ) → is_blank c ≡ false
     → is_break c ≡ false
     → inner_text q indent start (over_lines escaped n) 0 m (c ∷ cs)
-    ≡ ((tests start (may_be_open (c ∷ cs)) ((m.col == 0) && is_document_indicator (c ∷ cs)) (is_z c) (is_left indent m) (mid_line m (c ∷ cs))
-    >>= λ u. Ok (encode_utf8_all (folded_break escaped n))) >>= λ text. with_front text
+    ≡ ((tests start (may_be_open (c ∷ cs)) ((m.col == 0) && is_document_indicator (c ∷ cs)) (is_z c)
+    (is_left indent m) (mid_line m (c ∷ cs)) >>= λ u. Ok (encode_utf8_all (folded_break escaped n))) >>= λ text. with_front text
     (word_from q indent start m c cs))
 unfolding end_gap quoted_line
 behind_lines q indent start m escaped n c cs blank break =
@@ -114,8 +114,8 @@ begins_at q indent start m escaped n b [] blank break =
     begins_end q indent start m escaped n b (m.col == 0) (is_left indent m)
 begins_at q indent start m escaped n b (c ∷ cs) blank break =
     begins_by q indent start escaped n (record { rest = c ∷ cs; mark = m; blank_so_far = b }) (mid_line m (c ∷ cs))
-    (word_from q indent start m c cs) (may_be_open (c ∷ cs)) ((m.col == 0) && is_document_indicator (c ∷ cs)) (is_z c) (is_left indent m)
-    (behind_lines q indent start m escaped n c cs blank break)
+    (word_from q indent start m c cs) (may_be_open (c ∷ cs)) ((m.col == 0) && is_document_indicator (c ∷ cs)) (is_z c)
+    (is_left indent m) (behind_lines q indent start m escaped n c cs blank break)
     (λ nul. behind_no_gap q indent start m c cs blank break nul)
 
 begins_with_non_space : (q : Quote) (indent : ℕ) (start : Marker) (escaped : Bool) (n : ℕ) (s : Cursor)

@@ -3,13 +3,13 @@ use Rattle.std.proofs.Common.{◌≡◌, ℕ, zero, suc, ◌-◌, ◌<◌, Bool,
 use Rattle.saphyr_scalar.proofs.Common.{◌&&◌, ◌||◌, ◌==◌, drop-drop, is_hex, is_anchor_char, is_alpha, is_blank_or_breakz, is_flow, and_true_right, Marker, Cursor, pass}
 use Rattle.saphyr_scalar.specs.Steps.Quoted.{TextRead, with_front, with_run, mid_line}
 use Rattle.saphyr_scalar.specs.Steps.Anchor.{anchor, anchor_name_of}
-use Rattle.saphyr_scalar.specs.Steps.Tag.{is_encoded, is_trailing, CharacterSet, is_in_set, byte_value, shows_byte, escaped_byte, utf8_width, leading_bits, trailing_byte, trailing_bytes, encoded_character, behind_leading_byte, percent_escape, uri_character, decoded_at, verbatim_end, verbatim_tag, named_tag, named_tail, primary_tag, tag_behind_word, shorthand_tag, tag_end, tag}
+use Rattle.saphyr_scalar.specs.Steps.Tag.{is_encoded, is_trailing, CharacterSet, is_in_set, shows_byte, escaped_byte, utf8_width, leading_bits, trailing_byte, trailing_bytes, encoded_character, behind_leading_byte, percent_escape, uri_character, decoded_at, verbatim_end, verbatim_tag, named_tag, named_tail, primary_tag, tag_behind_word, shorthand_tag, tag_end, tag}
 use Rattle.saphyr_scalar.proofs.Properties.EscapesSpelled.{escape_spelled}
 use Rattle.saphyr_scalar.proofs.Properties.PercentEscapes.{decoded_one_more, character_shorter, ends_at, has_left}
 use Rattle.saphyr_scalar.proofs.Lengths.{by_ends}
 use Rattle.saphyr_scalar.specs.Known.{longer}
-use Rattle.saphyr_scalar.proofs.WhatCame.Rests.{is_nothing, enough_before, shows, shows_is, later_here, later_drop, first_known, second_known, drop_known}
-use Rattle.saphyr_scalar.proofs.WhatCame.Steps.{Sure, whole, reports, beside, beside_two, refused, missing_refused, stays, given, leaves, same_step, choose, choose_first, choose_same, choose_given, only_if, further, and_then, on}
+use Rattle.saphyr_scalar.proofs.WhatCame.Rests.{is_nothing, enough_before, shows, shows_is, later_drop, first_known, second_known, drop_known}
+use Rattle.saphyr_scalar.proofs.WhatCame.Steps.{Sure, whole, reports, beside, beside_two, refused, missing_refused, stays, leaves, same_step, choose, choose_first, choose_same, choose_given, only_if, further, and_then, on}
 use Rattle.saphyr_scalar.proofs.WhatCame.Runs.{taken, passed, run_came}
 
 module _ (more : List ℕ) where

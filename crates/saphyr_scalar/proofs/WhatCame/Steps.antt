@@ -73,7 +73,8 @@ module _ {X : Type 0} {asks says : Bool} {at : Left X} {more : List ℕ} where
 
   -- by what may change where the text is open
   pub open_refused : {text : List ℕ} {t : FaultText} {m : Marker}
-      → CameAs asks says at more text (refuse_open (may_be_open text) t m) (refuse_open (may_be_open (text ++ more)) t m)
+      → CameAs asks says at more text (refuse_open (may_be_open text) t m)
+      (refuse_open (may_be_open (text ++ more)) t m)
   open_refused {text} = unless (may_be_open text) (may_be_open (text ++ more)) (closed_longer more text)
       (λ known. enough_of says text (not_open text known))
 

@@ -42,7 +42,8 @@ name s = directive_name_of s.mark (with_run is_yaml_non_space [] s)
 
 -- a number has a digit
 unfoldable pub number_end : Marker → ℕ → ℕ → Cursor → Result (ℕ × Cursor) Refusal
-number_end start n v s = if n == 0 then refuse_open (is_missing 0 s.rest) fault.VersionNumberExpected start else Ok (v, s)
+number_end start n v s =
+    if n == 0 then refuse_open (is_missing 0 s.rest) fault.VersionNumberExpected start else Ok (v, s)
 
 -- the number whose first n digits stand for v, and which has at most nine
 unfoldable pub number_from : Marker → ℕ → ℕ → Marker → List ℕ → Result (ℕ × Cursor) Refusal

@@ -162,7 +162,8 @@ scalar_behind_gap in_flow indent start len end tabbed text s = next_word_starts 
 -- after it. `indent` is the first column to the right of the enclosing block collection.
 unfoldable pub plain : Bool → ℕ → Cursor → PlainScalarRead
 plain in_flow indent s = word_starts in_flow s >>= λ b.
-    if b.0 then word in_flow indent s.mark b.1.mark b.1.rest else refuse_open (may_be_open b.1.rest) fault.PlainEnd s.mark
+    if b.0 then word in_flow indent s.mark b.1.mark b.1.rest
+    else refuse_open (may_be_open b.1.rest) fault.PlainEnd s.mark
 
 -- What a call that reads words of a scalar leaves: s is before them, inside a word, and t is where a word ends.
 pub record PlainWordsMoved (in_flow : Bool) (text grown : List ℕ) (s t : Cursor) : Type 0 where

@@ -30,7 +30,9 @@ abbrev pub shows_byte : List ℕ → Bool
 shows_byte xs = (slice_index xs 0 == percent_sign) && is_hex (slice_index xs 1) && is_hex (slice_index xs 2)
 
 unfoldable pub escaped_byte : Marker → Cursor → Result (ℕ × Cursor) Refusal
-escaped_byte start s = if shows_byte s.rest then Ok (byte_value s.rest, pass 3 s) else refuse_open (is_missing 2 s.rest) fault.TagEscape start
+escaped_byte start s =
+    if shows_byte s.rest then Ok (byte_value s.rest, pass 3 s)
+    else refuse_open (is_missing 2 s.rest) fault.TagEscape start
 
 -- how many bytes a character has in UTF-8 whose first byte is b, 0 where none has
 unfoldable pub utf8_width : ℕ → ℕ

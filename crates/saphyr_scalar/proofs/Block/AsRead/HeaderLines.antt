@@ -1,5 +1,5 @@
 -- The line of a block scalar's header, as it is spelled.
-use Rattle.saphyr_scalar.proofs.Common.{◌≡◌, ◌≢◌, ℕ, ◌+◌, ◌-◌, ◌≤◌, ◌<◌, Bool, true, false, List, [], ◌∷◌, ◌++◌, length, drop, slice_index, Ok, refl, sym, ap, ◌∙◌, arith, subst, inl, inr, append_assoc, ◌||◌, ◌==◌, Option, Some, None, unwrap_or, codes, nat_tests, is_break, is_breakz, is_z, tab, line_feed, next_2_are, separation_len, SkipTabs, Yes, Chomping, Clip, BlockHeader, Marker, by_test, not-false, first_and_rest}
+use Rattle.saphyr_scalar.proofs.Common.{◌≡◌, ◌≢◌, ℕ, ◌≤◌, ◌<◌, Bool, true, false, List, [], ◌∷◌, ◌++◌, length, drop, slice_index, Ok, refl, sym, ap, ◌∙◌, arith, subst, inl, inr, append_assoc, ◌||◌, ◌==◌, Option, Some, None, unwrap_or, codes, nat_tests, is_break, is_breakz, is_z, tab, line_feed, next_2_are, separation_len, SkipTabs, Yes, Chomping, Clip, BlockHeader, Marker, by_test, not-false, first_and_rest}
 use Rattle.saphyr_scalar.specs.Steps.Block.{chomping, indicator, header_break, header_end, last_chomping, header_behind, header}
 use Rattle.saphyr_scalar.specs.Reading.BlockText.{digit_of, chomping_of, AreIndicators, IsBreakBefore, EndsHeader, IsHeaderLine}
 use Rattle.saphyr_scalar.specs.Views.Cursor.{Cursor, pass, pass_blanks, pass_break, separation, behind_separation}

@@ -6,19 +6,14 @@ use Rattle.saphyr_scalar.proofs.scalar.reader.Reader.read_block_lines.Goals as g
 pub returns-then-not-block_line_starts : goal.returns-then-not-block_line_starts
 returns-then-not-block_line_starts g c =
     ap Ok (sym c.loop-style.invariant.same
-    ∙ last c.args.style c.args.indentation c.loop-style.above c.loop-style.lines _ (string_bytes c.loop-style.text)
-    (cursor_of c.loop-style.self) (cursor_of c.skip_empty_block_lines-lines.new.self)
-    (cursor_of c.block_line_starts.new.self) _
-    (skipped _ _ _ _ _ _ _ c.skip_empty_block_lines-lines.ensures.taken) c.block_line_starts.ensures.same
+    ∙ last c.args.style c.args.indentation c.loop-style.above (string_bytes c.loop-style.text)
+    (skipped c.skip_empty_block_lines-lines.ensures.taken) c.block_line_starts.ensures.same
     (sym c.block_line_starts.ensures.value ∙ c.if-not-block_line_starts.true) c.is_some.ensures)
 
 pub returns-then-not-is_break : goal.returns-then-not-is_break
 returns-then-not-is_break g c =
-    let one = turn c.args.style c.args.indentation c.loop-style.above c.loop-style.lines _
-    (string_bytes c.loop-style.text) _ (string_bytes c.move_run.new.text) (cursor_of c.loop-style.self)
-    (cursor_of c.skip_empty_block_lines-lines.new.self) (cursor_of c.block_line_starts.new.self)
-    (cursor_of c.move_run.new.self) _ (skipped _ _ _ _ _ _ _ c.skip_empty_block_lines-lines.ensures.taken)
-    c.block_line_starts.ensures.same
+    let one = turn c.args.style c.args.indentation c.loop-style.above (string_bytes c.loop-style.text)
+    (skipped c.skip_empty_block_lines-lines.ensures.taken) c.block_line_starts.ensures.same
     (sym c.block_line_starts.ensures.value ∙ c.if-not-block_line_starts.false) c.next_is_blank-below.ensures
     c.in_ok-push_break_before.ensures c.in_ok-move_run.ensures in
     ap Ok (sym c.loop-style.invariant.same ∙ one.0
@@ -28,11 +23,8 @@ returns-then-not-is_break g c =
 
 pub loop-style-smaller : goal.loop-style-smaller
 loop-style-smaller g c =
-    let one = turn c.args.style c.args.indentation c.loop-style.above c.loop-style.lines _
-    (string_bytes c.loop-style.text) _ (string_bytes c.move_run.new.text) (cursor_of c.loop-style.self)
-    (cursor_of c.skip_empty_block_lines-lines.new.self) (cursor_of c.block_line_starts.new.self)
-    (cursor_of c.move_run.new.self) _ (skipped _ _ _ _ _ _ _ c.skip_empty_block_lines-lines.ensures.taken)
-    c.block_line_starts.ensures.same
+    let one = turn c.args.style c.args.indentation c.loop-style.above (string_bytes c.loop-style.text)
+    (skipped c.skip_empty_block_lines-lines.ensures.taken) c.block_line_starts.ensures.same
     (sym c.block_line_starts.ensures.value ∙ c.if-not-block_line_starts.false) c.next_is_blank-below.ensures
     c.in_ok-push_break_before.ensures c.in_ok-move_run.ensures in
     let next = broken c.args.style c.args.indentation c.next_is_blank-below.result (string_bytes c.move_run.new.text)
@@ -42,11 +34,8 @@ loop-style-smaller g c =
 
 pub loop-style-preserved : goal.loop-style-preserved
 loop-style-preserved g c =
-    let one = turn c.args.style c.args.indentation c.loop-style.above c.loop-style.lines _
-    (string_bytes c.loop-style.text) _ (string_bytes c.move_run.new.text) (cursor_of c.loop-style.self)
-    (cursor_of c.skip_empty_block_lines-lines.new.self) (cursor_of c.block_line_starts.new.self)
-    (cursor_of c.move_run.new.self) _ (skipped _ _ _ _ _ _ _ c.skip_empty_block_lines-lines.ensures.taken)
-    c.block_line_starts.ensures.same
+    let one = turn c.args.style c.args.indentation c.loop-style.above (string_bytes c.loop-style.text)
+    (skipped c.skip_empty_block_lines-lines.ensures.taken) c.block_line_starts.ensures.same
     (sym c.block_line_starts.ensures.value ∙ c.if-not-block_line_starts.false) c.next_is_blank-below.ensures
     c.in_ok-push_break_before.ensures c.in_ok-move_run.ensures in
     let next = broken c.args.style c.args.indentation c.next_is_blank-below.result (string_bytes c.move_run.new.text)
