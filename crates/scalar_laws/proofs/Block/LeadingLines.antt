@@ -55,14 +55,13 @@ pub record Led (st : BlockStyle) (c : Chomping) (i n : ℕ) (others : List ℕ) 
   pub some : has_content ls ≡ true
   pub whole : (e : ℕ) → contents st ls ++ reading.chomped c true (empty_at_end e ls) ≡ line_feeds d ++ later
 
-led_at : (st : BlockStyle) (c : Chomping) (i n : ℕ) (given : Bool) (limit : Option ℕ) (before : EmptyLinesRead)
-    (b : Bool)
-    (m : Marker) (x : ℕ) (cs t others : List ℕ) (ls : List Line) → IsLimit i given limit → (given ≡ false → x ≢ space)
+led_at : {i n : ℕ} {given : Bool} {others : List ℕ} (st : BlockStyle) (c : Chomping) (limit : Option ℕ)
+    (before : EmptyLinesRead) (b : Bool) (m : Marker) (x : ℕ) (cs t : List ℕ) (ls : List Line) → IsLimit i given limit → (given ≡ false → x ≢ space)
     → m.col ≡ i → before.widest ≤ i
     → is_yaml_non_break x ≡ true → ((k : ℕ) → Left n others (between st i None k b m (x ∷ t)))
     → ((k : ℕ) → Value c i (between st i None k b m (x ∷ t)) ≡ line_feeds k ++ FirstValue st c (x ∷ cs) ls)
     → Led st c i n others before (Content (x ∷ cs) ∷ ls) (pass_empty_lines limit before b m (x ∷ t))
-led_at st c i n given limit before b m x cs t others ls l h col wide solid left value =
+led_at {i} {n} {others = others} st c limit before b m x cs t ls l h col wide solid left value =
     let stop : pass_empty_lines limit before b m (x ∷ t) ≡ (with_column before m.col, line_cursor b m (x ∷ t)) =
     stops limit before (line_cursor b m (x ∷ t)) (grind arith)
     (non_break_no_break x solid) in
@@ -115,7 +114,7 @@ led_on st c i n given limit x others before b m _ _ l col wide h (first y cs ls 
     let at : m.col + i ≤ i = omega arith in
     let here : m.col + i ≡ i = omega arith in
     rw (e_spaces i given limit before b i m (y ∷ (cs ++ (10 ∷ t))) l at)
-    (led_at st c i n given limit before b (along m i) y cs (cs ++ (10 ∷ t)) others ls l no_space here wide ic.all.0
+    (led_at st c limit before b (along m i) y cs (cs ++ (10 ∷ t)) ls l no_space here wide ic.all.0
     (λ k. content_left st i n None k b (along m i) y cs t others here ic
     (λ more p e. lines_left st i n x (Some more) 0 true p ls t others e lines h))
     (λ k. content_value st c i None k b (along m i) y cs t _ here ic
@@ -123,7 +122,7 @@ led_on st c i n given limit x others before b m _ _ l col wide h (first y cs ls 
 led_on st c i n given limit x others before b m _ _ l col wide h (first_and_last y cs no_space ic none) =
     let at : m.col + i ≤ i = omega arith in
     let here : m.col + i ≡ i = omega arith in
-    rw (e_spaces i given limit before b i m (y ∷ cs) l at) (led_at st c i n given limit before b (along m i) y cs cs
-    others [] l no_space here wide ic.all.0
+    rw (e_spaces i given limit before b i m (y ∷ cs) l at) (led_at st c limit before b (along m i) y cs cs
+    [] l no_space here wide ic.all.0
     (λ k. last_left st i n None k b (along m i) y cs others here ic (nothing_behind i n x others none h))
     (λ k. last_value st c i None k b (along m i) y cs here ic))
