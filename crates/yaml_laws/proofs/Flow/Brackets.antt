@@ -1,21 +1,20 @@
 -- The brackets, braces and commas of a text in flow style are read.
-use Rattle.std.proofs.Common.{◌≡◌, ◌⊎◌, ℕ, ◌<◌, ◌≤◌, Bool, true, false, List, [], ◌∷◌, ◌++◌, length, slice_index, Ok, refl, sym, ap, ◌∙◌, arith, subst, append_assoc, cond, IsTrue, inl}
-use Rattle.yaml_laws.proofs.Common.{◌&&◌, ◌==◌, Option, None, list_all, percent_sign, comma, is_blank, is_z, line_feed, SkipTabs, Yes, Marker, Cursor, along, separation, AreIn, cursor_at, IsSeparation, Some, Context, Kind, Piece, Place, bare_place, empty_piece, Candidate, Level, State, is_block, behind_entry, ends_pair, step, most_open, le_next, token_place, place_kinds, queue_of, saved, level_of, comma_begins, IsComma, no_feed}
+use Rattle.std.proofs.Common.{◌≡◌, ◌⊎◌, ℕ, ◌<◌, ◌≤◌, Bool, true, false, List, [], ◌∷◌, ◌++◌, length, slice_index, Ok, refl, sym, ap, ◌∙◌, arith, subst, append_assoc, IsTrue, inl}
+use Rattle.yaml_laws.proofs.Common.{◌==◌, Option, None, list_all, percent_sign, comma, is_blank, is_z, line_feed, SkipTabs, Yes, Marker, Cursor, along, separation, cursor_at, IsSeparation, Some, Context, Kind, Piece, Place, bare_place, empty_piece, Candidate, State, is_block, behind_entry, ends_pair, step, most_open, le_next, token_place, place_kinds, queue_of, saved, level_of, comma_begins, IsComma, no_feed}
 use Rattle.saphyr_scanner.specs.Grammar.Tokens as tokens
 use Rattle.saphyr_scanner.specs.Steps.Core.{Core, from_to, perform, completed_step, remove_key}
 use Rattle.saphyr_scanner.specs.Steps.Flow as flow
-use Rattle.saphyr_scanner.specs.Steps.Flow.{close_collection, behind_pair, next_flow_entry}
-use Rattle.yaml_laws.proofs.InFlow.States.{Around, arrived, at_cursor, closed, core_at, opened, state_at, with_key_saved, Calm, opening_steps_open, open_collection_gives, close_collection_gives, deepened, kept_inside, FlowMoment, moment_with, moment_in, Ready}
-use Rattle.yaml_laws.proofs.Flow.States.{IsFresh, Since, moved, past, IsClear, IsContentStart, IsParted, Known, fresh_key, PassesPiece, Fits, FitsAround, StandsBefore, key_behind}
-use Rattle.yaml_laws.proofs.Flow.KeyPieces.{fits_clear, fits_below, held_behind}
+use Rattle.saphyr_scanner.specs.Steps.Flow.{behind_pair, next_flow_entry}
+use Rattle.yaml_laws.proofs.InFlow.States.{Around, arrived, at_cursor, core_at, opened, state_at, with_key_saved, Calm, opening_steps_open, open_collection_gives, deepened, kept_inside, FlowMoment, moment_with, moment_in, Ready}
+use Rattle.yaml_laws.proofs.Flow.States.{Since, moved, past, IsClear, IsContentStart, IsParted, Known, fresh_key, PassesPiece, Fits, FitsAround, StandsBefore, key_behind}
+use Rattle.yaml_laws.proofs.Flow.KeyPieces.{fits_below}
 use Rattle.yaml_laws.proofs.Flow.Places.{moved_index, right_one, clear_here}
-use Rattle.yaml_laws.proofs.Flow.GapSteps.{past_content, past_low, less_on}
-use Rattle.yaml_laws.proofs.Flow.Fillers.{blanks_past}
+use Rattle.yaml_laws.proofs.Flow.GapSteps.{past_content, less_on}
 use Rattle.yaml_laws.proofs.Flow.Tokens.{BeginsToken, arrives, step_comes, within_index, saved_since}
-use Rattle.yaml_laws.proofs.Flow.Separates.{blanks_separated, separates}
+use Rattle.yaml_laws.proofs.Flow.Separates.{separates}
 use Rattle.yaml_laws.proofs.Flow.Joins.{step_passes, separation_joins, knowing}
 use Rattle.yaml_laws.proofs.InBlock.Crossings.{fresh_in_flow, holds_in_flow}
-use Rattle.yaml_laws.proofs.Flow.ContentStarts.{StartsContent, is_start, start_content, start_nul, start_directive, colon_content}
+use Rattle.yaml_laws.proofs.Flow.ContentStarts.{StartsContent, is_start, start_content, start_nul, start_directive}
 use Rattle.yaml_laws.proofs.Flow.Pieces.{fits_front, fits_so, end_is_content, parted_by}
 
 -- a character that is a token
@@ -121,85 +120,6 @@ pub record IsCollectionClosed (indent : ℕ) (x : Context) (j : Option Candidate
 
 abbrev pub closed_collection : ℕ → Context → Option Candidate → Marker → List ℕ → Known
 closed_collection indent x j m o key allowed adjacent new = IsCollectionClosed indent x j m o key adjacent
-
-all_blank : (w : List ℕ) → IsTrue (list_all is_blank w) → AreIn is_blank w
-all_blank [] h = tt
-all_blank (c ∷ cs) h = by_first (is_blank c) (list_all is_blank cs) refl h (λ k. all_blank cs k)
-  where
-    by_first : (p q : Bool) → is_blank c ≡ p → IsTrue (p && q) → (IsTrue q → AreIn is_blank cs)
-        → AreIn is_blank (c ∷ cs)
-    by_first p q e h f = grind arith
-
--- what blanks after a token give is one place
-one_place : (indent : ℕ) (s : Cursor) (found : SkipTabs) (there : Cursor) → separation Yes s ≡ Ok (found, there)
-    → (w more : List ℕ) → s.rest ≡ w ++ (58 ∷ more) → indent ≤ s.mark.col → IsTrue (list_all is_blank w)
-    → there.mark ≡ moved s.mark w
-one_place indent s found there is w more text right blank =
-    (blanks_separated indent s found there is w 58 more text (all_blank w blank) right colon_content).1
-
-either : (b : Bool) (n k bound : ℕ) → n ≤ bound → k ≤ bound → cond b n k ≤ bound
-either b n k bound h g = grind arith
-
-one_behind : (indent : ℕ) (m : Marker) (c : ℕ) (o : List ℕ) (ad : ℕ) → ad ≤ m.index
-    → ad ≤ (past indent (moved m (c ∷ [])) o).0.index
-one_behind indent m c o ad low = grind (arith, one_on, past_low, moved)
-
--- A closing bracket is read at level `level_of x j`, and the scanner is back in x, with the key j of that level. So
--- what was known of the key before the collection is known again. A key that is held outside flow stays so, since
--- blanks alone are behind the bracket on the key's line (`held_behind`). They also tell the place where a colon may
--- come at once.
-pub close_passes : (around : Around) (y : Context) → is_block y ≡ false → (ends : Bool) (kind : Kind) (ch : ℕ)
-    → IsTokenMark ch
-    → ((second i : ℕ) (d : Bool) (now : FlowMoment) → step ch second i (core_at around d (moment_in y now))
-    ≡ close_collection ends kind (core_at around d (moment_in y now)))
-    → (m : Marker) (o : List ℕ) (x : Context) → Fits around x m (ch ∷ []) o → around.indent ≤ m.col
-    → (found : SkipTabs) (there : Cursor)
-    → separation Yes (cursor_at o (along m 1) false) ≡ Ok (found, there)
-    → past around.indent there.mark there.rest ≡ past around.indent (along m 1) o
-    → (j : Option Candidate) (ls : List Level) (now : FlowMoment) → IsFresh x o false there
-    → ((k : Candidate) → around.held ≡ Some k → is_block x ≡ true → j ≡ Some k) → Calm around x
-    → now.adjacent ≤ m.index → StandsBefore around now m (ch ∷ o)
-    → PassesPiece around (state_at around (record now { context = y; outer = level_of x j ∷ ls }))
-    (closed_collection around.indent x j (moved m (ch ∷ [])) o) x ls now.places (moved m (ch ∷ [])) o
-    (pending ends ++ kind ∷ [])
-close_passes around y flows ends kind ch mark begins m o x fits right found there is lands j ls now fresh held_key calm
-    before text =
-    let inside : FlowMoment = record now { context = y; outer = level_of x j ∷ ls } in
-    let v = arrives around inside m (ch ∷ o) (text ∙ past_content around.indent m ch o
-    mark.content) mark.content.blank (mark_begins m ch o mark (fits_clear fits)) flows right in
-    let stepped = λ (d : Bool). begins (slice_index o 0) (length now.places) d (arrived v)
-    ∙ close_collection_gives ends kind ch o m v.blank around d (arrived v) x j ls found there is flows calm in
-    let below = fits_below fits in
-    let new = mark_places ends m there.mark kind in
-    let next = closed x j ls there now in
-    let end = right_one around.indent m ch mark.feed right in
-    let on = le_next around.indent m.col right in
-    let keeps = held_behind m (ch ∷ []) o fits end j there false held_key (λ _ w c cs o_is are content _.
-    let near = blanks_separated around.indent (cursor_at o (along m 1) false) found there is w c cs o_is are on content
-    in (
-      refl,
-      record {
-        white = [];
-        are = tt;
-        rest = near.0;
-        mark = near.1 ∙ ap (λ (n : Marker). moved n w) (mark_moved m ch mark);
-        right = rw near.1 (blanks_past around.indent w are (along m 1) on).right;
-      },
-    )) in
-    let came = step_comes around (state_at around inside) inside m (ch ∷ o) v None (moment_with new next)
-    (behind_pair ends m (from_to m there.mark kind)) (λ d. d) stepped (mark_puts ends now.places m there.mark kind)
-    (within_index around.indent around.limit there (along m 1) o lands (omega (arith, below))) keeps.0 in
-    step_passes next new (moved m (ch ∷ [])) o (pending ends ++ kind ∷ [])
-    (closed_collection around.indent x j (moved m (ch ∷ [])) o) came
-    end (cc) fresh (keeps.1 came.key came.stays)
-    (mark_kinds ends m there.mark kind) (record {
-      keeps = came.same;
-      kept = came.kept;
-      near = λ e w more text parts blank.
-          rw e (cc (one_place around.indent (cursor_at o (along m 1) false) found there is w more text
-          on blank));
-      low = grind (arith, either, past, moved, one_behind, mark_moved, past_low);
-    })
 
 in_flow : (y : Context) → is_block y ≡ false → is_block (behind_entry y) ≡ false
 in_flow y e = grind arith

@@ -133,12 +133,12 @@ tag_one reads around tag m t o h now ends = tag_passes reads around tag t o m h 
 
 -- both, with a gap between
 both_passed : {around : Around} {P Q : List ℕ → Type 0} {i j : Kind} → ReadsOne around P i → ReadsOne around Q j
-    → (m : Marker) (t a w b o : List ℕ) → P a → IsGap around.indent w → Q b → Begins b → t ≡ a ++ (w ++ b)
-    → (now : FlowMoment) → EndsTag (not (is_block now.context)) o → Fits around now.context m t o
+    → (m : Marker) (t o : List ℕ)
+    → (a w b : List ℕ) × P a × IsGap around.indent w × Q b × Begins b × (t ≡ a ++ (w ++ b)) → (now : FlowMoment) → EndsTag (not (is_block now.context)) o → Fits around now.context m t o
     → (start : Bool → State) → Ready around start now m (t ++ o)
     → PassesPiece around start (behind_properties now.context (keeping now m t) now.adjacent)
     now.context now.outer now.places (moved m t) o (i ∷ j ∷ [])
-both_passed {around} {P} {Q} {i} {j} first second m t a w b o h spaced g begins is now ends fits start ready =
+both_passed {around} {i = i} {j} first second m t o (a, w, b, h, spaced, g, begins, is) now ends fits start ready =
     subst (λ (t : List ℕ). Fits around now.context m t o → Ready around start now m (t ++ o)
     → PassesPiece around start (behind_properties now.context (keeping now m t) now.adjacent)
     now.context now.outer now.places (moved m t) o (i ∷ j ∷ [])) (sym is) (λ fits ready.
@@ -173,15 +173,15 @@ properties_read reads around (Some name) (Some tag) m t o (a, w, b, h, g, spaced
     record {
       tokens = anchor_token name ∷ tag_token tag ∷ [];
       are = inl refl;
-      passes = both_passed (anchor_one reads around name) (tag_one reads around tag) m t a w b o h spaced g
-          (tag_begins tag b g) is now ends fits start ready;
+      passes = both_passed (anchor_one reads around name) (tag_one reads around tag) m t o
+          (a, w, b, h, spaced, g, tag_begins tag b g, is) now ends fits start ready;
     }
 properties_read reads around (Some name) (Some tag) m t o (b, w, a, h, g, spaced, inr is) now ends fits start ready =
     record {
       tokens = tag_token tag ∷ anchor_token name ∷ [];
       are = inr refl;
-      passes = both_passed (tag_one reads around tag) (anchor_one reads around name) m t a w b o g spaced h
-          (anchor_begins name b h) is now ends fits start ready;
+      passes = both_passed (tag_one reads around tag) (anchor_one reads around name) m t o
+          (a, w, b, g, spaced, h, anchor_begins name b h, is) now ends fits start ready;
     }
 
 -- ## An alias

@@ -122,18 +122,17 @@ key_at m ps = record { mark = m; place = length ps }
 -- The colon after a key that begins at `first` and ends at e, and separation w. The scanner reaches the colon with the
 -- key still kept: the step opens the key's place, where a mapping's start may come before it (`pair_places`), and puts
 -- the colon's token. So the run over the key is told anew, with these tokens in front of the key's.
-pub colon_passes : (around : Around) (y : Context) → is_block y ≡ false
-    → (first e : Marker) (node : Node) (w o : List ℕ) → IsSeparation around.indent w
+pub colon_passes : {start : Bool → State} {ls : List Level} {ps : List Place} {ts : List Kind} (around : Around)
+    (y : Context) → is_block y ≡ false → (first e : Marker) (node : Node) (w o : List ℕ) → IsSeparation around.indent w
     → FitsAround around (moved e w) (colon ∷ []) o → IsParted around.indent o
     → IsTrue (allows_adjacent node w) ⊎ IsTrue (ends_colon (slice_index o 0))
     → (begins_pair y ≡ true → first.line ≡ (moved e w).line)
-    → (start : Bool → State) (ls : List Level) (ps : List Place) (ts : List Kind) (kept : KeptKey)
-    → kept.kept ≡ Some (key_at first ps)
+    → (kept : KeptKey) → kept.kept ≡ Some (key_at first ps)
     → PassesPiece around start (after_node around.indent y kept (allows_adjacent node) e (w ++ (colon ∷ o))) y ls ps e
     (w ++ (colon ∷ o)) ts → PassesPiece around start (no_key (moved (moved e w) (colon ∷ []))) (behind_colon y) ls ps
     (moved (moved e w) (colon ∷ [])) o
     (key_kinds (begins_pair y) ++ (ts ++ tokens.Value ∷ []))
-colon_passes around y flows first e node w o parts fits parted ends same_line start ls ps ts kept first_kept p =
+colon_passes {ps = ps} {ts} around y flows first e node w o parts fits parted ends same_line kept first_kept p =
     let m = moved e w in
     let n = p.knows in
     let lands : past around.indent e (w ++ (58 ∷ o)) ≡ (m, 58 ∷ o) =

@@ -1,14 +1,15 @@
 -- The `:` of a block mapping is read (YAML 1.2.2, 8.2.2).
-use Rattle.yaml_laws.proofs.Common.{Bool, List, Ok, [], ap, append_assoc, arith, false, inr, length, refl, slice_index, suc, sym, true, ℕ, ◌++◌, ◌+◌, ◌<◌, ◌∙◌, ◌∷◌, ◌≡◌, ◌≤◌, ◌⊎◌, None, Option, Some, if◌then◌else◌, nat_le, nat_lt, ◌==◌, ◌||◌, tab, Marker, SkipTabs, Yes, Cursor, along, separation, ◌>>=◌, Core, Open, at_mark, completed_step, is_too_far, least_column, perform, Candidate, with_cursor, Place, Queue, bare_place, empty_piece, next, Piece, State, after_step, Kind, cursor_at, le_next, zero_below_next, or-true, colon, place_kinds, place_kinds_append, queue_of, or-false, length-append, Opening}
+use Rattle.yaml_laws.proofs.Common.{Bool, List, Ok, [], ap, append_assoc, arith, false, inr, length, refl, slice_index, suc, sym, true, ℕ, ◌++◌, ◌+◌, ◌<◌, ◌∙◌, ◌∷◌, ◌≡◌, ◌≤◌, ◌⊎◌, None, Option, Some, if◌then◌else◌, nat_le, nat_lt, ◌==◌, ◌||◌, tab, Marker, SkipTabs, Yes, Cursor, along, separation, ◌>>=◌, Core, Open, at_mark, completed_step, least_column, perform, Candidate, with_cursor, Place, Queue, bare_place, empty_piece, next, Piece, State, after_step, Kind, cursor_at, le_next, zero_below_next, or-true, colon, place_kinds, place_kinds_append, queue_of, or-false, length-append, Opening, Node}
 use Rattle.saphyr_scanner.specs.declared.queue.Opening.TheVariants as opening
 use Rattle.saphyr_scanner.specs.Grammar.Tokens as tokens
 use Rattle.saphyr_scanner.specs.Steps.Value as value
 use Rattle.saphyr_scanner.specs.Steps.Fetch.{fetch, fetch_here, state_behind_content, step}
 use Rattle.yaml_laws.specs.Grammar.BlockNodes as yaml
 use Rattle.yaml_laws.proofs.Flow.Values.{pair_places, performs}
-use Rattle.yaml_laws.proofs.InBlock.States.{Frame, Moment, moment_at, moment_there, moment_with, core_of, state_of, tabbed, IsUntabbed, crosses, GoesOnAs, At, Before, past}
+use Rattle.yaml_laws.proofs.InBlock.States.{Frame, Moment, moment_at, moment_there, moment_with, core_of, state_of, tabbed, crosses, At, Before, past}
 use Rattle.yaml_laws.proofs.InBlock.Follows.{steps_from, begins_here, deeper_at, lands_key}
 use Rattle.yaml_laws.proofs.InBlock.Entries.{IsBehindIndicator, front_end, separates, frame_behind, steps_on, start_places, start_performs, start_kinds, start_are, least_within, before_next}
+use Rattle.yaml_laws.proofs.InBlock.Statements.{KeyRead}
 use Rattle.yaml_laws.proofs.InBlock.Questions.{colon_begins, key_kinds}
 
 -- ## After a colon
@@ -181,43 +182,41 @@ key_are further ps others key m ts us first are =
 
 -- The colon of a key is read, which begins a mapping or goes on with one. The scanner is before the blanks in front of
 -- the colon, and lands there with the key still a candidate, whose place the step opens.
-pub reads_colon : {limit : ℕ} {start : State} (f : Frame) (n : Moment) (ps others new : List Place) (key : Piece)
-    (k m : Marker) (o : List ℕ) (ts us : List Kind) (further : Bool) → nat_le f.indent k.col ≡ further
-    → f.indent ≤ k.col + 1 → GoesOnAs limit start (state_of f n (ps ++ new)) → new ≡ bare_place key ∷ others
-    → place_kinds ps ≡ ts
-    → place_kinds new ≡ us → n.key ≡ Some (record { mark = k; place = length ps }) → n.comment ≡ None
-    → past 0 n.cursor.mark n.cursor.rest ≡ (m, colon ∷ o) → IsUntabbed (least_column (core_of f n)) n.cursor
-    → is_too_far n.key m ≡ false → k.col ≤ m.col → IsBehindIndicator true (suc k.col) o
-    → m.index + length (colon ∷ o) ≤ limit → n.adjacent ≤ m.index
+pub reads_colon : {limit : ℕ} {start : State} {node : Node} (f : Frame) (k m : Marker) (o : List ℕ) (ts : List Kind)
+    (further : Bool) → nat_le f.indent k.col ≡ further → f.indent ≤ k.col + 1
+    → (r : KeyRead limit start node f k m o ts) → k.col ≤ m.col → IsBehindIndicator true (suc k.col) o
+    → m.index + length (colon ∷ o) ≤ limit
     → Before limit start (yaml.BehindKey k.col) (frame_behind further k.col f) (along m 1) o
-    (ts ++ (key_kinds further ++ (us ++ tokens.Value ∷ [])))
+    (ts ++ (key_kinds further ++ (r.tokens ++ tokens.Value ∷ [])))
 unfolding fetch state_behind_content
-reads_colon {limit} {start} f n ps others new key k m o ts us further e far v is first are candidate quiet here untabbed
-    near right h count low =
-    let l = lands_key f n (ps ++ new) m (58 ∷ o) here untabbed quiet near
+reads_colon {limit} f k m o ts further e far r right h count =
+    let n = r.moment in
+    let ps = r.places in
+    let new = bare_place r.key ∷ r.others in
+    let l = lands_key f n (ps ++ new) m (58 ∷ o) r.lands r.untabbed r.quiet r.near
     (further_right f.indent k.col m.col far right) in
     let deeper = deeper_at f n.deeper m in
     let i = next (queue_of (ps ++ new)) in
     let g = frame_behind further k.col f in
     let p = passes_colon (suc k.col) o h (along m 1) in
     let t = colon_moment p.mark p.rest n.adjacent in
-    let places = pair_places (block_opening further) key others (empty_piece m tokens.Value) in
+    let places = pair_places (block_opening further) r.key r.others (empty_piece m tokens.Value) in
     let allowed = crosses n.cursor.rest || n.allowed in
     let c = core_of f (moment_with n.required m (58 ∷ o) l.0 n.key allowed n.adjacent deeper) in
     let stepped = ap (λ (q : Option Candidate). step 58 (slice_index o 0) i
-    (core_of f (moment_with n.required m (58 ∷ o) l.0 q allowed n.adjacent deeper))) candidate
+    (core_of f (moment_with n.required m (58 ∷ o) l.0 q allowed n.adjacent deeper))) r.candidate
     ∙ colon_step f n.required (record { mark = k; place = length ps }) m (suc k.col) o h p l.0 allowed n.adjacent deeper
     further e far (some_further f.indent k.col further e) i in
     let made = ap (λ r. after_step r (queue_of (ps ++ new))) stepped
     ∙ ap (λ (q : Queue). Ok (let r : State = record { core = core_of g t; queue = q } in r))
-    (performs ps others new (block_opening further) key (empty_piece m tokens.Value) is) in
+    (performs ps r.others new (block_opening further) r.key (empty_piece m tokens.Value) refl) in
     let there = ap (λ r. r >>= fetch_here) l.1
     ∙ begins_here f n.required m (58 ∷ o) l.0 n.key allowed n.adjacent n.deeper (ps ++ new) (colon_begins m o)
     (further_right f.indent k.col m.col far right) ∙ made in
     before_next (yaml.BehindKey k.col) g t (ps ++ places) (along m 1) o
-    (steps_from g t (ps ++ places) v refl there refl (room m.index p.mark.index (length o) limit p.low count))
-    (key_are further ps others key m ts us first (ap place_kinds (sym is) ∙ are)) refl refl refl
-    (le_next n.adjacent m.index low) p.lands (p.clean (least_column (core_of g t)) (least_within further k.col f t far))
+    (steps_from g t (ps ++ places) r.follows refl there refl (room m.index p.mark.index (length o) limit p.low count))
+    (key_are further ps r.others r.key m ts r.tokens r.first r.are) refl refl refl
+    (le_next n.adjacent m.index r.low) p.lands (p.clean (least_column (core_of g t)) (least_within further k.col f t far))
     (or-false (crosses p.rest) ∙ p.crosses_same) (behind k.col m.col right)
   where
     further_right : (i k m : ℕ) → i ≤ k + 1 → k ≤ m → i ≤ m + 1

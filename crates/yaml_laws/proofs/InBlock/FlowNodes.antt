@@ -51,8 +51,8 @@ reads_key reads limit node f m t o n far h line apart short white fits start ts 
     let around = around_of limit f in
     let y = t ++ (n.text ++ (58 ∷ o)) in
     let k : Candidate = record { mark = m; place = length v.places } in
-    let r = key_read reads around refl node m t n o h line apart short white far fits.clear fits.below v.deeper v.blank
-    v.key v.adjacent v.places v.low in
+    let r = key_read reads around refl node m t n o h line apart short white far fits.clear fits.below v
+    in
     let a = r.line in
     let moment : Moment = record {
       cursor = r.there;

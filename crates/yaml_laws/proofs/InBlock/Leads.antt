@@ -1,9 +1,9 @@
 -- What comes before a block collection is passed: its properties, or nothing, and the way to its first entry.
-use Rattle.yaml_laws.proofs.Common.{List, [], ap, append-nil, append_assoc, arith, inl, inr, refl, subst, sym, true, ℕ, ◌++◌, ◌∙◌, ◌∷◌, ◌≡◌, ◌≤◌, None, ◌||◌, Marker, spaces, IsFiller, IsLineEnd, State, Kind, Properties, no_properties, or-true, Position, indent_at, sequence_indent_at, IsLead}
+use Rattle.yaml_laws.proofs.Common.{List, [], ap, append-nil, append_assoc, arith, inl, inr, refl, subst, sym, true, ℕ, ◌++◌, ◌∙◌, ◌∷◌, ◌≡◌, ◌≤◌, ◌||◌, Marker, spaces, IsFiller, IsLineEnd, State, Kind, Properties, no_properties, or-true, Position, indent_at, sequence_indent_at, IsLead}
 use Rattle.yaml_laws.proofs.Flow.Places.{moved_append}
 use Rattle.yaml_laws.proofs.InBlock.Lines.{FitsOnLines, fits_so}
 use Rattle.yaml_laws.proofs.Flow.ContentStarts.{StartsContent}
-use Rattle.yaml_laws.proofs.InBlock.States.{Frame, crosses, is_compact, IsPlaced, At, Before, compact_spaced, moved, past}
+use Rattle.yaml_laws.proofs.InBlock.States.{Frame, crosses, is_compact, IsPlaced, Before, compact_spaced, moved, past, FreeAt}
 use Rattle.yaml_laws.proofs.InBlock.Skips.{IsSkipped, skipped_append, filler_skipped, spaces_skipped, line_end_skipped, line_end_crosses}
 use Rattle.yaml_laws.proofs.InBlock.Statements.{ReadsLeaves, IsNextLineText, PropertiesRead}
 use Rattle.yaml_laws.proofs.InBlock.Texts.{reaches, spaces_moved, indentation_col}
@@ -15,11 +15,9 @@ plain_lead : {limit : ℕ} {start : State} {ts : List Kind} (p : Properties) (pl
     → PropertiesRead limit start p f (moved m w) y ts
 plain_lead {limit} {start} {ts} p place f m w y none h b opens v =
     let there : past 0 m (w ++ y) ≡ (moved m w, y) = cc (reaches m w b.first b.others h b.content) in
-    let p_at = subst (λ (q : Marker × List ℕ). (u : At limit start f q.0 q.1 ts) × (u.key ≡ None)
-    × (u.allowed ≡ true)) there (v.at, v.none, v.allows opens) in
-    let all = subst (λ (us : List Kind). (u : At limit start f (moved m w) y us) × (u.key ≡ None)
-    × (u.allowed ≡ true)) (sym (append-nil ts)) p_at in
-    record { tokens = []; are = rw none refl; at = all.0; none = all.1; allowed = all.2 }
+    let p_at = subst (λ (q : Marker × List ℕ). FreeAt limit start f q.0 q.1 ts) there
+    (record { at = v.at; none = v.none; allowed = v.allows opens }) in
+    record { tokens = []; are = rw none refl; at = subst (FreeAt limit start f (moved m w) y) (sym (append-nil ts)) p_at }
 
 -- Up to the first token of a collection, given its lead: properties or none, and then what is skipped up to the
 -- collection's column. A key may begin there, since a break was passed, or since the place is compact.
@@ -43,7 +41,7 @@ reads_lead {limit} leaves p place least column f same m lead y
     let is : lead ≡ white ++ (t ++ w) = cc (append_assoc white t w) in
     let text : lead ++ y ≡ white ++ (t ++ (w ++ y)) = cc (append_assoc white (t ++ w) y, append_assoc t w y) in
     let next : IsNextLineText w = (end, filler, column, end_is, filler_is, refl) in
-    let r = leaves.properties p place f same m white t w y spaced properties next b
+    let r = leaves.properties p place f same m white t w y (spaced, properties, next) b
     (fits_so m lead (white ++ (t ++ w)) y is fits) start ts (rw text at v) in
     rw is r
 reads_lead {limit} leaves p place least column f same m lead y (inr (none, h)) b fits start ts v =

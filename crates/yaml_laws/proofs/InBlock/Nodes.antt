@@ -5,7 +5,7 @@ use Rattle.saphyr_scanner.specs.Grammar.TokenGrammar as grammar
 use Rattle.yaml_laws.proofs.Flow.Places.{moved_append}
 use Rattle.yaml_laws.proofs.InBlock.Lines.{fits_front, fits_back, fits_so}
 use Rattle.yaml_laws.proofs.Flow.Fillers.{rest_past}
-use Rattle.yaml_laws.proofs.InBlock.States.{Frame, is_compact, EndsDocument, IsLeftOf, At, Before, moved, past}
+use Rattle.yaml_laws.proofs.InBlock.States.{Frame, is_compact, EndsDocument, IsLeftOf, At, moved, past}
 use Rattle.yaml_laws.proofs.InBlock.Closing.{closes_block}
 use Rattle.yaml_laws.proofs.InBlock.Skips.{line_end_skipped, line_end_crosses, skipped_past}
 use Rattle.yaml_laws.proofs.InBlock.Entries.{frame_behind}
@@ -102,11 +102,11 @@ reads_sequence {limit} leaves p node nodes reads more place f same m t o (column
     let behind_o = subst (λ (x : Marker). EndsNodeAt f.indent x o) end behind in
     let l = reads_lead leaves p place (sequence_indent_at place) column f same m lead (entries ++ o) lead_is
     (further_content entries o (entries_content (MoreNodes node nodes) column entries o h))
-    (fits_front m lead entries o whole) start ts (subst (λ (x : List ℕ). Before limit start place f m x ts) text v) in
+    (fits_front m lead entries o whole) start ts (rw text at v) in
     let r = reads_entries leaves node nodes reads more f n (nat_le f.indent n.col) refl far entries o (rw col h)
     (fits_back m lead entries o whole)
     (behind_wider f.indent (suc n.col) (moved n entries) o (to_next f.indent n.col far) behind_o) start (ts ++ l.tokens)
-    l.at l.none l.allowed in
+    l.at in
     let c = ended n low (moved n entries) behind_o.left (nat_le f.indent n.col) refl (ts ++ l.tokens) r.tokens r.are
     r.arrived in
     record {
@@ -151,8 +151,8 @@ reads_mapping : {limit : ℕ} → ReadsLeaves limit → (p : Properties) (key va
     → ReadsAt limit key (IsBlockNode most_open key) → ReadsAt limit value (IsBlockNode most_open value)
     → ReadsOtherPairs limit pairs
     → ReadsAt limit (Map p (MorePairs key value pairs)) (IsBlockMapping p (MorePairs key value pairs))
-reads_mapping {limit} leaves p key value pairs K V more place f same m t o (column, lead, entries, lead_is, h, e) fits
-    behind start ts v =
+reads_mapping leaves p key value pairs K V more place f same m t o (column, lead, entries, lead_is, h, e) fits behind
+    start ts v =
     let n = moved m lead in
     let col = lead_col p place (indent_at place) column m lead v.placed lead_is in
     let text : t ++ o ≡ lead ++ (entries ++ o) = ap (λ (x : List ℕ). x ++ o) e ∙ append_assoc lead entries o in
@@ -163,11 +163,11 @@ reads_mapping {limit} leaves p key value pairs K V more place f same m t o (colu
     let behind_o = subst (λ (x : Marker). EndsNodeAt f.indent x o) end behind in
     let l = reads_lead leaves p place (indent_at place) column f same m lead (entries ++ o) lead_is
     (further_content entries o (pairs_content leaves (MorePairs key value pairs) column entries o h))
-    (fits_front m lead entries o whole) start ts (subst (λ (x : List ℕ). Before limit start place f m x ts) text v) in
+    (fits_front m lead entries o whole) start ts (rw text at v) in
     let r = reads_parts (is_pair leaves key value K V) more f n true (yes f.indent n.col low) far
     entries o (rw col h) (fits_back m lead entries o whole)
     (behind_wider f.indent (suc n.col) (moved n entries) o (to_next f.indent n.col far) behind_o) start (ts ++ l.tokens)
-    l.at l.none l.allowed in
+    l.at in
     let c = collection_closes f n.col (past 0 (moved n entries) o) low behind_o.left r.arrived in
     record {
       tokens = l.tokens ++ (tokens.BlockMappingStart ∷ (r.tokens ++ tokens.BlockEnd ∷ []));

@@ -1,11 +1,11 @@
 -- A pair of a block mapping is read, whatever its form (YAML 1.2.2, 8.2.2).
-use Rattle.yaml_laws.proofs.Common.{Bool, List, [], ap, append-nil, append_assoc, arith, false, inl, inr, length, refl, subst, suc, sym, true, ℕ, ◌++◌, ◌+◌, ◌<◌, ◌∙◌, ◌∷◌, ◌≡◌, ◌≤◌, ◌⊎◌, None, if◌then◌else◌, nat_le, ◌≢◌, Marker, spaces, along, bare_place, State, Kind, AreIn, is_blank, MorePairs, NoPair, Node, Pairs, most_open, IsOnLine, AreOtherPairs, BehindKey, BehindMark, IsBlockNode, IsBlockPair, IsEntryIndentation, IsImplicitPair, IsKeyAlone, IsKeylessPair, IsMarkedPair, is_value_ahead, clash, next_not_within}
+use Rattle.yaml_laws.proofs.Common.{Bool, List, [], ap, append-nil, append_assoc, arith, false, inl, inr, length, refl, subst, suc, sym, true, ℕ, ◌++◌, ◌+◌, ◌<◌, ◌∙◌, ◌∷◌, ◌≡◌, ◌≤◌, ◌⊎◌, if◌then◌else◌, nat_le, ◌≢◌, Marker, spaces, along, State, Kind, AreIn, is_blank, MorePairs, NoPair, Node, Pairs, most_open, IsOnLine, AreOtherPairs, BehindKey, BehindMark, IsBlockNode, IsBlockPair, IsEntryIndentation, IsImplicitPair, IsKeyAlone, IsKeylessPair, IsMarkedPair, is_value_ahead, clash, next_not_within}
 use Rattle.saphyr_scanner.specs.Grammar.Tokens as tokens
 use Rattle.saphyr_scanner.specs.Grammar.TokenGrammar as grammar
 use Rattle.yaml_laws.proofs.InFlow.Keys.{blanks_are_on_line}
 use Rattle.yaml_laws.proofs.Flow.Places.{moved_append, moved_along}
 use Rattle.yaml_laws.proofs.InBlock.Lines.{FitsOnLines, fits_front, fits_back, fits_so}
-use Rattle.yaml_laws.proofs.InBlock.States.{Frame, EndsDocument, At, Before, moved, past}
+use Rattle.yaml_laws.proofs.InBlock.States.{Frame, EndsDocument, Before, moved, past, FreeAt}
 use Rattle.yaml_laws.proofs.InBlock.Entries.{BeginsWhite, IsBehindIndicator, frame_behind}
 use Rattle.yaml_laws.proofs.InBlock.Questions.{key_kinds, reads_question}
 use Rattle.yaml_laws.proofs.InBlock.Colons.{value_kinds, reads_value, reads_colon}
@@ -51,7 +51,7 @@ reads_implicit : {limit : ℕ} → ReadsLeaves limit → (key value : Node)
     → ReadsAt limit value (IsBlockNode most_open value)
     → ReadsPair limit key value (IsImplicitPair most_open key (IsBlockNode most_open value))
 reads_implicit {limit} leaves key value V f n further e far t z
-    (node, between, v, node_is, line, are, before, short, h, is) fits behind start ts at_key none allowed =
+    (node, between, v, node_is, line, are, before, short, h, is) fits behind start ts at_key =
     let g = frame_behind further n.col f in
     let m = moved n (node ++ between) in
     let inside : t ≡ (node ++ between) ++ (58 ∷ v) = is ∙ sym (append_assoc node between (58 ∷ v)) in
@@ -61,16 +61,14 @@ reads_implicit {limit} leaves key value V f n further e far t z
     let end = ap (moved n) inside ∙ moved_append n (node ++ between) (58 ∷ v) in
     let behind_v = subst (λ (x : Marker). EndsNodeAt (suc n.col) x z) end behind in
     let ahead = node_behind leaves value (BehindKey n.col) v z refl h behind_v.clean in
-    let p = subst (λ (y : List ℕ). (w : At limit start f n y ts) × (w.allowed ≡ true)) text (at_key, allowed) in
+    let p = subst (λ (y : List ℕ). FreeAt limit start f n y ts) text at_key in
     let r = leaves.key key f n node (v ++ z) (record { text = between; are = are }) far node_is line before short
-    ahead.first (fits_front n (node ++ between) (58 ∷ v) z whole) start ts p.0 p.1 in
-    let b = reads_colon f r.moment r.places r.others (bare_place r.key ∷ r.others) r.key n m (v ++ z) ts r.tokens
-    further e far r.follows refl r.first r.are r.candidate r.quiet r.lands r.untabbed r.near
-    (further_right n node between line are) ahead fits_colon.below r.low in
+    ahead.first (fits_front n (node ++ between) (58 ∷ v) z whole) start ts p.at p.allowed in
+    let b = reads_colon f n m (v ++ z) ts further e far r (further_right n node between line are) ahead fits_colon.below
+    in
     let s = V (BehindKey n.col) g (frame_same further f n.col e far) (along m 1) v z h
     (fits_back m (58 ∷ []) v z fits_colon)
-    (rw (frame_same further f n.col e far) behind_v) start
-    (ts ++ (key_kinds further ++ (r.tokens ++ tokens.Value ∷ []))) b in
+    (rw (frame_same further f n.col e far) behind_v) start _ b in
     record {
       tokens = (tokens.Key ∷ r.tokens) ++ (tokens.Value ∷ s.tokens);
       are = λ others unvalued. paired key value r.tokens s.tokens others (inr r.node_are)
@@ -105,19 +103,18 @@ alone_list further ts us = grind (arith, append_assoc, append-nil)
 reads_alone : {limit : ℕ} → ReadsLeaves limit → (key value : Node) → ReadsAt limit key (IsBlockNode most_open key)
     → ReadsPair limit key value (IsKeyAlone value (IsBlockNode most_open key))
 reads_alone {limit} leaves key value K f n further e far t z (node, out, some, h, unvalued, is) fits behind start ts
-    at_mark none allowed =
+    at_mark =
     let g = frame_behind further n.col f in
     let text : t ++ z ≡ 63 ∷ (node ++ z) = ap (λ (x : List ℕ). x ++ z) is in
     let whole = fits_so n t ((63 ∷ []) ++ node) z is fits in
     let end = ap (moved n) is in
     let behind_k = subst (λ (x : Marker). EndsNodeAt (suc n.col) x z) end behind in
     let ahead = node_behind leaves key (BehindMark n.col) node z refl h behind_k.clean in
-    let p = subst (λ (y : List ℕ). (w : At limit start f n y ts) × (w.allowed ≡ true)) text (at_mark, allowed) in
+    let p = subst (λ (y : List ℕ). FreeAt limit start f n y ts) text at_mark in
     let b = reads_question f n (node ++ z) further e far (some_white node z some.0 ahead.white)
-    (no_tab_ahead (node ++ z) some.1) whole.below p.0 p.1 in
+    (no_tab_ahead (node ++ z) some.1) whole.below p.at p.allowed in
     let r = K (BehindMark n.col) g (frame_same further f n.col e far) (along n 1) node z h
-    (fits_back n (63 ∷ []) node z whole) (rw (frame_same further f n.col e far) behind_k) start
-    (ts ++ key_kinds further) b in
+    (fits_back n (63 ∷ []) node z whole) (rw (frame_same further f n.col e far) behind_k) start _ b in
     record {
       tokens = tokens.Key ∷ r.tokens;
       are = λ others ahead. inr (inl (
@@ -150,19 +147,17 @@ as_behind_key f m o v = record {
 
 reads_keyless : {limit : ℕ} → ReadsLeaves limit → (key value : Node) → ReadsAt limit value (IsBlockNode most_open value)
     → ReadsPair limit key value (IsKeylessPair key (IsBlockNode most_open value))
-reads_keyless {limit} leaves key value V f n further e far t z (v, out, h, is) fits behind start ts at_colon none
-    allowed =
+reads_keyless {limit} leaves key value V f n further e far t z (v, out, h, is) fits behind start ts at_colon =
     let g = frame_behind further n.col f in
     let text : t ++ z ≡ 58 ∷ (v ++ z) = ap (λ (x : List ℕ). x ++ z) is in
     let whole = fits_so n t ((58 ∷ []) ++ v) z is fits in
     let end = ap (moved n) is in
     let behind_v = subst (λ (x : Marker). EndsNodeAt (suc n.col) x z) end behind in
     let ahead = node_behind leaves value (BehindKey n.col) v z refl h behind_v.clean in
-    let p = subst (λ (y : List ℕ). (w : At limit start f n y ts) × (w.key ≡ None) × (w.allowed ≡ true)) text
-    (at_colon, none, allowed) in
-    let b = as_behind_key g n (v ++ z) (reads_value f n (v ++ z) further e far ahead whole.below p.0 p.1 p.2) in
+    let p = subst (λ (y : List ℕ). FreeAt limit start f n y ts) text at_colon in
+    let b = as_behind_key g n (v ++ z) (reads_value f n (v ++ z) further e far ahead whole.below p.at p.none p.allowed) in
     let s = V (BehindKey n.col) g (frame_same further f n.col e far) (along n 1) v z h (fits_back n (58 ∷ []) v z whole)
-    (rw (frame_same further f n.col e far) behind_v) start (ts ++ value_kinds further) b in
+    (rw (frame_same further f n.col e far) behind_v) start _ b in
     record {
       tokens = tokens.Value ∷ s.tokens;
       are = grind (arith, as_optional);
@@ -186,7 +181,7 @@ reads_marked : {limit : ℕ} → ReadsLeaves limit → (key value : Node) → Re
     → ReadsAt limit value (IsBlockNode most_open value)
     → ReadsPair limit key value (IsMarkedPair (IsBlockNode most_open key) (IsBlockNode most_open value))
 reads_marked {limit} leaves key value K V f n further e far t z
-    (node, colon, v, some, h, (filler, filler_is, colon_is), j, is) fits behind start ts at_mark none allowed =
+    (node, colon, v, some, h, (filler, filler_is, colon_is), j, is) fits behind start ts at_mark =
     let g = frame_behind further n.col f in
     let same = frame_same further f n.col e far in
     let y = colon ++ (v ++ z) in
@@ -219,11 +214,11 @@ reads_marked {limit} leaves key value K V f n further e far t z
     ∙ moved_append k w (58 ∷ v) in
     let behind_v = subst (λ (x : Marker). EndsNodeAt (suc n.col) x z) end behind in
     let ahead_v = node_behind leaves value (BehindMark n.col) v z refl j behind_v.clean in
-    let p = subst (λ (x : List ℕ). (u : At limit start f n x ts) × (u.allowed ≡ true)) text (at_mark, allowed) in
+    let p = subst (λ (x : List ℕ). FreeAt limit start f n x ts) text at_mark in
     let b = reads_question f n (node ++ y) further e far (some_white node y some.0 ahead_k.white)
-    (no_tab_ahead (node ++ y) some.1) (subst (λ (x : List ℕ). n.index + length x ≤ limit) text fits.below) p.0 p.1 in
-    let r = K (BehindMark n.col) g same (along n 1) node y h fits_key (rw same behind_k) start (ts ++ key_kinds further)
-    b in
+    (no_tab_ahead (node ++ y) some.1) (subst (λ (x : List ℕ). n.index + length x ≤ limit) text fits.below) p.at
+    p.allowed in
+    let r = K (BehindMark n.col) g same (along n 1) node y h fits_key (rw same behind_k) start _ b in
     let us = (ts ++ key_kinds further) ++ r.tokens in
     let there : past 0 k y ≡ (c, 58 ∷ (v ++ z)) = ap (past 0 k) y_is
     ∙ reaches k w 58 (v ++ z) (indentation_skipped n.col w indented) colon_content in
@@ -231,10 +226,10 @@ reads_marked {limit} leaves key value K V f n further e far t z
     let ready = goes_on (no_colon_marker c (v ++ z)) at_colon in
     let width = same ∙ sym (suc_is n.col) ∙ ap (λ (i : ℕ). i + 1) (sym col) in
     let before_v = reads_value g c (v ++ z) false (next_not_within g.indent c.col width) (least g.indent c.col width)
-    (subst (λ (i : ℕ). IsBehindIndicator true (suc i) (v ++ z)) (sym col) ahead_v) fits_colon.below at_colon.at
-    ready.0 ready.1 in
+    (subst (λ (i : ℕ). IsBehindIndicator true (suc i) (v ++ z)) (sym col) ahead_v) fits_colon.below ready.at
+    ready.none ready.allowed in
     let s = V (BehindMark n.col) g same (along c 1) v z j (fits_back c (58 ∷ []) v z fits_colon)
-    (rw same behind_v) start (us ++ tokens.Value ∷ [])
+    (rw same behind_v) start _
     (subst (λ (i : ℕ). Before limit start (BehindMark i) g (along c 1) (v ++ z) (us ++ tokens.Value ∷ [])) col
     before_v) in
     record {
@@ -249,14 +244,14 @@ pub reads_pair : {limit : ℕ} → ReadsLeaves limit → (key value : Node) → 
     → ReadsAt limit value (IsBlockNode most_open value)
     → ReadsPair limit key value
     (IsBlockPair most_open key value (IsBlockNode most_open key) (IsBlockNode most_open value))
-reads_pair leaves key value K V f n further e far t z (inl (inl h)) fits behind start ts v none allowed =
-    reads_implicit leaves key value V f n further e far t z h fits behind start ts v none allowed
-reads_pair leaves key value K V f n further e far t z (inl (inr h)) fits behind start ts v none allowed =
-    reads_keyless leaves key value V f n further e far t z h fits behind start ts v none allowed
-reads_pair leaves key value K V f n further e far t z (inr (inl h)) fits behind start ts v none allowed =
-    reads_alone leaves key value K f n further e far t z h fits behind start ts v none allowed
-reads_pair leaves key value K V f n further e far t z (inr (inr h)) fits behind start ts v none allowed =
-    reads_marked leaves key value K V f n further e far t z h fits behind start ts v none allowed
+reads_pair leaves key value K V f n further e far t z (inl (inl h)) fits behind start ts v =
+    reads_implicit leaves key value V f n further e far t z h fits behind start ts v
+reads_pair leaves key value K V f n further e far t z (inl (inr h)) fits behind start ts v =
+    reads_keyless leaves key value V f n further e far t z h fits behind start ts v
+reads_pair leaves key value K V f n further e far t z (inr (inl h)) fits behind start ts v =
+    reads_alone leaves key value K f n further e far t z h fits behind start ts v
+reads_pair leaves key value K V f n further e far t z (inr (inr h)) fits behind start ts v =
+    reads_marked leaves key value K V f n further e far t z h fits behind start ts v
 
 -- ## All pairs
 

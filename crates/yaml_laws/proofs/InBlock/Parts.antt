@@ -5,7 +5,7 @@ use Rattle.yaml_laws.proofs.Flow.ContentStarts.{StartsContent}
 use Rattle.yaml_laws.proofs.Flow.Places.{moved_append, clear_here}
 use Rattle.yaml_laws.proofs.Documents.Stands.{AtLine}
 use Rattle.yaml_laws.proofs.InBlock.Lines.{FitsOnLines, fits_front, fits_back, fits_so}
-use Rattle.yaml_laws.proofs.InBlock.States.{Frame, EndsDocument, At, IsClear, moved, past, IsContentStart}
+use Rattle.yaml_laws.proofs.InBlock.States.{Frame, EndsDocument, IsClear, moved, past, IsContentStart, FreeAt}
 use Rattle.yaml_laws.proofs.InBlock.Entries.{frame_behind}
 use Rattle.yaml_laws.proofs.InBlock.Statements.{EndsNodeAt, ArrivedAt, Arrived, EndsWithLine, arrived_so}
 use Rattle.yaml_laws.proofs.InBlock.Texts.{behind_indented, indentation_skipped, indentation_col, reaches}
@@ -39,8 +39,10 @@ least i col e = omega (arith, e)
 
 -- a key may begin at a token that doesn't end the document
 pub goes_on : {limit : ℕ} {start : State} {f : Frame} {ts : List Kind} {n : Marker} {y : List ℕ}
-    → ((EndsDocument n y) → ⊥) → (v : ArrivedAt limit start f ts (n, y)) → (v.at.key ≡ None) × (v.at.allowed ≡ true)
-goes_on {n = n} {y = y} out v = grind arith
+    → ((EndsDocument n y) → ⊥) → ArrivedAt limit start f ts (n, y) → FreeAt limit start f n y ts
+goes_on {n = n} {y = y} out v =
+    let free : (v.at.key ≡ None) × (v.at.allowed ≡ true) = grind arith in
+    record { at = v.at; none = free.0; allowed = free.1 }
 
 -- a token that is no document marker, where the text has none at its line's start
 not_marker : (m : Marker) (c : ℕ) (cs : List ℕ) → ((m.col == 0) && is_document_indicator (c ∷ cs)) ≡ false
@@ -81,7 +83,7 @@ abbrev pub ReadsPart : ℕ → (List Kind → List Kind → Type 0) → (Bool �
 ReadsPart limit E opens Is =
     (f : Frame) (n : Marker) (further : Bool) → nat_le f.indent n.col ≡ further → f.indent ≤ n.col + 1 → (t z : List ℕ)
     → Is n.col t z → FitsOnLines limit n t z → EndsNodeAt (suc n.col) (moved n t) z
-    → (start : State) (ts : List Kind) (v : At limit start f n (t ++ z) ts) → v.key ≡ None → v.allowed ≡ true
+    → (start : State) (ts : List Kind) → FreeAt limit start f n (t ++ z) ts
     → PartRead limit start E (frame_behind further n.col f) n t z (ts ++ opens further)
 
 pub record IsPart (limit : ℕ) (E : List Kind → List Kind → Type 0) (opens : Bool → List Kind)
@@ -197,7 +199,7 @@ more_parts {limit} {opens = opens} {Is} {Others} {As} is_part more = record {
       let width = same ∙ ap (λ (c : ℕ). c + 1) (sym col) in
       let r = is_part.reads g n false (next_not_within g.indent n.col width)
       (least g.indent n.col width) part z is_it fits_part
-      (subst (λ (c : ℕ). EndsNodeAt (suc c) last z) (sym col) behind_z) start ts at_part.at ready.0 ready.1 in
+      (subst (λ (c : ℕ). EndsNodeAt (suc c) last z) (sym col) behind_z) start ts ready in
       let s = more.reads g column same last others o k (fits_back n part others o fits_parts) behind_o starts_z start
       ((ts ++ opens false) ++ r.tokens) r.arrived in
       record {
@@ -224,11 +226,10 @@ pub reads_parts : {limit : ℕ} {E : List Kind → List Kind → Type 0} {opens 
     {Is Others : ℕ → List ℕ → List ℕ → Type 0} {As : List Kind → Type 0} → IsPart limit E opens Is
     → ReadsOtherParts limit Others As → (f : Frame) (n : Marker) (further : Bool) → nat_le f.indent n.col ≡ further
     → f.indent ≤ n.col + 1 → (t o : List ℕ) → IsFirst Is Others n.col t o → FitsOnLines limit n t o
-    → EndsNodeAt (suc n.col) (moved n t) o
-    → (start : State) (ts : List Kind) (v : At limit start f n (t ++ o) ts) → v.key ≡ None → v.allowed ≡ true
+    → EndsNodeAt (suc n.col) (moved n t) o → (start : State) (ts : List Kind) → FreeAt limit start f n (t ++ o) ts
     → PartsRead limit start (AreParts E As) n.col (frame_behind further n.col f) n t o (ts ++ opens further)
 reads_parts {limit} {opens = opens} is_part more f n further e far t o (part, others, h, k, is) fits behind start ts
-    v none allowed =
+    v =
     let z = others ++ o in
     let g = frame_behind further n.col f in
     let text : t ++ o ≡ part ++ z = ap (λ (x : List ℕ). x ++ o) is ∙ append_assoc part others o in
@@ -238,9 +239,8 @@ reads_parts {limit} {opens = opens} is_part more f n further e far t o (part, ot
     let behind_o = subst (λ (x : Marker). EndsNodeAt (suc n.col) x o) end behind in
     let starts_z = starts_behind n part z (is_part.ends n.col part z h) in
     let behind_z = more.behind n.col last others o k starts_z behind_o in
-    let p = subst (λ (y : List ℕ). (w : At limit start f n y ts) × (w.key ≡ None) × (w.allowed ≡ true)) text
-    (v, none, allowed) in
-    let r = is_part.reads f n further e far part z h (fits_front n part others o whole) behind_z start ts p.0 p.1 p.2 in
+    let r = is_part.reads f n further e far part z h (fits_front n part others o whole) behind_z start ts
+    (subst (λ (y : List ℕ). FreeAt limit start f n y ts) text v) in
     let s = more.reads g n.col (frame_indent further f n.col e far) last others o k (fits_back n part others o whole)
     behind_o starts_z start ((ts ++ opens further) ++ r.tokens) r.arrived in
     record {

@@ -100,7 +100,7 @@ line_first end o rest h e = cc (append_assoc rest (10 ∷ []) o, rest_first rest
 -- The gap, the properties, and what is between them and the header, which the scanner passes on its way to the header's
 -- indicator. A key that is kept there is from its line or an earlier one (`late`).
 pub reads_head : ReaderPromises → (limit : ℕ) → limit < 2 ^ 63 → ReadsHead limit
-reads_head reads limit short p place f same m gap t between y gap_is h between_is content fits start ts before =
+reads_head reads limit short p place f same m gap t between y (gap_is, h, between_is) content fits start ts before =
     let n = moved m gap in
     let o = between ++ y in
     let low = subst (λ (i : ℕ). i ≤ n.col) (sym same) (gap_reaches place m gap gap_is before.placed) in
@@ -169,7 +169,7 @@ lines_behind w y (end, filler, n, (rest, rest_is, end_is), filler_is, e) content
 -- As `reads_head`, but the rest of the line is behind the properties, and a break. So the next token is on a later
 -- line, and no key of an earlier line is kept there (`late_key_left`): one may begin.
 pub reads_properties : ReaderPromises → (limit : ℕ) → limit < 2 ^ 63 → ReadsProperties limit
-reads_properties reads limit short p place f same m front t w y gap_is h next_line content fits start ts before =
+reads_properties reads limit short p place f same m front t w y (gap_is, h, next_line) content fits start ts before =
     let n = moved m front in
     let o = w ++ y in
     let low = subst (λ (i : ℕ). i ≤ n.col) (sym same) (gap_reaches place m front gap_is before.placed) in
@@ -195,8 +195,10 @@ reads_properties reads limit short p place f same m front t w y gap_is h next_li
     record {
       tokens = r.tokens;
       are = r.are;
-      at = z.0;
-      none = late_key_left z.0.key k q z.1 (omega (arith, grown, at_line)) z.0.near;
-      allowed = z.2;
+      at = record {
+        at = z.0;
+        none = late_key_left z.0.key k q z.1 (omega (arith, grown, at_line)) z.0.near;
+        allowed = z.2;
+      };
     } in
     rw (moved_append m front (t ++ w), moved_append n t w) here

@@ -62,8 +62,8 @@ pub record HeadRead (limit : ℕ) (start : State) (p : Properties) (f : Frame) (
 -- `t` is the properties, `gap` comes before them, and `between` after.
 abbrev pub ReadsHead : ℕ → Type 0
 ReadsHead limit = (p : Properties) (place : Position) (f : Frame) → f.indent ≡ indent_at place
-    → (m : Marker) (gap t between y : List ℕ) → IsGapAt place gap → IsProperties p (indent_at place) t
-    → IsGap (indent_at place) between → StartsContent y
+    → (m : Marker) (gap t between y : List ℕ)
+    → IsGapAt place gap × IsProperties p (indent_at place) t × IsGap (indent_at place) between → StartsContent y
     → FitsOnLines limit m (gap ++ (t ++ between)) y → (start : State) (ts : List Kind)
     → Before limit start place f m (gap ++ (t ++ (between ++ y))) ts
     → HeadRead limit start p f (moved m (gap ++ (t ++ between))) y ts
@@ -123,6 +123,6 @@ reads_block_scalars laws {limit} short heads p style value place f same m t o
         ) in
         let b : Before limit start place f m (gap ++ (properties ++ (between ++ (text ++ o)))) ts =
         rw inner at before in
-        let r = heads p place f same m gap properties between (text ++ o) gap_is h spaced content
+        let r = heads p place f same m gap properties between (text ++ o) (gap_is, h, spaced) content
         (fits_front m w text o (fits_so m t (w ++ text) o whole fits)) start ts b in
         behind_head w r.tokens whole r.are r.right r.at r.late

@@ -1,9 +1,9 @@
 -- The entries of a block sequence are read (YAML 1.2.2, 8.2.1).
-use Rattle.yaml_laws.proofs.Common.{Bool, List, [], append-nil, append_assoc, arith, false, inl, inr, refl, subst, suc, true, ℕ, ◌++◌, ◌+◌, ◌∙◌, ◌∷◌, ◌≡◌, ◌≤◌, None, if◌then◌else◌, nat_le, hyphen, Marker, along, State, Kind, MoreNodes, NoNode, Node, Nodes, most_open, AreEntries, AreOtherEntries, BehindDash, IsBlockNode}
+use Rattle.yaml_laws.proofs.Common.{Bool, List, [], append-nil, append_assoc, arith, false, inl, inr, refl, subst, suc, true, ℕ, ◌++◌, ◌+◌, ◌∙◌, ◌∷◌, ◌≡◌, ◌≤◌, if◌then◌else◌, nat_le, hyphen, Marker, along, State, Kind, MoreNodes, NoNode, Node, Nodes, most_open, AreEntries, AreOtherEntries, BehindDash, IsBlockNode}
 use Rattle.saphyr_scanner.specs.Grammar.Tokens as tokens
 use Rattle.saphyr_scanner.specs.Grammar.TokenGrammar as grammar
 use Rattle.yaml_laws.proofs.InBlock.Lines.{FitsOnLines, fits_back, fits_so}
-use Rattle.yaml_laws.proofs.InBlock.States.{Frame, At, moved}
+use Rattle.yaml_laws.proofs.InBlock.States.{Frame, At, moved, FreeAt}
 use Rattle.yaml_laws.proofs.InBlock.Entries.{frame_behind, dash_kinds, reads_dash}
 use Rattle.yaml_laws.proofs.InBlock.Statements.{EndsNodeAt, EndsWithLine, as_optional, NodeRead, ReadsAt, ReadsLeaves}
 use Rattle.yaml_laws.proofs.InBlock.Texts.{node_ends}
@@ -27,7 +27,7 @@ reads_entry {limit} leaves node reads f n further e far entry z is fits behind s
     let ahead = node_behind leaves node (BehindDash n.col) entry z refl is behind.clean in
     let before = reads_dash f n (entry ++ z) further e far ahead fits.below v allowed in
     reads (BehindDash n.col) g (same ∙ suc_is n.col) (along n 1) entry z is (fits_back n (45 ∷ []) entry z fits)
-    (rw (same ∙ suc_is n.col) behind) start (ts ++ dash_kinds further) before
+    (rw (same ∙ suc_is n.col) behind) start _ before
 
 -- the start of a sequence, where one begins
 abbrev pub sequence_start : Bool → List Kind
@@ -53,8 +53,8 @@ is_entry : {limit : ℕ} → ReadsLeaves limit → (node : Node) → ReadsAt lim
 is_entry {limit} leaves node reads = record {
   content = λ column t z (entry, h, e). record { first = 45; others = entry; is = e; content = dash_content };
   ends = λ column t z (entry, h, e). rw e (behind_dash entry z (node_ends leaves node (BehindDash column) entry z h));
-  reads = λ f n further e far t z (entry, h, is) fits behind start ts v none allowed.
-      one f n further e far t z entry h is fits behind start ts v allowed;
+  reads = λ f n further e far t z (entry, h, is) fits behind start ts v.
+      one f n further e far t z entry h is fits behind start ts v.at v.allowed;
   none = refl;
 }
   where
@@ -106,10 +106,10 @@ pub reads_entries : {limit : ℕ} → ReadsLeaves limit → (node : Node) (nodes
     → (f : Frame) (n : Marker) (further : Bool) → nat_le f.indent n.col ≡ further
     → f.indent ≤ n.col + 1 → (t o : List ℕ) → AreEntries most_open (MoreNodes node nodes) n.col t o
     → FitsOnLines limit n t o → EndsNodeAt (suc n.col) (moved n t) o
-    → (start : State) (ts : List Kind) (v : At limit start f n (t ++ o) ts) → v.key ≡ None → v.allowed ≡ true
+    → (start : State) (ts : List Kind) → FreeAt limit start f n (t ++ o) ts
     → PartsRead limit start (grammar.YieldBlockEntries (MoreNodes node nodes)) n.col (frame_behind further n.col f) n t
     o (ts ++ sequence_start further)
-reads_entries leaves node nodes reads more f n further e far t o (entry, others, h, k, is) fits behind start ts v none
-    allowed = mapped_parts (entries_are node nodes)
+reads_entries leaves node nodes reads more f n further e far t o (entry, others, h, k, is) fits behind start ts v =
+    mapped_parts (entries_are node nodes)
     (reads_parts (is_entry leaves node reads) more f n further e far t o (45 ∷ entry, others, (entry, h, refl), k, is)
-    fits behind start ts v none allowed)
+    fits behind start ts v)

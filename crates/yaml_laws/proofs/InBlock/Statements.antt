@@ -4,7 +4,7 @@ use Rattle.saphyr_scanner.specs.Steps.Queue as queue
 use Rattle.saphyr_scanner.specs.Grammar.TokenGrammar as grammar
 use Rattle.yaml_laws.proofs.Flow.ContentStarts.{StartsContent}
 use Rattle.yaml_laws.proofs.InBlock.Lines.{FitsOnLines}
-use Rattle.yaml_laws.proofs.InBlock.States.{Frame, Moment, core_of, state_of, IsUntabbed, EndsDocument, IsLeftOf, GoesOnAs, At, Before, moved, past}
+use Rattle.yaml_laws.proofs.InBlock.States.{Frame, Moment, core_of, state_of, IsUntabbed, EndsDocument, IsLeftOf, GoesOnAs, At, Before, moved, past, FreeAt}
 use Rattle.yaml_laws.proofs.InBlock.Skips.{IsClean}
 use Rattle.yaml_laws.proofs.InFlow.KeyLines.{Blanks}
 use Rattle.yaml_laws.proofs.Flow.NoDashes.{NoDash}
@@ -105,9 +105,7 @@ pub record PropertiesRead (limit : ℕ) (start : State) (p : Properties) (f : Fr
     (ts : List Kind) : Type 0 where
   pub tokens : List Kind
   pub are : grammar.YieldProperties p tokens
-  pub at : At limit start f m y (ts ++ tokens)
-  pub none : at.key ≡ None
-  pub allowed : at.allowed ≡ true
+  pub at : FreeAt limit start f m y (ts ++ tokens)
 
 -- the rest of a line after properties, its break, filler, and the indentation of the next token
 abbrev pub IsNextLineText : List ℕ → Type 0
@@ -117,7 +115,7 @@ IsNextLineText w = (end filler : List ℕ) × (n : ℕ) × IsLineEnd end × IsFi
 abbrev pub ReadsProperties : ℕ → Type 0
 ReadsProperties limit =
     (p : Properties) (place : Position) (f : Frame) → f.indent ≡ indent_at place → (m : Marker) (front t w y : List ℕ)
-    → IsGapAt place front → IsProperties p (indent_at place) t → IsNextLineText w → StartsContent y
+    → IsGapAt place front × IsProperties p (indent_at place) t × IsNextLineText w → StartsContent y
     → FitsOnLines limit m (front ++ (t ++ w)) y → (start : State) (ts : List Kind)
     → Before limit start place f m (front ++ (t ++ (w ++ y))) ts
     → PropertiesRead limit start p f (moved m (front ++ (t ++ w))) y ts

@@ -129,6 +129,12 @@ pub record At (limit : ℕ) (start : State) (f : Frame) (m : Marker) (y : List �
   pub are : place_kinds places ≡ ts
   pub low : adjacent ≤ m.index
 
+-- the same where a key may begin, and none is a candidate
+pub record FreeAt (limit : ℕ) (start : State) (f : Frame) (m : Marker) (y : List ℕ) (ts : List Kind) : Type 0 where
+  pub at : At limit start f m y ts
+  pub none : at.key ≡ None
+  pub allowed : at.allowed ≡ true
+
 -- the moment there, by whether content has to be further right
 abbrev pub moment_there : {limit : ℕ} {start : State} {f : Frame} {m : Marker} {y : List ℕ} {ts : List Kind}
     → At limit start f m y ts → Bool → Moment

@@ -1,9 +1,10 @@
 -- A node in flow style on one line at block level is read as a key.
-use Rattle.yaml_laws.proofs.Common.{Bool, List, [], ap, append_assoc, arith, false, inl, inr, length, refl, suc, sym, ℕ, ◌++◌, ◌+◌, ◌∙◌, ◌∷◌, ◌≡◌, ◌≤◌, Option, Some, AreIn, colon, is_blank, is_blank_or_breakz, slice_index, true, Marker, Cursor, Piece, Place, bare_place, Candidate, Kind, State, Alias, Map, Node, Scalar, Seq, most_open, IsBeforeColon, IsFlowNode, IsKeyText, IsOnLine, cursor_at, LeadsTo, place_kinds}
+use Rattle.yaml_laws.proofs.Common.{Bool, List, [], ap, append_assoc, arith, false, inl, inr, length, refl, suc, sym, ℕ, ◌++◌, ◌+◌, ◌∙◌, ◌∷◌, ◌≡◌, ◌≤◌, Some, AreIn, colon, is_blank, is_blank_or_breakz, slice_index, true, Marker, Cursor, Piece, Place, bare_place, Candidate, Kind, State, Alias, Map, Node, Scalar, Seq, most_open, IsBeforeColon, IsFlowNode, IsKeyText, IsOnLine, cursor_at, LeadsTo, place_kinds}
 use Rattle.saphyr_scanner.specs.declared.engine.level.Context.TheVariants as context
 use Rattle.saphyr_scanner.specs.Grammar.TokenGrammar as grammar
 use Rattle.yaml_laws.proofs.InFlow.States.{Around, FlowMoment, state_at, moment}
 use Rattle.yaml_laws.proofs.InFlow.KeyLines.{Blanks, Fresh, keyed, deeper_at, first_ready}
+use Rattle.yaml_laws.proofs.InBlock.States.{Frame, At, flow_moment}
 use Rattle.yaml_laws.proofs.InFlow.KeyFirsts.{plain_key_fresh, key_node_fresh}
 use Rattle.yaml_laws.proofs.Flow.States.{after, moved, fits_key, follows_key, FitsKey, IsBehindBlanks, IsClear, ReaderPromises, ReadsText}
 use Rattle.yaml_laws.proofs.Flow.Places.{clear_front}
@@ -66,26 +67,26 @@ kept_leads around d start now k ps e f g h =
 
 -- A key on one line is read from its first character on, up to the blanks before its colon. A key has to be there
 -- where that is the column of the innermost collection.
-pub key_read : ReaderPromises → (around : Around) → around.pending ≡ false
-    → (node : Node) (m : Marker) (p : List ℕ) (n : Blanks) (r : List ℕ)
+pub key_read : {limit : ℕ} {start : State} {f : Frame} {ts : List Kind} → ReaderPromises → (around : Around)
+    → around.pending ≡ false → (node : Node) (m : Marker) (p : List ℕ) (n : Blanks) (r : List ℕ)
     → IsKeyText (IsFlowNode most_open node false (suc m.col)) node false (suc m.col) p n.text → IsOnLine p
     → IsBeforeColon node n.text
     → length (p ++ n.text) ≤ 1024 → is_blank_or_breakz (slice_index r 0) ≡ true → (right : around.column ≤ m.col + 1)
     → IsClear m (p ++ n.text) (colon ∷ r) → m.index + length ((p ++ n.text) ++ (colon ∷ r)) ≤ around.limit
-    → (d blank : Bool) (k : Option Candidate) (ad : ℕ) (ps : List Place) → ad ≤ m.index
-    → let here : Candidate = record { mark = m; place = length ps } in
-    KeyRead (keyed around (deeper_at around d m) m right here)
-    (state_at around (moment (cursor_at (p ++ (n.text ++ (colon ∷ r))) m blank) context.Block k [] true ad ps) d) here
-    ps node (moved (moved m p) n.text) (colon ∷ r)
-key_read reads around calm node m p n r h line apart short white right clear below d blank k ad ps low =
-    let here : Candidate = record { mark = m; place = length ps } in
-    let inner = keyed around (deeper_at around d m) m right here in
+    → (v : At limit start f m (p ++ (n.text ++ (colon ∷ r))) ts)
+    → let here : Candidate = record { mark = m; place = length v.places } in
+    KeyRead (keyed around (deeper_at around v.deeper m) m right here)
+    (state_at around (record (flow_moment v) { allowed = true }) v.deeper) here v.places node
+    (moved (moved m p) n.text) (colon ∷ r)
+key_read reads around calm node m p n r h line apart short white right clear below v =
+    let here : Candidate = record { mark = m; place = length v.places } in
+    let inner = keyed around (deeper_at around v.deeper m) m right here in
     let o = n.text ++ (58 ∷ r) in
     let b = key_text_begins false (suc m.col) most_open node p n.text h in
     let front : p ++ o ≡ b.first ∷ (b.others ++ o) = ap (λ (t : List ℕ). t ++ o) b.is in
     let clear_text = clear_front m p n.text (58 ∷ r) clear in
     let token = begins_token m p o b clear_text in
-    let now = moment (cursor_at (p ++ o) m blank) context.Block (Some here) [] false ad ps in
+    let now = moment (cursor_at (p ++ o) m v.blank) context.Block (Some here) [] false v.adjacent v.places in
     let fits : FitsKey inner here m p o = record {
       line = refl;
       on_line = line;
@@ -100,13 +101,13 @@ key_read reads around calm node m p n r h line apart short white right clear bel
       content = colon_content;
       near = (omega (arith, short));
     } in
-    let ready = rw (sym front) at (first_ready around calm d blank k ad ps m b.first (b.others ++ o) b.content right
-    (rw front at token) (rw front at (text_fresh around (suc m.col) node p n.text r h))) in
+    let ready = rw (sym front) at (first_ready around calm v.deeper v.blank v.key v.adjacent v.places m b.first (b.others ++ o)
+    b.content right (rw front at token) (rw front at (text_fresh around (suc m.col) node p n.text r h))) in
     let t = text_passes reads inner refl node m p n.text r h now refl refl (fits_key refl here refl fits)
-    (follows_key here refl refl n.text r refl n.are apart white) (low, inl refl) _ ready in
+    (follows_key here refl refl n.text r refl n.are apart white) (v.low, inl refl) _ ready in
     let c = rw (t.none (inr (here, refl))) at t.passes in
     let held = c.holds.so here refl refl in
-    let ran = c.leads.run d in
+    let ran = c.leads.run v.deeper in
     let known = c.knows in
     let lands = blanks_lands inner.indent (moved m p) o n.text 58 r refl n.are colon_content c.right in
     record {
@@ -116,8 +117,8 @@ key_read reads around calm node m p n r h line apart short white right clear bel
       line = rw lands at held.line;
       piece = known.piece;
       others = known.others;
-      leads = kept_leads inner ran.deeper _ (after c) here (ps ++ bare_place known.piece ∷ known.others) held.is
-          held.closed (ap (λ (new : List Place). ps ++ new) known.is) ran.leads;
+      leads = kept_leads inner ran.deeper _ (after c) here (v.places ++ bare_place known.piece ∷ known.others) held.is
+          held.closed (ap (λ (new : List Place). v.places ++ new) known.is) ran.leads;
       tokens = t.tokens;
       are = ap place_kinds (sym known.is) ∙ c.are;
       node_are = t.are grammar.InBlockMapping;

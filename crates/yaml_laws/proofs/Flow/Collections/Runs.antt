@@ -5,7 +5,7 @@ use Rattle.yaml_laws.proofs.InFlow.States.{Around, Calm, FlowMoment}
 use Rattle.yaml_laws.proofs.Flow.States.{moved, ReaderPromises, Follows, follows_inside, follows_outside, follows_key, ReadsText}
 use Rattle.yaml_laws.proofs.Flow.KeyPieces.{cut_back, fits_around}
 use Rattle.yaml_laws.proofs.Flow.ContentStarts.{starts}
-use Rattle.yaml_laws.proofs.Flow.Pieces.{parted_by, behind_so}
+use Rattle.yaml_laws.proofs.Flow.Pieces.{behind_so}
 use Rattle.yaml_laws.proofs.Flow.Collections.{EndsAt, Brackets, AreBrackets, square, curly, are_square, are_curly, bracket_text, RunsInside, brackets_pass, ends_inside, ends_key, ends_root, AreBracketed}
 use Rattle.yaml_laws.proofs.Flow.Items.{ReadsEntries}
 use Rattle.yaml_laws.proofs.Flow.Joins.{mapped}
@@ -90,9 +90,8 @@ collection_passes {around} {node} {p} {b} {Are = Are} reads collection room m t 
       low = on;
       stands = stands;
     }) in
-    brackets_pass around Are b collection.are n w inside o next fits_next (entries.content inside [] h) parts
-    (parted_by around.indent w (inside ++ (b.closing ∷ o)) parts (entries.content inside o h))
-    (omega (arith, r, next_small)) next_calm (omega (arith, same_adjacent, later, low.0)) from at
+    brackets_pass around Are b collection.are n w inside o next fits_next (λ z. entries.content inside z h)
+    parts (omega (arith, r, next_small)) next_calm (omega (arith, same_adjacent, later, low.0)) from at
     (λ right. rw same_context (follows_bracket follows (moved here inside) right)) run) in
     rw text_is (mapped (λ ts (properties, content, are, (entries, inner, k), is) place. rw (is, k)
     (collection.yields place properties entries are inner)) collection.adjacent c)
