@@ -153,14 +153,14 @@ pub enters_or_skips : (n : Node) (c : grammar.Context) (t : List Kind) → Yield
     → (f : SpansByKinds) (k : Kind) (ks : List Kind) (machine : List Kind → Machine) (x : State)
     (s : State) (ss : List Kind → Outer) (e : Memory) (ps : List Part)
     → MayFollow c k → ((l : List Kind) → (machine l).state ≢ End)
-    → (span : Span) → event_step (machine (k ∷ ks)) ≡ emit empty_scalar span
-    (at f (k ∷ ks) s (ss (k ∷ ks)) e) → ((j : Kind) (l : List Kind) → Starts c j
+    → (span : Span) × (event_step (machine (k ∷ ks)) ≡ emit empty_scalar span
+    (at f (k ∷ ks) s (ss (k ∷ ks)) e)) → ((j : Kind) (l : List Kind) → Starts c j
     → event_step (machine (j ∷ l)) ≡ next_node (context_of c) (at f (j ∷ l) x (expecting s (ss (j ∷ l))) e))
     → EmitsParts f (k ∷ ks) s (ss (t ++ k ∷ ks)) (after_node n e) ps
     → SaysParts e (machine (t ++ k ∷ ks)) (node_parts n ++ ps)
-enters_or_skips n c t (inr h) g f k ks machine x s ss e ps z more span skip go l =
+enters_or_skips n c t (inr h) g f k ks machine x s ss e ps z more skip go l =
     enters n c t h (g h) f k ks machine x s ss e ps z more go l
-enters_or_skips n c t (inl h) g f k ks machine x s ss e ps z more span skip go l =
+enters_or_skips n c t (inl h) g f k ks machine x s ss e ps z more (span, skip) go l =
     let q = skipped e (machine (k ∷ ks)) (at f (k ∷ ks) s (ss (k ∷ ks)) e) ps span (more (k ∷ ks)) skip in
     left_out_says n t k ks f machine s ss e ps h.0 h.1 q l
 
@@ -199,8 +199,8 @@ pub optional_says : (o : State) (n : Node) (t : List Kind) → YieldsOptional n 
     → EmitsParts f (k ∷ ks) o (ss (t ++ k ∷ ks)) (after_node n e) ps
     → SaysParts e (machine (t ++ k ∷ ks)) (node_parts n ++ ps)
 optional_says o n t h g f k ks machine x ss e ps span z more go l =
-    enters_or_skips n (place_before o) t h g f k ks machine x o ss e ps (ends_there o k z) more (span (k ∷ ks))
-    (go k ks ∙ ends_at o x f k ks (ss (k ∷ ks)) e (span (k ∷ ks)) _ z)
+    enters_or_skips n (place_before o) t h g f k ks machine x o ss e ps (ends_there o k z) more
+    (span (k ∷ ks), go k ks ∙ ends_at o x f k ks (ss (k ∷ ks)) e (span (k ∷ ks)) _ z)
     (λ j l s. go j l ∙ begins_at o x f j l (ss (j ∷ l)) e (span (j ∷ l)) _ (starts_there o j s)) l
 
 -- After the token `mark`, in the state `x`, such a node is told, behind which `o` is expected.

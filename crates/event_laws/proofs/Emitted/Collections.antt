@@ -1,10 +1,10 @@
 -- Collections are told, where their entries are.
-use Rattle.event_laws.proofs.Common.{◌≡◌, ◌≢◌, ℕ, Option, List, [], ◌∷◌, ◌++◌, refl, ap, ◌∙◌, inl, inr, append_assoc, arith, Node, Nodes, NoNode, MoreNodes, Pairs, NoPair, MorePairs, Kind, BlockSequenceStart, BlockMappingStart, BlockEnd, FlowSequenceStart, FlowSequenceEnd, FlowMappingStart, FlowMappingEnd, BlockEntry, FlowEntry, InFlow, InBlock, InBlockMapping, BeginsWithValue, YieldsNode, YieldFlowEntries, YieldOtherFlowEntries, YieldFlowPairs, YieldOtherFlowPairs, YieldBlockEntries, YieldBlockPairs, State, Part, OpenSequence, CloseSequence, OpenMapping, CloseMapping, entry_parts, pair_parts, Happening, ResolvedTag, SequenceStart, MappingStart, NodeContext, Machine, emit, event_step, NodeProperties, span_up_to, next_node, node_content_at}
+use Rattle.event_laws.proofs.Common.{◌≡◌, ℕ, Option, List, [], ◌∷◌, ◌++◌, refl, ap, ◌∙◌, inl, inr, append_assoc, arith, Node, Nodes, NoNode, MoreNodes, Pairs, NoPair, MorePairs, Kind, BlockSequenceStart, BlockMappingStart, BlockEnd, FlowSequenceStart, FlowSequenceEnd, FlowMappingStart, FlowMappingEnd, BlockEntry, FlowEntry, InFlow, InBlock, InBlockMapping, BeginsWithValue, YieldsNode, YieldFlowEntries, YieldOtherFlowEntries, YieldFlowPairs, YieldOtherFlowPairs, YieldBlockEntries, YieldBlockPairs, State, Part, OpenSequence, CloseSequence, OpenMapping, CloseMapping, entry_parts, pair_parts, Happening, ResolvedTag, SequenceStart, MappingStart, emit, NodeProperties, span_up_to, node_content_at, node_parts, sym, subst}
 use Rattle.saphyr_scanner.specs.Grammar.Forest as forest
 use Rattle.saphyr_scanner.specs.Grammar.TokenGrammar as grammar
 use Rattle.saphyr_machine.specs.declared.state.State.TheVariants as state
 use Rattle.event_laws.proofs.Emitted.Emitting.{SpansByKinds, Memory, Outer, expecting, at}
-use Rattle.event_laws.proofs.Remembering.{noted, after, after_nodes, after_pairs, with_properties, event_in, SaysParts, EmitsParts}
+use Rattle.event_laws.proofs.Remembering.{noted, after, after_nodes, after_pairs, with_properties, event_in, SaysParts, EmitsParts, after_node}
 use Rattle.event_laws.proofs.Emitted.Nodes.{node_opens, IsContentKind}
 use Rattle.event_laws.proofs.NodeStarts.{context_of, Next, MayFollow, NodeSays}
 
@@ -50,53 +50,53 @@ pub record IndentlessSay (ns : Nodes) (t : List Kind) : Type 0 where
 -- ## Collections
 
 -- tokens of a collection between two tokens
-between : (front inside content t : List Kind) (opening closing : Kind) (rest : List Kind)
-    → content ≡ opening ∷ (inside ++ closing ∷ []) → t ≡ front ++ content
-    → t ++ rest ≡ front ++ opening ∷ (inside ++ closing ∷ rest)
-between front inside content t opening closing rest a b = grind (arith, append_assoc)
+between : (front inside t : List Kind) (opening closing : Kind) (rest : List Kind)
+    → t ≡ front ++ opening ∷ (inside ++ closing ∷ []) → t ++ rest ≡ front ++ opening ∷ (inside ++ closing ∷ rest)
+between front inside t opening closing rest a = grind (arith, append_assoc)
 
 -- A collection between two tokens is told, after its properties, where what is inside is.
-opens : (opening close : Kind) (y : State) (first closing : Part) (make : ℕ → Option ResolvedTag → Happening)
-    (inside : List Part) (later : Memory → Memory) (p : forest.Properties) (d : NodeContext)
-    (front u content t : List Kind) (f : SpansByKinds) (rest : List Kind) (m : Machine) (x s : State) (ss : Outer)
-    (e : Memory) (ps : List Part) → grammar.YieldProperties p front → IsContentKind opening
-    → content ≡ opening ∷ (u ++ close ∷ []) → t ≡ front ++ content → event_in e first ≡ with_properties make e p
-    → noted p.anchor e ≡ after first e → ((q : NodeProperties) (l : List Kind)
-    → node_content_at opening q d (record { span = f l; kind = opening }) (at f l x (expecting s ss) (noted p.anchor e))
-    ≡ emit (make q.anchor q.tag) (span_up_to q (f l).end) (at f l y (expecting s ss) (noted p.anchor e)))
-    → m.state ≢ state.End → event_step m ≡ next_node d (at f (t ++ rest) x (expecting s ss) e)
-    → SayUpTo close y closing inside later u → EmitsParts f rest s ss (later (noted p.anchor e)) ps
-    → SaysParts e m (first ∷ ((inside ++ closing ∷ []) ++ ps))
-opens opening close y first closing make inside later p d front u content t f rest m x s ss e ps h c k w v same step
-    more q g l =
-    let all : List Kind = u ++ close ∷ rest in
-    let emitted : EmitsParts f all y (expecting s ss) (noted p.anchor e) ((inside ++ closing ∷ []) ++ ps) =
-    rw (append_assoc inside (closing ∷ []) ps) (g.by f rest s ss (noted p.anchor e) ps l) in
-    node_opens f d x (expecting s ss) e m (at f all y (expecting s ss) (noted p.anchor e)) p front opening all first
-    ((inside ++ closing ∷ []) ++ ps) make h c more (cc (between front u content t opening close rest k w)) v
-    (λ r has. (span_up_to r (f all).end, step r all)) (rw (← same) emitted)
+opens : {close : Kind} {y : State} {closing : Part} {inside : List Part} {later : Memory → Memory} {u : List Kind}
+    (n : Node) (c : grammar.Context) (opening : Kind) (first : Part) (make : ℕ → Option ResolvedTag → Happening)
+    (p : forest.Properties) (front t : List Kind) → node_parts n ≡ first ∷ (inside ++ closing ∷ [])
+    → ((e : Memory) → after_node n e ≡ later (noted p.anchor e)) → grammar.YieldProperties p front
+    → IsContentKind opening → t ≡ front ++ opening ∷ (u ++ close ∷ [])
+    → ((e : Memory) → (event_in e first ≡ with_properties make e p) × (noted p.anchor e ≡ after first e))
+    → ((f : SpansByKinds) (x s : State) (ss : Outer) (e : Memory) (q : NodeProperties) (l : List Kind)
+    → node_content_at opening q (context_of c) (record { span = f l; kind = opening }) (at f l x (expecting s ss) e)
+    ≡ emit (make q.anchor q.tag) (span_up_to q (f l).end) (at f l y (expecting s ss) e))
+    → SayUpTo close y closing inside later u → NodeSays n c t
+opens {close} {y} {closing} {inside} {later} {u} n c opening first make p front t parts remembers h is w same step g =
+    record {
+      by = λ f k ks m x s ss e ps z more q l.
+          let rest : List Kind = k ∷ ks in
+          let all : List Kind = u ++ close ∷ rest in
+          let last = subst (λ (v : Memory). EmitsParts f rest s ss v ps) (remembers e) l in
+          let emitted : EmitsParts f all y (expecting s ss) (noted p.anchor e) ((inside ++ closing ∷ []) ++ ps) =
+          rw (append_assoc inside (closing ∷ []) ps) (g.by f rest s ss (noted p.anchor e) ps last) in
+          subst (λ (v : List Part). SaysParts e m (v ++ ps)) (sym parts)
+          (node_opens f (context_of c) x (expecting s ss) e m (at f all y (expecting s ss) (noted p.anchor e)) p front
+          opening all first ((inside ++ closing ∷ []) ++ ps) make (h, is)
+          (more, cc (between front u t opening close rest w)) (same e).0
+          (λ r has. (span_up_to r (f all).end, step f x s ss (noted p.anchor e) r all)) (rw (← (same e).1) emitted));
+    }
 
 block_sequence : (p : forest.Properties) (ns : Nodes) (c : grammar.Context) (front content t : List Kind)
     → grammar.YieldProperties p front → grammar.AllowsBlock c
     → grammar.IsBetween BlockSequenceStart BlockEnd (YieldBlockEntries ns) content → t ≡ front ++ content
     → ((u : List Kind) → YieldBlockEntries ns u → BlockEntriesSay ns u) → NodeSays (forest.Seq p ns) c t
 block_sequence p ns InFlow front content t h b d a g = elim b [ ]
-block_sequence p ns c front content t h b d a g = record {
-  by = λ f k ks m x s ss e ps z more q l. opens BlockSequenceStart BlockEnd state.BlockSequenceEntry (OpenSequence p)
-      CloseSequence SequenceStart (entry_parts ns) (after_nodes ns) p (context_of c) front d.0 content t f (k ∷ ks) m x
-      s ss e ps h tt d.2 a refl refl (λ q r. refl) more q (g d.0 d.1) l;
-}
+block_sequence p ns c front content t h b d a g =
+    opens (forest.Seq p ns) c BlockSequenceStart (OpenSequence p) SequenceStart p front t refl (λ e. refl) h tt
+    (a ∙ ap (λ l. front ++ l) d.2) (λ e. (refl, refl)) (λ f x s ss e q l. refl) (g d.0 d.1)
 
 block_mapping : (p : forest.Properties) (qs : Pairs) (c : grammar.Context) (front content t : List Kind)
     → grammar.YieldProperties p front → grammar.AllowsBlock c
     → grammar.IsBetween BlockMappingStart BlockEnd (YieldBlockPairs qs) content → t ≡ front ++ content
     → ((u : List Kind) → YieldBlockPairs qs u → BlockPairsSay qs u) → NodeSays (forest.Map p qs) c t
 block_mapping p qs InFlow front content t h b d a g = elim b [ ]
-block_mapping p qs c front content t h b d a g = record {
-  by = λ f k ks m x s ss e ps z more q l. opens BlockMappingStart BlockEnd state.BlockMappingKey (OpenMapping p)
-      CloseMapping MappingStart (pair_parts qs) (after_pairs qs) p (context_of c) front d.0 content t f (k ∷ ks) m
-      x s ss e ps h tt d.2 a refl refl (λ q r. refl) more q (g d.0 d.1) l;
-}
+block_mapping p qs c front content t h b d a g =
+    opens (forest.Map p qs) c BlockMappingStart (OpenMapping p) MappingStart p front t refl (λ e. refl) h tt
+    (a ∙ ap (λ l. front ++ l) d.2) (λ e. (refl, refl)) (λ f x s ss e q l. refl) (g d.0 d.1)
 
 -- a sequence at the column of its mapping begins with its first entry's token, which is left before the machine
 indentless_sequence : (p : forest.Properties) (ns : Nodes) (c : grammar.Context) (front content others t : List Kind)
@@ -116,7 +116,7 @@ indentless_sequence p ns InBlockMapping front content others t h b d a g = recor
       rw (append_assoc (entry_parts ns) (CloseSequence ∷ []) ps) emitted in
       node_opens f (context_of InBlockMapping) x (expecting s ss) e m
       (at f (BlockEntry ∷ rest) state.IndentlessSequenceEntry (expecting s ss) (noted p.anchor e)) p front BlockEntry
-      rest (OpenSequence p) ((entry_parts ns ++ CloseSequence ∷ []) ++ ps) SequenceStart h tt more (cc) refl
+      rest (OpenSequence p) ((entry_parts ns ++ CloseSequence ∷ []) ++ ps) SequenceStart (h, tt) (more, cc) refl
       (λ r has. (span_up_to r (f rest).end, refl)) inside;
 }
 
@@ -133,11 +133,9 @@ sequence_says p ns c t h flow block indentless = by_content h.3
   where
     by_content : grammar.YieldsSequence ns c (YieldFlowEntries ns) (YieldBlockEntries ns) h.1
         → NodeSays (forest.Seq p ns) c t
-    by_content (inl d) = record {
-      by = λ f k ks m x s ss e ps z more q l. opens FlowSequenceStart FlowSequenceEnd state.FlowSequenceFirstEntry
-          (OpenSequence p) CloseSequence SequenceStart (entry_parts ns) (after_nodes ns) p (context_of c) h.0 d.0 h.1
-          t f (k ∷ ks) m x s ss e ps h.2 tt d.2 h.4 refl refl (λ q r. refl) more q (flow d.0 d.1) l;
-    }
+    by_content (inl d) =
+        opens (forest.Seq p ns) c FlowSequenceStart (OpenSequence p) SequenceStart p h.0 t refl (λ e. refl) h.2 tt
+        (h.4 ∙ ap (λ l. h.0 ++ l) d.2) (λ e. (refl, refl)) (λ f x s ss e q l. refl) (flow d.0 d.1)
     by_content (inr (inl d)) = block_sequence p ns c h.0 h.1 t h.2 d.0 d.1 h.4 block
     by_content (inr (inr d)) =
         let first : (others : List Kind) × (h.1 ≡ BlockEntry ∷ others) = first_dash ns h.1 d.1 d.2 in
@@ -149,11 +147,9 @@ pub mapping_says : (p : forest.Properties) (qs : Pairs) (c : grammar.Context) (t
 mapping_says p qs c t h flow block = by_content h.3
   where
     by_content : grammar.YieldsMapping c (YieldFlowPairs qs) (YieldBlockPairs qs) h.1 → NodeSays (forest.Map p qs) c t
-    by_content (inl d) = record {
-      by = λ f k ks m x s ss e ps z more q l. opens FlowMappingStart FlowMappingEnd state.FlowMappingFirstKey
-          (OpenMapping p) CloseMapping MappingStart (pair_parts qs) (after_pairs qs) p (context_of c) h.0 d.0 h.1 t f
-          (k ∷ ks) m x s ss e ps h.2 tt d.2 h.4 refl refl (λ q r. refl) more q (flow d.0 d.1) l;
-    }
+    by_content (inl d) =
+        opens (forest.Map p qs) c FlowMappingStart (OpenMapping p) MappingStart p h.0 t refl (λ e. refl) h.2 tt
+        (h.4 ∙ ap (λ l. h.0 ++ l) d.2) (λ e. (refl, refl)) (λ f x s ss e q l. refl) (flow d.0 d.1)
     by_content (inr d) = block_mapping p qs c h.0 h.1 t h.2 d.0 d.1 h.4 block
 
 -- ## Ends

@@ -172,7 +172,7 @@ explicit_says n ds t c h f k ks m x e ps z more q l =
     let rest : List Kind = t ++ k ∷ ks in
     let inside = enters_or_skips n InBlock t h (λ g. node_says n InBlock t g) f k ks
     (λ l. at f l state.DocumentContent (expecting state.DocumentEnd top) e') state.DocumentContent state.DocumentEnd
-    (λ l. top) e' ps (document_end_follows k z) (λ l q. cc) (f ks) (content_is_left_out f k ks e' z)
+    (λ l. top) e' ps (document_end_follows k z) (λ l q. cc) (f ks, content_is_left_out f k ks e' z)
     (λ j l s. content_begins f j l e' s) l in
     let goes : event_step m ≡ emit (events.DocumentStart true) (f rest)
     (at f rest state.DocumentContent (expecting state.DocumentEnd top) e') =

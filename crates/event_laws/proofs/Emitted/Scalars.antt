@@ -30,8 +30,8 @@ with_token p style value c front content t h a b = record {
       let same : t ++ k ∷ ks ≡ front ++ scalar_token style value ∷ k ∷ ks =
       rw (b, a) (append_assoc front (scalar_token style value ∷ []) (k ∷ ks)) in
       node_opens f (context_of c) x (expecting s ss) e m (at f (k ∷ ks) s ss (noted p.anchor e)) p front
-      (scalar_token style value) (k ∷ ks) (Leaf p style value) ps (Scalar (encode_utf8_all value) style) h tt more
-      (cc) refl (λ r has. (span_up_to r (f (k ∷ ks)).end, refl)) l;
+      (scalar_token style value) (k ∷ ks) (Leaf p style value) ps (Scalar (encode_utf8_all value) style) (h, tt)
+      (more, cc) refl (λ r has. (span_up_to r (f (k ∷ ks)).end, refl)) l;
 }
 
 -- properties alone
@@ -44,7 +44,7 @@ without_token p c front content t h some a b = record {
       let n : Machine = at f (k ∷ ks) s ss (noted p.anchor e) in
       let piece : Piece = record { span = f ks; kind = k } in
       node_opens f (context_of c) x (expecting s ss) e m n p front k ks (Leaf p forest.Plain []) ps
-      (Scalar [] forest.Plain) h (follow_is_content c k z) more (cc) refl (λ r has. (
+      (Scalar [] forest.Plain) (h, follow_is_content c k z) (more, cc) refl (λ r has. (
         span_up_to r r.behind,
         follow_ends c k r piece (at f ks x (expecting s ss) (noted p.anchor e)) z
             ∙ empty_is_emitted r piece (at f ks x (expecting s ss) (noted p.anchor e))

@@ -62,7 +62,8 @@ one_more_directive x t ts d m n (Ok y) k free same h =
 version_passed : (b : Bool) (major minor : ℕ) (t : Piece) (ts : List Piece) (d : Declared) (m : Machine) → d.version ≡ b
     → t.kind ≡ tokens.VersionDirective major minor
     → ((d : Declared) (m : Machine) → PassedBy ts d m (directives_from ts d m))
-    → PassedBy (t ∷ ts) d m (((if b then Err (record { text = fault.DuplicateVersionDirective; mark = t.span.start; may_change = false })
+    → PassedBy (t ∷ ts) d m (((if b then Err
+    (record { text = fault.DuplicateVersionDirective; mark = t.span.start; may_change = false })
     else (let y : Result Declared Refusal = Ok (record { version = true; handles = d.handles }) in y))
     >>= (λ e. let y : Result (Declared × Machine) Refusal = Ok (e, with_pieces ts m) in y))
     >>= (λ s. directives_from ts s.0 s.1))
@@ -75,7 +76,8 @@ tag_passed : (b : Bool) (handle : Handle) (prefix : List ℕ) (t : Piece) (ts : 
     → is_listed (handle_bytes handle) d.handles ≡ b
     → t.kind ≡ tokens.TagDirective (handle_bytes handle) (encode_utf8_all prefix)
     → ((d : Declared) (m : Machine) → PassedBy ts d m (directives_from ts d m))
-    → PassedBy (t ∷ ts) d m ((if b then Err (record { text = fault.DuplicateTagDirective; mark = t.span.start; may_change = false }) else
+    → PassedBy (t ∷ ts) d m ((if b then Err
+    (record { text = fault.DuplicateTagDirective; mark = t.span.start; may_change = false }) else
     (let y : Result (Declared × Machine) Refusal =
     Ok (
       record { version = d.version; handles = with_name (handle_bytes handle) d.handles },

@@ -144,7 +144,7 @@ pub closes : (F : List Kind → Claim → Claim) (A : Claim) (k : Kind) (what : 
     → ((ahead : List Kind) (R : Claim) (ks : List Kind) (ps : List Part)
     → Then A (Then (Exactly (k ∷ []) (closing ∷ [])) R) (k ∷ ks) ps → F (k ∷ ahead) R (k ∷ ks) ps) → (span : Span)
     → TurnsBehind F k (λ t m. emit what span (pop m))
-closes F A k what closing emits none own no_more go span sp ts r x s ss e w a =
+closes F A k what closing emits none own no_more go span = λ sp ts r x s ss e w a.
     record {
       used = piece_of k sp ∷ [];
       part = closing;
