@@ -82,8 +82,7 @@ def wrong_options(page, text):
 def wrong_gate():
     """What TESTS.md doesn't list as the gate runs it."""
     listed = read(f"{ROOT}/docs/TESTS.md").partition("\n## What the gate runs\n")[2].partition("\nBy hand run")[0]
-    items = [it for it in listed.split("\n- ") if "which that calls" not in it]
-    told = [it for item in items for it in re.findall(r"`((?:tests|bench)/[^`\n]+|rt ci)`", item)]
+    told = re.findall(r"`((?:tests|bench)/[^`\n]+|rt ci)`", listed)
     if told != (runs := GATE.findall(read(f"{ROOT}/.ci/run"))):
         yield f"docs/TESTS.md lists {told}, and the gate runs {runs}"
 
