@@ -5,6 +5,7 @@
 
 Each link of a page leads to a file, and to a heading of it. Each file that a page names is there, and a script has the
 options that a page gives it, and so has `rt`, where the kit is there. TESTS.md lists what the gate runs, in its order.
+README has at most 150 lines, and all pages of the repository's top and of docs have at most 36,500 words.
 No twelve words in a row, outside of code, stand on two pages. What a page shows of Rattle stands in a source of the
 crates; other tests run the rest: own_repository.py the program of COMING_FROM.md with its function `depth`, and
 release.py those for C, Rust and Python.
@@ -28,6 +29,7 @@ from refused_memory import ROOT, program
 from release_pages import BLOCK, anchors, read
 
 MOST = 11  # words in a row that may stand on two pages
+MOST_LINES, MOST_WORDS = 150, 36500
 LINK = re.compile(r"\]\(([^)\s]+)\)")
 # A file, as code: between backticks, or where a command begins; `NAME` and the like stand for any.
 FILE = re.compile(r"`([\w./*-]+\.(?:antt|c|edit|h|in|md|py|rs|rt|sh|txt))`|^    ((?:tests|bench)/[\w./]+)", re.M)
@@ -77,6 +79,15 @@ def wrong_options(page, text):
         for option in re.findall(r"--[a-z-]+", rest):
             if os.path.isfile(f"{ROOT}/{script}") and option not in read(f"{ROOT}/{script}"):
                 yield f"{page} gives {script} {option}, which it doesn't take"
+
+
+def wrong_sizes(pages):
+    """What is too long to be read."""
+    if (lines := pages["README.md"].count("\n")) > MOST_LINES:
+        yield f"README.md has {lines} lines"
+    count = sum(len(text.split()) for page, text in pages.items() if page.startswith("docs/") or "/" not in page)
+    if count > MOST_WORDS:
+        yield f"the pages have {count} words"
 
 
 def wrong_gate():
@@ -146,6 +157,7 @@ def check_pages():
         if any(fnmatch.fnmatch(page, it) for it in RATTLE):
             yield from wrong_blocks(page, text, sources)
     yield from wrong_runs(pages)
+    yield from wrong_sizes(pages)
     yield from wrong_gate()
     yield from wrong_kit(pages)
 
