@@ -472,6 +472,13 @@ def check_installer(release, compiler):
     if ran.returncode or ran.stderr or files_below(f"{root}/usr/local") != files_below(f"{release.folder}/prefix"):
         fail(f"install.sh: {ran.stderr}")
     check_installed(release, compiler, root, "/usr/local", "install.sh")
+    # An ldconfig that doesn't look there.
+    write(f"{release.folder}/elsewhere/ldconfig", "#!/bin/sh\n")
+    os.chmod(f"{release.folder}/elsewhere/ldconfig", 0o755)
+    elsewhere = {"PREFIX": f"{release.folder}/elsewhere", "PATH": f"{release.folder}/elsewhere:{release.env['PATH']}"}
+    ran = subprocess.run([f"{release.at}/install.sh"], env={**release.env, **elsewhere}, capture_output=True, text=True)
+    if ran.returncode or f"LD_LIBRARY_PATH={elsewhere['PREFIX']}/lib" not in ran.stderr:
+        fail(f"install.sh to another prefix: {ran.stderr}")
     for words, status, said in ((["--help"], 0, "usage: "), (["/usr"], 2, "can't take these words: /usr.")):
         ran = subprocess.run([f"{release.at}/install.sh", *words], cwd="/", capture_output=True, text=True)
         if ran.returncode != status or said not in ran.stdout + ran.stderr:
