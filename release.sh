@@ -181,6 +181,11 @@ latest_glibc() {
     grep -o '(GLIBC_2[.0-9]*)' | tr -dc '0-9.\n' | sort -V | tail -n 1
 }
 
+# The oldest glibc with which all programs and libraries below a folder run.
+oldest_glibc() {
+    find "$1" -type f \( -path '*/bin/*' -o -name '*.so*' \) -exec objdump -T {} + | latest_glibc
+}
+
 # Says of what a release is made, so that whoever runs the gate can compare.
 tell_provenance() {
     local file commit
@@ -218,6 +223,7 @@ lay_out() {
     install -Dm644 -t "$share/rust" rust/{Cargo.toml,build.rs,LICENSE-MIT,LICENSE-APACHE}
     [ -z "$repository" ] || sed -i "/^license = /a repository = \"$repository\"" "$share/rust/Cargo.toml"
     find rust/src rust/examples -type f -exec install -Dm644 {} "$share/{}" \;
+    glibc=$(oldest_glibc "$1")
     take_pages "$share" CHANGELOG.md
     take_pages "$share/rust" rust/README.md
     take_pages "$share/docs" docs/{CHECK_YAML,CI,COMING_FROM,DEPARTURES,FACES,SPANS,SPEED}.md
@@ -247,7 +253,7 @@ make_package() {
     printf 'saphyr-parser: unstripped-binary-or-object [usr/bin/%s]\n' check_yaml dump_events \
         >"$root/usr/share/lintian/overrides/saphyr-parser"
     find "$root/usr/lib" -name '*.so*' -type f -exec chmod 644 {} +
-    glibc=$(find "$root/usr" -type f \( -path '*/bin/*' -o -name '*.so*' \) -exec objdump -T {} + | latest_glibc)
+    glibc=$(oldest_glibc "$root/usr")
     size=$(du -ks "$root/usr" | cut -f1)
     fill_in control "$root/DEBIAN"
     echo 'activate-noawait ldconfig' >"$root/DEBIAN/triggers"

@@ -7,10 +7,10 @@
 
 A table of processor time, in the ratio to the first program: above 1 the other takes so many times as long. The least
 of nine runs counts, which take turns. With --instructions it is the instructions for each byte, by callgrind, on
-smaller files, beyond those of an empty text, and the last lines have the least ratio of each peer. With --memory it is
-the most memory at a time, in bytes for each byte of the text, beyond that of an empty text. The files are of
-`inputs.py`, or with --shapes those of `shapes.py`, which are small and stress one thing each, or with --real those of
-`real.py`, as people write them. With --parse-only the programs count the events, and print nothing of them. So they do
+smaller files, beyond those of an empty text. With --memory it is the most memory at a time, in bytes for each byte of
+the text, beyond that of an empty text. The last lines have the median and the least ratios of each peer. The files are
+those that are named, or those of `inputs.py`, or with --shapes those of `shapes.py`, which are small and stress one
+thing each, or with --real those of `real.py`, as people write them. With --parse-only the programs count the events, and print nothing of them. So they do
 with --pieces, where the C face and libyaml get the text in pieces of so many bytes, and the Rust parsers from an
 iterator of characters; and with --lines, where the C face gets it line by line, libyaml the whole, and the Rust parsers
 from an iterator that doesn't say that it has more. With --trees they load the documents as trees. --small takes the
@@ -160,11 +160,12 @@ def report(programs, words, kind, measure):
 
 
 def report_least(rows):
-    """The least ratio of each peer over all files."""
+    """The least ratios of each peer over all files, and the median."""
     for peer in next(iter(rows.values())):
-        known = [(ratios[peer], kind) for kind, ratios in rows.items() if ratios[peer]]
-        for ratio, kind in sorted(known)[:5]:
-            print(f"{peer:12} {ratio:6.2f} times as many as the first on {kind}")
+        known = sorted((ratios[peer], kind) for kind, ratios in rows.items() if ratios[peer])
+        print(f"{peer:12} {known[len(known) // 2][0]:6.2f} times as much as the first is the median of {len(known)}")
+        for ratio, kind in known[:5]:
+            print(f"{peer:12} {ratio:6.2f} times as much on {kind}")
 
 
 def report_small(programs, file):
@@ -192,7 +193,8 @@ def main():
     words.add_argument("--small", action="store_true")
     words.add_argument("kinds", nargs="*", metavar="KIND", choices=[[], *KINDS, *SHAPES, *REAL])
     asked = words.parse_args()
-    texts = SHAPES if asked.shapes else REAL if asked.real else KINDS
+    texts = {**KINDS, **SHAPES, **REAL}
+    kinds = asked.kinds or (SHAPES if asked.shapes else REAL if asked.real else KINDS)
     what = LOAD if asked.trees else COUNT if asked.parse_only or asked.pieces or asked.lines or asked.small else PRINT
     if (asked.instructions or asked.small) and not shutil.which("valgrind"):
         sys.exit("there is no valgrind")
@@ -210,13 +212,12 @@ def main():
             return report_small(programs, f"{folder}/small")
         print(f"{unit:37}" + "".join(f"{name:>12}" for name in programs))
         rows = {}
-        for kind in asked.kinds or texts:
+        for kind in kinds:
             with open(f"{folder}/{kind}", "w", encoding="utf-8", newline="") as it:
                 it.write(texts[kind](size))
             pieces = ["1", "lines" if asked.lines else str(asked.pieces)] if asked.lines or asked.pieces else []
             rows[kind] = report(programs, [f"{folder}/{kind}", *pieces], kind, measure)
-        if asked.instructions:
-            report_least(rows)
+        report_least(rows)
 
 
 if __name__ == "__main__":

@@ -29,6 +29,9 @@ share=$to/share/saphyr_parser
 cp -a --no-preserve=ownership "$from/PROVENANCE.txt" "$share"
 # There the other pages are beside it.
 sed 's|](share/saphyr_parser/|](|g' "$from/README.md" >"$share/README.md"
-if [ -z "${DESTDIR:-}" ] && ! ldconfig 2>/dev/null; then
-    echo "install.sh: programs find the library by LD_LIBRARY_PATH=$prefix/lib, or once root runs ldconfig" >&2
+PATH=$PATH:/sbin:/usr/sbin
+[ -n "${DESTDIR:-}" ] || ldconfig 2>/dev/null || true
+if [ -z "${DESTDIR:-}" ] && ! ldconfig -p 2>/dev/null | grep -qF "$prefix/lib/libsaphyr_parser.so"; then
+    echo "install.sh: programs find the library by LD_LIBRARY_PATH=$prefix/lib, or once root's ldconfig looks there;" >&2
+    echo "pkg-config finds its file by PKG_CONFIG_PATH=$prefix/lib/pkgconfig" >&2
 fi

@@ -198,7 +198,5 @@ if [ "$status" != 2 ] || [ "$(cat errors)" != "check_yaml: empty: can't write" ]
     echo "check_yaml on a full device: status $status: $(cat errors)"
     failed=1
 fi
-"$crates/../tests/mistakes.py" || failed=1
-"$crates/../tests/recipes.py" || failed=1
 [ "$failed" = 1 ] || echo "arguments: as they are to be answered"
 exit "$failed"

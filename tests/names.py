@@ -8,6 +8,8 @@ It fails where
 - a name between backticks, as `read_plain` or `IsPlain`, is in no file but pages; pages of `FOREIGN` name what other
   libraries have too, and `OTHERS` are such names elsewhere;
 - a command `tests/promises.py` fails that a page shows;
+- docs/COMING_FROM.md names a call or a field that the header, the package for Python or the crate in rust/ lacks, or
+  one of libyaml or PyYAML, where these are there, that they lack;
 - docs/PRODUCTIONS.md lacks one of the 211 productions, or names a definition that is in none of the files that its row
   and its chapter name;
 - a definition that docs/PROMISES.md shows stands in no file of definitions;
@@ -15,6 +17,7 @@ It fails where
   E8 in PRODUCTIONS no case with a fault;
 - docs/DEPARTURES.md lacks words by which tests/reasons.py excuses a list that is not the Rust crate's.
 """
+import importlib.util
 import os
 import re
 import subprocess
@@ -25,8 +28,12 @@ from refused_memory import DATA, cases_of
 
 TOP = os.path.dirname(os.path.dirname(os.path.abspath(__file__)))
 PROMISES, PRODUCTIONS, DEPARTURES = "docs/PROMISES.md", "docs/PRODUCTIONS.md", "docs/DEPARTURES.md"
+COMING, LIBYAML = "docs/COMING_FROM.md", "/usr/include/yaml.h"
 FOREIGN = {"CHANGELOG.md", "docs/COMING_FROM.md", "docs/DEPARTURES.md", "docs/NOTES.md"}
 OTHERS = {"HashMap", "safe_load_all", "start_io", "start_lib"}
+# Names of yaml-rust2 and serde_yaml, which are in no file here.
+RUST = set("""BadValue Deserializer Error Null Tagged Value Yaml YamlLoader apply_merge as_hash as_i64 as_mapping
+as_sequence as_vec from_str load_from_str parse""".split())
 CODE, BLOCK = re.compile(r"`([^`\n]+)`"), re.compile(r"^```.*?^```$|^    [^\n]*$", re.M | re.S)
 # a name of the code: with a low line inside, or of several words that begin with capitals
 NAME = re.compile(r"(?<![\w.!-])([a-z]\w*_\w*[a-z0-9]|[A-Z][a-z]+(?:[A-Z][a-z0-9]*)+)(?![\w-])")
@@ -61,6 +68,35 @@ def wrong_commands(pages):
         ran = subprocess.run(command.split(), cwd=TOP, capture_output=True, check=False)
         if ran.returncode or not ran.stdout:
             yield f"a page shows {command}, which fails"
+
+
+def words_of(*paths):
+    """The words of files, or None where one is missing."""
+    texts = [os.path.isfile(os.path.join(TOP, it)) and read(it) for it in paths]
+    return {word for text in texts for word in re.findall(r"\w+", text)} if all(texts) else None
+
+
+def called(text):
+    """The names of calls, types and fields in the codes of a text."""
+    return {word for code in CODE.findall(text) for word in re.findall(r"(?<![\w\"])[A-Za-z]\w+", code)}
+
+
+def wrong_calls():
+    """What COMING_FROM.md names of a face or of another library, and that lacks."""
+    chapters = dict(re.findall(r"^###? (.*)\n((?:(?!##).*\n)*)", read(COMING), re.M))
+    theirs, ours = zip(*re.findall(r"^\| (`.*) \| (.*) \|$", chapters["From libyaml"], re.M))
+    python, yaml = chapters["From PyYAML, in Python"], importlib.util.find_spec("yaml")
+    folder = os.path.dirname(yaml.origin) if yaml else "none"
+    package = ["python/saphyr_parser/__init__.py", "python/saphyr_parser/_saphyr_parser.pyi"]
+    crate = words_of(*(it for it in tracked() if it.startswith("rust/src/")))
+    for name, names, known in (
+        ("libyaml", called(" ".join(theirs)), words_of(LIBYAML)),
+        ("the header", called(" ".join(ours)), words_of("crates/saphyr_parser_c/saphyr_parser.h")),
+        ("PyYAML", set(re.findall(r"`yaml\.(\w+)", python)), words_of(f"{folder}/__init__.py")),
+        ("package or PyYAML", called(re.sub(r"`yaml\..*?`", "", python)), words_of(*package, f"{folder}/error.py")),
+        ("the crate", called(chapters["From yaml-rust2 or serde_yaml"]), crate | RUST),
+    ):
+        yield from (f"{COMING}: {it} is no name of {name}" for it in sorted(names - known)) if known else ()
 
 
 def wrong_productions():
@@ -114,7 +150,7 @@ def main():
     pages = [it for it in files if it.endswith(".md")]
     known = {word for it in files if not it.endswith(".md") for word in re.findall(r"\w+", read(it))}
     wrong = [line for page in pages if page not in FOREIGN for line in wrong_names(page, known)]
-    wrong += [*wrong_commands(pages), *wrong_productions(), *wrong_definitions(files)]
+    wrong += [*wrong_commands(pages), *wrong_calls(), *wrong_productions(), *wrong_definitions(files)]
     wrong += [*wrong_faults(), *lacking_reasons()]
     print(*wrong, f"names: {len(wrong)} faults", sep="\n")
     return 1 if wrong else 0

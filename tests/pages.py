@@ -4,19 +4,23 @@
     tests/pages.py [--printed]
 
 Each link of a page leads to a file, and to a heading of it. Each file that a page names is there, and a script has the
-options that a page gives it. No twelve words in a row, outside of code, stand on two pages. What a page shows of Rattle
-stands in a source of the crates; other tests run the rest: own_repository.py the program of COMING_FROM.md with its
-function `depth`, and release.py those for C, Rust and Python.
+options that a page gives it, and so has `rt`, where the kit is there. TESTS.md lists what the gate runs, in its order.
+README has at most 150 lines, and all pages of the repository's top and of docs have at most 36,500 words.
+No twelve words in a row, outside of code, stand on two pages. What a page shows of Rattle stands in a source of the
+crates; other tests run the rest: own_repository.py the program of COMING_FROM.md with its function `depth`, and
+release.py those for C, Rust and Python.
 
-With --printed the built programs print what the pages show: `dump_events` the events of README, and the faults of
-COMING_FROM.md; and `check_yaml` the lines of README and of CHECK_YAML.md, of texts that these lines show, the object of
-JSON, and the table's first lines. It has the options that CHECK_YAML.md names.
+With --printed the built programs print what the pages show: `dump_events` the events of README, and `check_yaml` the
+lines of README and of CHECK_YAML.md, of texts that these lines show, the object of JSON, and the table's first lines.
+It has the options that CHECK_YAML.md names. The texts of COMING_FROM.md are read or refused as it says, here and by
+libyaml where that is there. README's `rt try` prints the events too, with no proof.
 """
 import collections
 import fnmatch
 import json
 import os
 import re
+import shutil
 import subprocess
 import sys
 import tempfile
@@ -25,6 +29,7 @@ from refused_memory import ROOT, program
 from release_pages import BLOCK, anchors, read
 
 MOST = 11  # words in a row that may stand on two pages
+MOST_LINES, MOST_WORDS = 150, 36500
 LINK = re.compile(r"\]\(([^)\s]+)\)")
 # A file, as code: between backticks, or where a command begins; `NAME` and the like stand for any.
 FILE = re.compile(r"`([\w./*-]+\.(?:antt|c|edit|h|in|md|py|rs|rt|sh|txt))`|^    ((?:tests|bench)/[\w./]+)", re.M)
@@ -37,7 +42,10 @@ SHOWN = "README.md", "docs/CHECK_YAML.md"
 PLACE = re.compile(r"^(\S+?):(\d+):\d+: (?:error|warning|note): .*\n(?!\S+?:\d+:\d+: )(.*)\n", re.M)
 LINES = re.compile(r"(?:^    \S+?:\d+:\d+: (?:error|warning|note): .*\n(?:    .*\n)*)+", re.M)
 OPTION = re.compile(r"((?:tests|bench)/\w+\.\w+)((?: +(?!`)[^`\n#]*)?)")
-REFUSED = re.compile(r"^- ((?:`[^`\n]+`|LF|TAB|BOM)(?: (?:`[^`\n]+`|LF|TAB|BOM))*).*: `([^`\n]+)`", re.M)
+GATE = re.compile(r"^shows (?:'.*?'|\".*?\") (.*)$", re.M)
+KIT = re.compile(r"(?:`|^    (?:cd \S+ && )?)rt ([a-z-]+)((?: +(?!-- )[^`\n#]*?)?)(?:`| -- |#|$)", re.M)
+# A text, as COMING_FROM.md writes it.
+TEXT = r"(?:`[^`\n]+`|LF|TAB|BOM|U\+[0-9A-F]{4})(?: (?:`[^`\n]+`|LF|TAB|BOM|U\+[0-9A-F]{4}))*"
 SIGNS = {"LF": "\n", "TAB": "\t", "BOM": "\ufeff"}
 FIRST = re.compile(r"^\| `(.*)` \| `(\d+:\d+: \w+: .*)` \|$", re.M)
 ESCAPED, NAMED = re.compile(r"\\(.)"), {"n": "\n", "t": "\t", "\\": "\\"}
@@ -71,6 +79,39 @@ def wrong_options(page, text):
         for option in re.findall(r"--[a-z-]+", rest):
             if os.path.isfile(f"{ROOT}/{script}") and option not in read(f"{ROOT}/{script}"):
                 yield f"{page} gives {script} {option}, which it doesn't take"
+
+
+def wrong_sizes(pages):
+    """What is too long to be read."""
+    if (lines := pages["README.md"].count("\n")) > MOST_LINES:
+        yield f"README.md has {lines} lines"
+    count = sum(len(text.split()) for page, text in pages.items() if page.startswith("docs/") or "/" not in page)
+    if count > MOST_WORDS:
+        yield f"the pages have {count} words"
+
+
+def wrong_gate():
+    """What TESTS.md doesn't list as the gate runs it."""
+    listed = read(f"{ROOT}/docs/TESTS.md").partition("\n## What the gate runs\n")[2].partition("\nBy hand run")[0]
+    told = re.findall(r"`((?:tests|bench)/[^`\n]+|rt ci)`", listed)
+    if told != (runs := GATE.findall(read(f"{ROOT}/.ci/run"))):
+        yield f"docs/TESTS.md lists {told}, and the gate runs {runs}"
+
+
+def wrong_kit(pages):
+    """The words and options of `rt` that pages have and the kit lacks."""
+    if not (kit := shutil.which("rt")):
+        return
+    rattle = os.path.join(os.path.dirname(os.path.realpath(kit)), "rattle")
+    known = "".join(subprocess.run(it, stdout=subprocess.PIPE, stderr=subprocess.STDOUT, text=True).stdout
+                    for it in ([kit, "--help"], [rattle, "check", "--help"]))
+    names = {word for them in re.findall(r"\brt ([a-z|-]+)", known) for word in them.split("|")}
+    for page, text in pages.items():
+        for word, rest in KIT.findall(text):
+            yield from (f"{page} has {it} of rt, which lacks it" for it in re.findall(r"--[a-z-]+", rest)
+                        if not re.search(rf"{it}\b", known))
+            if word not in names:
+                yield f"{page} has rt {word}, which the kit lacks"
 
 
 def words(text):
@@ -116,6 +157,9 @@ def check_pages():
         if any(fnmatch.fnmatch(page, it) for it in RATTLE):
             yield from wrong_blocks(page, text, sources)
     yield from wrong_runs(pages)
+    yield from wrong_sizes(pages)
+    yield from wrong_gate()
+    yield from wrong_kit(pages)
 
 
 def printed(name, text, *options):
@@ -150,22 +194,66 @@ def wrong_lines(page, text):
             yield f"{page} shows {shown}, and check_yaml prints {found}"
 
 
-def dumped(text):
-    """The events and the fault that `dump_events` prints of a text."""
-    ran = subprocess.run([program("dump_events")], input=text.encode(), capture_output=True, check=False)
-    return ran.stdout.decode().split("\n"), ran.stderr.decode().rpartition(" at byte ")[0]
+def dumped(command, text):
+    """The lines and the fault that `dump_events` prints of a text, or another program, and whether it is read."""
+    ran = subprocess.run(command, input=text.encode(), capture_output=True, check=False)
+    return ran.stdout.decode().split("\n")[:-1], ran.stderr.decode().rpartition(" at byte ")[0], ran.returncode == 0
+
+
+def documents(lines):
+    """The documents whose events are printed, as values of JSON; an alias is its name."""
+    open_ = [[]]
+    for line in lines:
+        if line[0] == "+":
+            open_.append([])
+        elif line[0] == "=":
+            value = re.fullmatch(r"=(?:ALI |VAL(?: &\S+)?(?: <\S*>)? [:'\"|>])(.*)", line)[1]
+            open_[-1].append(ESCAPED.sub(lambda it: NAMED.get(it[1], it[1]), value))
+        else:
+            parts = open_.pop()
+            is_list, pairs = line in ("-SEQ", "-STR"), dict(zip(parts[::2], parts[1::2]))
+            open_[-1].append(parts if is_list else pairs if line == "-MAP" else parts[0])
+    return open_[0][0]
+
+
+def wrong_reading(command, text, told):
+    """Whether a program reads a text otherwise than the words of a page tell: values, a fault, or `refused`."""
+    lines, fault, is_read = dumped(command, text)
+    codes = re.findall("`([^`]+)`", told)
+    if not is_read:
+        return codes[0] != fault if codes else told != "refused"
+    values = [re.sub(r'"(\*\w+)"', r"\1", json.dumps(it)) for it in documents(lines)]
+    return codes[: len(values)] != values
+
+
+def wrong_texts():
+    """What COMING_FROM.md says otherwise of texts than the program, or than libyaml where it is there."""
+    page = read(f"{ROOT}/docs/COMING_FROM.md")
+    with tempfile.TemporaryDirectory() as folder:
+        words = ["-D_GNU_SOURCE", f"-I{ROOT}/crates/saphyr_parser_c", f"-I{ROOT}/tests/faces"]
+        words = ["cc", *words, f"{ROOT}/bench/libyaml_dump.c", "-lyaml", "-o", f"{folder}/libyaml"]
+        has_libyaml = shutil.which("cc") and subprocess.run(words, capture_output=True).returncode == 0
+        if not has_libyaml:
+            print("libyaml: not compared, since it is not there")
+        for written, theirs, ours in re.findall(rf"^\| ({TEXT}) \| (.*) \| (.*) \|$", page, re.M):
+            text = "".join(code or SIGNS.get(sign) or chr(int(sign[2:], 16))
+                           for code, sign in re.findall(r"`([^`]+)`|(\S+)", written.replace("\\|", "|")))
+            if wrong_reading([program("dump_events")], text, ours):
+                yield f"COMING_FROM.md has {ours} of {text!r}, and dump_events another answer"
+            if has_libyaml and wrong_reading([f"{folder}/libyaml"], text, theirs):
+                yield f"COMING_FROM.md has {theirs} of {text!r}, and libyaml another answer"
 
 
 def check_printed():
     """What the programs don't print though the pages show it."""
     pages = {it: read(f"{ROOT}/{it}") for it in SHOWN}
     text, events = re.search(r"From `(.*)` come .*\n(?:.*\n)*?\n    (\+STR .*)\n", pages["README.md"]).groups()
-    if " ".join(dumped(text)[0]).strip() != events:
-        yield f"README.md shows {events}, and dump_events prints {dumped(text)[0]}"
-    for written, fault in REFUSED.findall(read(f"{ROOT}/docs/COMING_FROM.md").partition("this parser refuses")[2]):
-        text = "".join(code or SIGNS[sign] for code, sign in re.findall(r"`([^`]+)`|(\w+)", written))
-        if (found := dumped(text)[1]) != fault:
-            yield f"COMING_FROM.md has {fault!r} of {text!r}, and dump_events prints {found!r}"
+    tried = re.search(r"^    (cd crates/dump_events && rt try <) FILE", pages["README.md"], re.M)[1]
+    tries = [["sh", "-c", f"cd {ROOT} && {tried} /dev/stdin"]] if shutil.which("rt") else []
+    for command in ([program("dump_events")], *tries):
+        if " ".join(found := dumped(command, text)[0]) != events:
+            yield f"README.md shows {events}, and {command[-1]} prints {found}"
+    yield from wrong_texts()
     for option in set(re.findall(r"`(--[a-z][a-z-]*)", pages["docs/CHECK_YAML.md"])):
         if option not in subprocess.run([program("check_yaml"), "--help"], capture_output=True).stdout.decode():
             yield f"CHECK_YAML.md names {option}, which check_yaml lacks"

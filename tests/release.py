@@ -8,15 +8,18 @@ The examples of release/examples print the events of a small text: in C99 and C+
 `[patch]`. Their lines are to be those of `dump_events`. The programs of the release's README, what README and FACES.md
 show in C, Rust and Python, and the commands of FACES.md are built and run. The package for Python is installed in an
 empty environment of each CPython from 3.8 on that is found on the PATH or that pyenv has, and run there over all cases
-(tests/release/python_module.py). The release is installed below a folder by its install.sh, and by its package for
-Debian where there is dpkg; lintian, if it is there, finds no error in that. Each file has its sum. The pages are read
-(release_pages.py). The shared library exports the header's calls alone. The version is the same wherever it stands, and
-so is the address of the repository, if one is given. Where there is no compiler of C, the script says so, and tests
-nothing; what else is missing it says, and tests the rest. Without that compiler, cargo, Python's headers or a Python
-that can make an environment it fails, unless the variable SKIP_MISSING is set.
+(tests/release/python_module.py). What COMING_FROM.md says is tried in C beside libyaml, in Python beside PyYAML, and in
+Rust (tests/release/coming_from.*). The commands of both READMEs are run as they are written, where `sudo`, `dpkg` and
+`pip` install below a folder; lintian, if it is there, finds no error in the package for Debian. Each file has its sum.
+The pages are read (release_pages.py). The shared library exports the header's calls alone. The version is the same
+wherever it stands, and so is the address of the repository, if one is given. Where there is no compiler of C, the
+script says so, and tests nothing; what else is missing it says, and tests the rest. Without that compiler, cargo,
+Python's headers or a Python that can make an environment it fails, unless the variable SKIP_MISSING is set.
 """
+import fnmatch
 import glob
 import hashlib
+import importlib.util
 import json
 import os
 import re
@@ -112,6 +115,7 @@ project(events C)
 add_executable(saphyr_parser events.c)
 add_executable(static events.c)
 """
+INDENTED = re.compile(r"(?:^    .*\n)+", re.M)  # commands of a page
 # What a Python says of itself: its version, and whether the wheel is for it.
 PROBE = """import platform, sys, sysconfig
 print("%d.%d" % sys.version_info[:2], sys.version_info >= (3, 8) and platform.python_implementation() == "CPython"
@@ -170,6 +174,7 @@ class Release:
         with tarfile.open(f"{folder}/made/{name}.tar.gz") as it:
             it.extractall(folder)
         self.packages = [shutil.move(it, folder) for it in glob.glob(f"{folder}/made/*.deb")]
+        self.archive, self.python = shutil.move(f"{folder}/made/{name}.tar.gz", folder), None
         shutil.rmtree(f"{folder}/made")
         self.at, self.share = f"{folder}/{name}", f"{folder}/{name}/share/saphyr_parser"
         self.rust, self.examples = f"{self.share}/rust", f"{self.share}/examples"
@@ -293,9 +298,10 @@ def check_cargo(release, tools):
     write(f"{project}/Cargo.toml", f'[package]\nname = "first"\nedition = "2021"\n{named}[workspace]\n')
     write(f"{project}/src/main.rs", block(release.readme, "rust"))
     write(f"{project}/src/bin/trees.rs", block(release.faces, "rust"))
+    shutil.copy(f"{ROOT}/tests/release/coming_from.rs", f"{project}/src/bin")
     write(f"{project}/src/bin/counts.rs", COUNTING % (json.dumps(SHOWN), block(f"{ROOT}/README.md", "rust")))
     release.call(build, project)
-    for name, wanted in (("first", FIRST), ("trees", b'1:16: Some("80")\n'), ("counts", b"5\n")):
+    for name, wanted in (("first", FIRST), ("trees", b'1:16: Some("80")\n'), ("counts", b"5\n"), ("coming_from", b"")):
         release.check(f"the pages' {name} in Rust", [f"{project}/out/debug/{name}"], wanted)
     for name, crate in (("cargo", release.rust), ("a relative path", alone)):
         project = f"{release.folder}/{name.replace(' ', '_')}_project"
@@ -341,6 +347,7 @@ def check_python(release):
         words = [python, "-m", "pip", "install", "-q", "--no-index", "--disable-pip-version-check", *release.wheels]
         release.call(words)
         check_python_programs(release, version, python)
+        release.python = release.python or python
         tested += 1
     return tested
 
@@ -465,21 +472,80 @@ def check_installer(release, compiler):
     if ran.returncode or ran.stderr or files_below(f"{root}/usr/local") != files_below(f"{release.folder}/prefix"):
         fail(f"install.sh: {ran.stderr}")
     check_installed(release, compiler, root, "/usr/local", "install.sh")
+    # An ldconfig that doesn't look there.
+    write(f"{release.folder}/elsewhere/ldconfig", "#!/bin/sh\n")
+    os.chmod(f"{release.folder}/elsewhere/ldconfig", 0o755)
+    elsewhere = {"PREFIX": f"{release.folder}/elsewhere", "PATH": f"{release.folder}/elsewhere:{release.env['PATH']}"}
+    ran = subprocess.run([f"{release.at}/install.sh"], env={**release.env, **elsewhere}, capture_output=True, text=True)
+    if ran.returncode or f"LD_LIBRARY_PATH={elsewhere['PREFIX']}/lib" not in ran.stderr:
+        fail(f"install.sh to another prefix: {ran.stderr}")
     for words, status, said in ((["--help"], 0, "usage: "), (["/usr"], 2, "can't take these words: /usr.")):
         ran = subprocess.run([f"{release.at}/install.sh", *words], cwd="/", capture_output=True, text=True)
         if ran.returncode != status or said not in ran.stdout + ran.stderr:
             fail(f"install.sh {' '.join(words)} has the status {ran.returncode}, and says {ran.stderr}")
 
 
+def check_coming_from(release, compiler):
+    """What COMING_FROM.md says of libyaml and of PyYAML, by programs over both, where they are there."""
+    made = f"{release.folder}/coming_from"
+    words = [compiler, "-std=c99", f"-I{release.at}/include", f"{ROOT}/tests/release/coming_from.c"]
+    words += [f"{release.at}/lib/libsaphyr_parser.a", "-lyaml", "-o", made]
+    if subprocess.run([compiler, "-E", "-include", "yaml.h", "-x", "c", os.devnull], capture_output=True).returncode:
+        print("libyaml: not compared, since there is no yaml.h")
+    else:
+        release.call(words)
+        release.check("libyaml and C", [made], b"")
+    yaml = importlib.util.find_spec("yaml")
+    if yaml and release.python:
+        words = [release.python, f"{ROOT}/tests/release/coming_from.py", os.path.dirname(os.path.dirname(yaml.origin))]
+        release.check("PyYAML and Python", words, b"")
+    else:
+        print("PyYAML: not compared, since it is not there")
+
+
+def stand_ins(release, root):
+    """What `sudo`, `dpkg` and `pip` do where README is tried: they install below a folder."""
+    options = f"--force-depends --force-not-root --force-script-chrootless --root={root}"
+    dpkg = f'{shutil.which("dpkg")} {options} "$@"' if os.geteuid() == 0 else f'dpkg-deb -x "$2" {root}'
+    pip = f'{release.python} -m pip "$@" -q --no-index --disable-pip-version-check --target {root}/python'
+    return {"sudo": f'DESTDIR={root} "$@"', "dpkg": dpkg if release.packages else ":",
+            "pip": pip if release.python else ":"}
+
+
+def check_commands(release, compiler):
+    """The commands by which README, the release's README and FACES.md install, as they are written."""
+    folder, root = f"{release.folder}/commands", f"{release.folder}/debian"
+    for made in ("info", "updates", "triggers"):
+        os.makedirs(f"{root}/var/lib/dpkg/{made}")
+    write(f"{root}/var/lib/dpkg/status", "")
+    for name, body in stand_ins(release, root).items():
+        write(f"{folder}/bin/{name}", f"#!/bin/sh\n{body}\n")
+        os.chmod(f"{folder}/bin/{name}", 0o755)
+    for it in (release.archive, *release.packages):
+        os.symlink(it, f"{folder}/{os.path.basename(it)}")
+    shutil.copy(f"{release.folder}/first.c", folder)
+    write(f"{folder}/FILE", TEXT.decode())
+    chapter = read(f"{ROOT}/README.md").partition("\n## Install\n")[2].partition("\n## ")[0]
+    chapter = chapter.replace("VERSION", read(f"{ROOT}/VERSION").strip())
+    page = BLOCK.sub("", read(release.readme)).replace("FILE..", "FILE")
+    python = read(release.faces).partition("\n## From Python\n")[2]
+    scripts = [*INDENTED.findall(chapter), *re.findall("`(sudo .*?)`", chapter), *INDENTED.findall(page),
+               *INDENTED.findall(python)[:1], *re.findall("`(pip .*?)`", page),
+               *(f"cd RELEASE; {it}" for it in re.findall("`(sha256sum .*?)`", page))]
+    path = f"{folder}/bin:{release.env['PATH']}"
+    for script in scripts:
+        words = re.sub(r"^\s*cc\b", compiler, script).replace("RELEASE", release.at)
+        ran = subprocess.run(["sh", "-ec", words], cwd=folder, capture_output=True,
+                             env={**release.env, "PATH": path}, text=True)
+        release.built.append(" ".join(script.split()[:3]))
+        if ran.returncode:
+            fail(f"README's {script} says: {ran.stdout}{ran.stderr}")
+
+
 def check_package(release, compiler):
-    """The package for Debian, installed below a folder of its own, or unpacked where nobody may install."""
+    """The package for Debian, as README's command installed it, below a folder of its own."""
+    root = f"{release.folder}/debian"
     for package in release.packages:
-        root = f"{release.folder}/debian"
-        for folder in ("info", "updates", "triggers"):
-            os.makedirs(f"{root}/var/lib/dpkg/{folder}")
-        write(f"{root}/var/lib/dpkg/status", "")
-        words = ["dpkg", "--force-depends", "--force-not-root", "--force-script-chrootless", f"--root={root}", "-i"]
-        release.call([*words, package] if os.geteuid() == 0 else ["dpkg-deb", "-x", package, root])
         check_installed(release, compiler, root, "/usr", "the package for Debian")
         if release.wheels:
             release.check("its Python", [sys.executable, "-c", block(release.readme, "python")], b"1:9 80\n1:13 443\n",
@@ -487,6 +553,9 @@ def check_package(release, compiler):
         said = release.run(["lintian", package]) if shutil.which("lintian") else b""
         if re.search(rb"^E:", said if isinstance(said, bytes) else said.stdout, re.M):
             fail(f"lintian: {said}")
+        for named in re.findall(r"dpkg -i tools/(\S+)", read(f"{ROOT}/docs/CI.md")):
+            if not fnmatch.fnmatch(os.path.basename(package), named):
+                fail(f"CI.md names {named}, and the package is {package}")
 
 
 def install(prefix, **variables):
@@ -555,9 +624,11 @@ def main():
         check_c(release, tools)
         check_shown(release, tools)
         check_installer(release, compiler)
-        check_package(release, compiler)
         check_checker(release)
         tested = check_python(release)
+        check_commands(release, compiler)
+        check_package(release, compiler)
+        check_coming_from(release, compiler)
         for name, check in (("pkg-config", check_pkg_config), ("cmake", check_cmake), ("cargo", check_cargo)):
             if tools[name]:
                 check(release, tools)
