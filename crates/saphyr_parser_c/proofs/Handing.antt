@@ -15,7 +15,7 @@ use Rattle.saphyr_parser.specs.Answer.{Answer, Ending, Refused, fault_alone, rem
 use Rattle.saphyr_parser.specs.Events.{Happening}
 use Rattle.saphyr_parser.specs.Calls.{Advances, FailsFrom, GivesNext, IsReportedAs, given_fault, item_at}
 use Rattle.saphyr_parser.specs.Cursor.{EventCursor, Kept, Refuses, ending_of_fault}
-use Rattle.saphyr_pieces.specs.Pieces.{HandsOutOrWaits, at}
+use Rattle.saphyr_pieces.specs.Pieces.{EndsWithFault, HandsOutOrWaits, at}
 use Rattle.saphyr_parser_c.specs.declared.coming.Coming.{Coming}
 use Rattle.saphyr_parser_c.specs.declared.inner.Inner.{Inner}
 use Rattle.saphyr_parser_c.specs.declared.shown.CEvent.{CEvent}
@@ -24,7 +24,7 @@ use Rattle.saphyr_parser_c.specs.declared.source.Source.TheVariants as source
 use Rattle.saphyr_parser_c.specs.declared.status.Status.{Status}
 use Rattle.saphyr_parser_c.specs.declared.status.Status.TheVariants as status
 use Rattle.saphyr_parser_c.specs.Coming.{KeepsRest, WritesWaiting, at_bytes}
-use Rattle.saphyr_parser_c.specs.Inner.{HandsFrom, HandsOfComing, HandsOfPieces, HandsToC, IsAt, IsAtFrom, IsSameItem, ShowsFrom, ShowsOfComing, ShowsOfPieces, ShowsToC, WritesKept, Waits, WaitsForMore, handed}
+use Rattle.saphyr_parser_c.specs.Inner.{EndsAtFault, HandsFrom, HandsOfComing, HandsOfPieces, HandsToC, IsAt, IsAtFrom, IsSameItem, ShowsFrom, ShowsOfComing, ShowsOfPieces, ShowsToC, WritesKept, Waits, WaitsForMore, handed}
 use Rattle.saphyr_parser_c.specs.Same.{IsSameFault}
 use Rattle.saphyr_parser_c.specs.Shown.{WritesC}
 
@@ -117,6 +117,14 @@ gives_place item old new same gives later =
 pub same_lent : (lent old new : Coming) → lent ≡ old → KeepsRest lent new → KeepsRest old new
 same_lent lent old new is same = subst (λ (m : Coming). KeepsRest m new) is same
 
+pub ends_at_fault : (p : Progress) (next : Event × Span) (f : Fault) (item : Item) (new : Coming)
+    → EndsWithFault (Some p) new.parser → IsSameItem (item_at next f p) item → EndsAtFault item new
+ends_at_fault progress.Event next f item new ended (e, is, same) =
+    subst (λ (x : Item). EndsAtFault x new) (sym is) tt
+ends_at_fault progress.Fault next f item new ended (g, is, same) =
+    subst (λ (x : Item). EndsAtFault x new) (sym is) ended
+ends_at_fault progress.Over next f item new ended is = subst (λ (x : Item). EndsAtFault x new) (sym is) tt
+
 pub hands_lent : (p : Option Progress) (next : Event × Span) (f : Fault) (lent old new : Coming) → lent ≡ old
     → HandsOutOrWaits p next f lent.parser new.parser → HandsOutOrWaits p next f old.parser new.parser
 hands_lent p next f lent old new is hands =
@@ -161,6 +169,7 @@ hands_shown before after s c box from shown written =
           gives = λ later here is. gives_same (handed before) (handed after) here (at_bytes old later) written.same
               (subst (λ (b : Bool). IsAtFrom b old before later here) shown is);
           again = λ was. (written.same, refl);
+          ended = λ was. absurd (true≢false (sym shown ∙ was));
           shown = written.others.1;
           writes = written.writes;
         }),
@@ -184,6 +193,7 @@ shows_shown before after s c box from shown written =
               (gives_same (handed before) (handed after) here (at_bytes old later) written.same
               (subst (λ (b : Bool). IsAtFrom b old before later here) shown is));
           again = λ was. (written.same, refl);
+          ended = λ was. absurd (true≢false (sym shown ∙ was));
           shown = written.others.1 ∙ shown;
           writes = written.writes;
         }),
@@ -214,8 +224,8 @@ module _ (before : Inner) (s : Status) (c : CEvent) (from_box to_box : Box Comin
 
   -- what is read is handed out
   pub hands_next : (p : Progress) (after : Inner) → HandsOutOrWaits (Some p) next f old.parser new.parser
-      → WritesKept (read p before.shown) s c after → HandsToC before s c after
-  hands_next p after hands kept =
+      → EndsWithFault (Some p) new.parser → WritesKept (read p before.shown) s c after → HandsToC before s c after
+  hands_next p after hands ended kept =
       let written = subst (λ (b : Bool). WritesKept (read p b) s c after) shown kept in (
         subst (λ (x : Source). HandsFrom x before s c after) (sym from) (
           to_box,
@@ -224,6 +234,7 @@ module _ (before : Inner) (s : Status) (c : CEvent) (from_box to_box : Box Comin
           as_hands before after s c old new written.writes (record {
             gives = behind p false after hands written;
             again = λ was. absurd (true≢false (sym was ∙ shown));
+            ended = λ was. ends_at_fault p next f (handed after) new ended written.same;
             shown = written.others.1;
             writes = written.writes;
           }),
@@ -233,8 +244,8 @@ module _ (before : Inner) (s : Status) (c : CEvent) (from_box to_box : Box Comin
 
   -- what is read is shown
   pub shows_next : (p : Progress) (after : Inner) → HandsOutOrWaits (Some p) next f old.parser new.parser
-      → WritesKept (read p true) s c after → ShowsToC before s c after
-  shows_next p after hands written = (
+      → EndsWithFault (Some p) new.parser → WritesKept (read p true) s c after → ShowsToC before s c after
+  shows_next p after hands ended written = (
     subst (λ (x : Source). ShowsFrom x before s c after) (sym from) (
       to_box,
       written.others.0,
@@ -243,6 +254,7 @@ module _ (before : Inner) (s : Status) (c : CEvent) (from_box to_box : Box Comin
         place = λ later here is. subst (λ (b : Bool). IsAtFrom b new after later here) (sym written.others.1)
             (behind p true after hands written later here is);
         again = λ was. absurd (true≢false (sym was ∙ shown));
+        ended = λ was. ends_at_fault p next f (handed after) new ended written.same;
         shown = written.others.1;
         writes = written.writes;
       }),

@@ -122,21 +122,28 @@ IsSameItem (Some (Err f)) copy = (g : Fault) × (copy ≡ Some (Err g)) × IsSam
 abbrev pub ShowsAgain : Coming → Inner → Coming → Inner → Type 0
 ShowsAgain old before new after = before.shown ≡ true → IsSameItem (handed before) (handed after) × (new ≡ old)
 
+-- a fault is the last: no more of the text is wanted
+abbrev pub EndsAtFault : Option (Result (Event × Span) Fault) → Coming → Type 0
+EndsAtFault (Some (Err f)) c = wants_more c.parser ≡ false
+EndsAtFault _ c = Unit {0}
+
 -- Whatever comes later, what is handed out comes next in the whole text, and is written; it is kept until the next
--- call. What was shown is handed out.
+-- call. What was shown is handed out. Behind a fault no more is wanted, as it is where that was shown.
 pub record HandsOfPieces (old : Coming) (before : Inner) (s : Status) (c : CEvent) (new : Coming) (after : Inner)
     : Type 0 where
   pub gives : (later : List ℕ) (at : EventCursor) → IsAt old before later at
       → GivesNext (handed after) at (at_bytes new later)
   pub again : ShowsAgain old before new after
+  pub ended : before.shown ≡ false → EndsAtFault (handed after) new
   pub shown : after.shown ≡ false
   pub writes : WritesC (handed after) s c
 
--- The same is shown, also where it was before, and stays to be handed out.
+-- The same is shown, also where it was before, and stays to be handed out. Behind a fault no more is wanted.
 pub record ShowsOfPieces (old : Coming) (before : Inner) (s : Status) (c : CEvent) (new : Coming) (after : Inner)
     : Type 0 where
   pub place : (later : List ℕ) (at : EventCursor) → IsAt old before later at → IsAt new after later at
   pub again : ShowsAgain old before new after
+  pub ended : before.shown ≡ false → EndsAtFault (handed after) new
   pub shown : after.shown ≡ true
   pub writes : WritesC (handed after) s c
 

@@ -1,8 +1,8 @@
 -- What the event structure of C holds.
-use Rattle.std.specs.Prelude.{◌≡◌, ℕ, ℤ, pos, Bool, true, false, List, length, Option, Some, None, Result, Ok, Err, option_map, string_bytes}
+use Rattle.std.specs.Prelude.{◌≡◌, ◌≢◌, ℕ, ℤ, pos, Bool, true, false, List, length, Option, Some, None, Result, Ok, Err, option_map, string_bytes}
 use Rattle.std.specs.Borrow.{Bor}
 use Rattle.std.specs.Global.{Global}
-use Rattle.std.specs.Ptr.{as_ptr, null_ptr}
+use Rattle.std.specs.Ptr.{null_ptr}
 use Rattle.std.specs.String.{string_vec}
 use Rattle.std.specs.Vec.{vec_ptr, vec_len}
 use Rattle.std.specs.declared.borrow.CowStr.{CowStr}
@@ -99,11 +99,11 @@ pub record HasNumbers (t : EventFields) (from to : Marker) (c : CEvent) : Type 0
 
 -- ## The texts in C's structure
 
--- the address of a text that is lent, and the number of its bytes; null where there is no text
+-- An address that is not null, and the number of a text's bytes; null where there is no text. Which bytes are at that
+-- address no clause says: of the text of a reference the standard library tells no address.
 abbrev pub HasText : Option (List ℕ) → CText → Type 0
 HasText None c = (c.at ≡ null_ptr) × (c.len ≡ 0)
-HasText (Some bytes) c =
-    (text : Bor (List ℕ)) × (text.now ≡ bytes) × (c.at ≡ as_ptr text) × (c.len ≡ length bytes)
+HasText (Some bytes) c = (c.at ≢ null_ptr) × (c.len ≡ length bytes)
 
 abbrev pub HasTagTexts : Option ResolvedTag → CEvent → Type 0
 HasTagTexts None c = HasText None c.tag_handle × HasText None c.tag_suffix

@@ -2,7 +2,7 @@
 
 ghost use Rattle.std.specs.Prelude.{◌≡◌, ◌++◌, List, ℕ, IfOk};
 ghost use Rattle.saphyr_parser.specs.Cursor.{keeping_tags};
-ghost use Rattle.saphyr_pieces.specs.Pieces.{HandsOutOrWaits, at};
+ghost use Rattle.saphyr_pieces.specs.Pieces.{EndsWithFault, HandsOutOrWaits, at};
 ghost use Rattle.saphyr_parser_c.specs.Coming as spec;
 
 use crate::encoding::{begins_as_utf16, whole_front};
@@ -167,6 +167,7 @@ impl Coming {
         fault: &mut Fault,
     ) -> Option<Progress>
         ensures next { HandsOutOrWaits result next.new fault.new self.old.parser self.new.parser }
+        ensures ended { EndsWithFault result self.new.parser }
         ensures same { spec.KeepsRest self.old self.new }
     {
         self.parser.next_event_into(next, fault)

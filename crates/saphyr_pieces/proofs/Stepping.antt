@@ -14,7 +14,7 @@ use Rattle.saphyr_machine.specs.declared.progress.Progress.TheVariants as progre
 use Rattle.saphyr_machine.specs.declared.reader.EventReader.{EventReader}
 use Rattle.saphyr_machine.specs.declared.state.State.{State}
 use Rattle.saphyr_machine.specs.declared.state.State.TheVariants as state
-use Rattle.saphyr_machine.specs.Calls.{AdvancesFrom, FailsFrom, FailsWith, GivesNext, item_at}
+use Rattle.saphyr_machine.specs.Calls.{AdvancesFrom, FailsFrom, FailsWith, GivesNext, given_fault, item_at}
 use Rattle.saphyr_machine.specs.Cursor.{EventCursor, Kept, event_of}
 use Rattle.saphyr_machine.specs.Events.{Happening}
 use Rattle.saphyr_machine.specs.Passed.{before_tokens}
@@ -27,7 +27,7 @@ use Rattle.saphyr_pieces.specs.declared.pieces.PieceReader.{PieceReader}
 use Rattle.saphyr_pieces.specs.declared.pieces.passed.Passed.{Passed}
 use Rattle.saphyr_pieces.specs.declared.pieces.Source.{Source}
 use Rattle.saphyr_pieces.specs.declared.pieces.Source.TheVariants as source
-use Rattle.saphyr_pieces.specs.Pieces.{HandsOutOrWaits, at, cursor_from, wants_more, wants_more_from}
+use Rattle.saphyr_pieces.specs.Pieces.{EndsWithFault, HandsOutOrWaits, at, cursor_from, wants_more, wants_more_from}
 use Rattle.saphyr_pieces.specs.Passed.{passed_tokens}
 use Rattle.saphyr_pieces.specs.Views.{AdvancesBy, AreIdleBefore, CountsOne, FailsOrWaits, GoesBack, GoesBackFrom, IsLack, IsReachedFrom, IsSoundFrom, IsSoundReader, LeadsCopyTo, PassesIdleOn, failed, pieces_of, place_in}
 use Rattle.saphyr_pieces.proofs.IdleTokens.{gives_there, idle_along, passed_none, passes_further, stays_on}
@@ -293,3 +293,28 @@ pub over_passed_none : (p : PieceReader) (r : EventReader OwnedText)
     → ((more : List ℕ) → GivesNext None (cursor_in more p.reader) (cursor_in more r)) → IsSoundReader p
     → passed_tokens p.passed ≡ []
 over_passed_none p r gives h = passed_none (passed_tokens p.passed) p.reader (cursor r) h.idle (gives [])
+
+-- ## A fault is the last
+
+fault_is_kept : (a : Option (Happening × Span)) (k : Option Kept) (f : Fault) (c d : EventCursor) → FailsFrom a k f c d
+    → d.kept ≡ given_fault f
+fault_is_kept (Some x) k f c d h = absurd h
+fault_is_kept None (Some l) f c d h = ap (λ (v : EventCursor). v.kept) h.2
+fault_is_kept None None f c d h = ap (λ (v : EventCursor). v.kept) h.1
+
+-- A reader of a text of which more is wanted keeps no fault.
+wants_no_more : (s : Source) (p : PieceReader) (c : EventCursor) (f : Fault) → IsSoundFrom s p
+    → (cursor_from s (pieces_of p) []).kept ≡ given_fault f → wants_more_from s ≡ false
+wants_no_more source.Text p c f sound kept = let e = sound.0 in absurd (cc)
+wants_no_more source.Given p c f sound kept = refl
+wants_no_more source.Lost p c f sound kept = refl
+
+pub fault_is_last : (o : Option Progress) (next : Event × Span) (f : Fault) (p q : PieceReader)
+    → HandsOutOrWaits o next f (pieces_of p) (pieces_of q) → IsSoundReader q → EndsWithFault o (pieces_of q)
+fault_is_last (Some progress.Fault) next f p q hands sound =
+    let old = at (pieces_of p) [] in
+    wants_no_more q.source q old f sound.source
+    (fault_is_kept old.current old.kept f old (at (pieces_of q) []) (hands []))
+fault_is_last (Some progress.Event) next f p q hands sound = tt
+fault_is_last (Some progress.Over) next f p q hands sound = tt
+fault_is_last None next f p q hands sound = tt

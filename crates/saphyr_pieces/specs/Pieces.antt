@@ -6,6 +6,7 @@ use Rattle.saphyr_scanner.specs.Views.Tokens.{Piece}
 use Rattle.saphyr_machine.specs.declared.event.Event.{Event}
 use Rattle.saphyr_machine.specs.declared.fault.Fault.{Fault}
 use Rattle.saphyr_machine.specs.declared.progress.Progress.{Progress}
+use Rattle.saphyr_machine.specs.declared.progress.Progress.TheVariants as progress
 use Rattle.saphyr_machine.specs.Answer.{OutOfMemory, fault_alone}
 use Rattle.saphyr_machine.specs.Calls.{GivesNext, item_at}
 use Rattle.saphyr_machine.specs.Cursor.{EventCursor, to_come}
@@ -79,3 +80,8 @@ HandsOutOrWaits None next fault old new =
     (wants_more new ≡ true) × ((later : List ℕ) → at new later ≡ at old later)
 HandsOutOrWaits (Some progress) next fault old new =
     (later : List ℕ) → GivesNext (item_at next fault progress) (at old later) (at new later)
+
+-- A fault is the last that is handed out: no more of the text is wanted.
+abbrev pub EndsWithFault : Option Progress → Pieces → Type 0
+EndsWithFault (Some progress.Fault) p = wants_more p ≡ false
+EndsWithFault _ p = Unit {0}

@@ -33,4 +33,5 @@ returns-in-Some c =
     c.next_into.new.next c.next_into.new.fault c.in-Pieces.is c.if-self.false
     (same_lent lent old new is c.next_into.ensures.same) p c.write-in-Pieces-2.new.self
     (hands_lent (Some p) c.next_into.new.next c.next_into.new.fault lent old new is c.in-Some.ensures.next)
+    c.in-Some.ensures.ended
     c.write-in-Pieces-2.ensures
