@@ -1,5 +1,9 @@
--- The last item of a list.
+-- The last item of a list, and one inside.
 use Rattle.std.proofs.Common.{◌≡◌, List, [], ◌∷◌, ◌++◌, refl}
+
+pub nothing_before : {X : Type 0} (xs ys : List X) (y : X) → [] ≡ xs ++ (y ∷ ys) → ⊥
+nothing_before [] ys y e = cc
+nothing_before (x ∷ xs) ys y e = cc
 
 pub none_is_last : {X : Type 0} (xs : List X) (x : X) → xs ++ x ∷ [] ≡ [] → ⊥
 none_is_last [] x e = cc
