@@ -69,7 +69,8 @@ properties_more a b (suc n) id tag more (p, is, anchor, t) = (
   subst (λ (ts : List ℕ). HasTagRows ts p.tag tag) (sym more.texts) (tag_more a.texts more.more_texts p.tag tag t),
 )
 
-pub texts_more : (a b : Store) (text : List ℕ) (row : Row) → IsMore a b → StandIn text row a.texts → StandIn text row b.texts
+pub texts_more : (a b : Store) (text : List ℕ) (row : Row) → IsMore a b → StandIn text row a.texts
+    → StandIn text row b.texts
 texts_more a b text row more h =
     subst (StandIn text row) (sym more.texts) (stands_more text row a.texts more.more_texts h)
 
@@ -132,9 +133,14 @@ stores_both a b c m n = record {
   more = more_both (store_of a) (store_of b) (store_of c) m.more n.more;
 }
 
-get_seam : {X : Type 0} (xs : List X) (y : X) → slice_get (xs ++ y ∷ []) (length xs) ≡ Some y
-get_seam [] y = refl
-get_seam (x ∷ xs) y = get_seam xs y
+-- what holds where a call succeeds leads to something else
+pub ok_map : {T E A B : Type 0} (result : Result T E) → OnOk result A → (A → B) → OnOk result B
+ok_map (Ok u) a f = f a
+ok_map (Err e) a f = tt
+
+pub get_seam : {X : Type 0} (xs : List X) (y : X) (ys : List X) → slice_get (xs ++ (y ∷ ys)) (length xs) ≡ Some y
+get_seam [] y ys = refl
+get_seam (x ∷ xs) y ys = get_seam xs y ys
 
 -- the texts of a tag are stored, and then the properties
 pub record Keeping (old texts noted new : NodeTable) (p : Properties) (tag : MaybeTag) : Type 0 where
@@ -174,7 +180,7 @@ kept_properties old texts noted new p tag number k is =
     subst (λ (n : ℕ). StoresProperties (store_of new) n p.anchor tag) next (
       p,
       ap (λ (ps : List Properties). slice_get ps (length noted.properties.items)) k.properties
-          ∙ get_seam noted.properties.items p,
+          ∙ get_seam noted.properties.items p [],
       refl,
       subst (λ (ts : List ℕ). HasTagRows ts p.tag tag) (sym own) k.tells,
     )

@@ -1,4 +1,4 @@
-use Rattle.std.proofs.Common.{◌≡◌, ◌∷◌, ◌++◌, [], Bool, Err, false, true≢false, sym, ◌∙◌, rules}
+use Rattle.std.proofs.Common.{◌≡◌, Bool, Err, false, true≢false, sym, ◌∙◌, rules}
 use Rattle.saphyr_parser.specs.Cursor.{event_of}
 use Rattle.yaml_tree.proofs.DocumentRead.{reads_nothing, reads_on, reads_end, fails_behind, nests_nowhere, refuses_behind, reads_rest}
 use Rattle.yaml_tree.proofs.Leaving.{hands_none, hands_more, leaves_all, leaves_at}
