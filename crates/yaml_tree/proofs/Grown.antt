@@ -174,6 +174,16 @@ holds_count doc es s [] waiting entries (outer, i, h) = inside_count es doc s wa
 holds_count doc es s (l ∷ ls) waiting entries (x, around, before, e, outer, i, o, n, w, h) =
     inside_count es (around ++ x ∷ []) s waiting before entries (outer ++ e ∷ []) i
 
+pub all_told : (doc es : List Event) (s : Store) (waiting : List ℕ) (entries : List Entry)
+    → Holds doc es s [] waiting entries → AreEntriesFrom es s 0 entries
+all_told doc es s waiting entries (outer, i, h) =
+    let first = i.first in
+    subst (λ (xs : List Entry). AreEntriesFrom es s 0 xs) (sym i.split)
+    (entries_both es s 0 (nodes_begun doc) outer i.inner
+    (subst (λ (ds : List Event). AreEntriesFrom ds s 0 outer) (sym i.events)
+    (entries_more doc (all_of i.parts) s s 0 outer (more_none s) h))
+    (omega (arith, first)) i.told)
+
 adds : (doc es own : List Event) (s : Store) (ls : List Level) (waiting : List ℕ) (entries more : List Entry)
     → Holds doc es s ls waiting entries → IsNode own → length more ≡ nodes_begun own
     → AreEntriesFrom (es ++ own) s (nodes_begun es) more

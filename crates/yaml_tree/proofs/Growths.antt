@@ -1,11 +1,11 @@
 -- A table grows by one event more.
-use Rattle.std.proofs.Common.{arith, ◌≡◌, ◌∙◌, refl, sym, ap, subst, ℕ, suc, ◌+◌, List, [], ◌∷◌, ◌++◌, Some, min, length, take, drop, append_assoc, append-nil}
+use Rattle.std.proofs.Common.{arith, ◌≡◌, ◌∙◌, refl, sym, ap, subst, ℕ, ◌+◌, List, [], ◌∷◌, ◌++◌, Some, min, length, take, drop, append_assoc, append-nil}
 use Rattle.std.proofs.lemmas.List.{append_cancel_left, length-append}
 use Rattle.std.proofs.Math.Seq.{drop-append_seam, take-append_seam}
 use Rattle.std.specs.List.{slice_get, slice_set}
 use Rattle.saphyr_scalar.specs.declared.scalar.position.Span.{Span}
 use Rattle.saphyr_scalar.specs.declared.scalar.style.ScalarStyle.{ScalarStyle}
-use Rattle.saphyr_parser.specs.Events.{Happening, Alias, Scalar, SequenceStart, SequenceEnd, MappingStart, MappingEnd, Nothing, StreamStart, StreamEnd, DocumentStart, DocumentEnd}
+use Rattle.saphyr_parser.specs.Events.{Happening, Alias, Scalar, Nothing, StreamStart, StreamEnd, DocumentStart, DocumentEnd}
 use Rattle.saphyr_parser.specs.Nesting.{happenings}
 use Rattle.yaml_tree.specs.declared.expanding.Counter.{Counter}
 use Rattle.yaml_tree.specs.declared.growing.Growth.{Growth}
@@ -18,76 +18,16 @@ use Rattle.yaml_tree.specs.declared.table.Root.{Root}
 use Rattle.yaml_tree.specs.declared.table.Row.{Row}
 use Rattle.yaml_tree.specs.Expanding.{most}
 use Rattle.yaml_tree.specs.CounterSeen.{Count, HoldsCount, begun as counts_begun, counted, counted_all, left, size_in, with_nodes}
-use Rattle.yaml_tree.specs.Tables.{AreEntriesFrom, AreNodes, AreRootsFrom, Event, IsBeside, IsEnd, IsLeafEvent, IsNode, IsEmptyTable, IsRootAt, IsStart, IsTable, MaybeTag, Store, StoresProperties, TellsFirst, all_of, id_of_anchor, beginning, nodes_begun, documents_ended, documents_ended_by, none, numbers, one_more, store_of}
+use Rattle.yaml_tree.specs.Tables.{AreEntriesFrom, AreNodes, AreRootsFrom, Event, IsBeside, IsEnd, IsLeafEvent, IsNode, IsEmptyTable, IsRootAt, IsStart, IsTable, MaybeTag, StoresProperties, TellsFirst, all_of, id_of_anchor, beginning, nodes_begun, documents_ended_by, none, numbers, one_more, store_of}
 use Rattle.yaml_tree.specs.GrowerSeen.{AddsEvent, AddsLeaf, CountsExpanded, EndsDocument, EndsLevel, HasGrown, Holds, HasNoneOpen, IsMore, IsStack, OpensLevel, Stores, StoresText, closed, no_count}
 use Rattle.yaml_tree.proofs.Expands.{expands}
-use Rattle.yaml_tree.proofs.LastItems.{none_is_last, nothing_before, same_last}
-use Rattle.yaml_tree.proofs.Stores.{get_seam, more_none, stores_both, text_stores, texts_more}
-use Rattle.yaml_tree.proofs.Grown.{adds_leaf, begins, ends, entries_both, entries_more, holds_along, holds_count, holds_store}
-use Rattle.yaml_tree.proofs.Places.{begun-append}
+use Rattle.yaml_tree.proofs.LastItems.{get_seam, none_is_last, nothing_before, same_last, set_seam}
+use Rattle.yaml_tree.proofs.Stores.{more_none, stores_both, text_stores, texts_more}
+use Rattle.yaml_tree.proofs.Grown.{adds_leaf, all_told, begins, ends, entries_more, holds_along, holds_count, holds_store}
+use Rattle.yaml_tree.proofs.Places.{begun-append, no_nodes_yet}
+use Rattle.yaml_tree.proofs.Roots.{end_counts, end_ends_none, ended-append, leaf_ends_none, roots-snoc, roots_more, start_counts, start_ends_none}
 use Rattle.yaml_tree.proofs.Counts.{counted-append}
 use Rattle.yaml_tree.proofs.Taking.{happenings-append}
-
--- ## Counts
-
-ended-append : (xs ys : List Event) → documents_ended (xs ++ ys) ≡ documents_ended xs + documents_ended ys
-ended-append [] ys = omega arith
-ended-append (x ∷ xs) ys = let e = ended-append xs ys in omega (arith, e)
-
-leaf_ends_none : (h : Happening) → IsLeafEvent h → documents_ended_by h ≡ 0
-leaf_ends_none (Alias id) l = refl
-leaf_ends_none (Scalar text style id tag) l = refl
-leaf_ends_none _ l = absurd l
-
-start_ends_none : (h : Happening) → IsStart h → documents_ended_by h ≡ 0
-start_ends_none (SequenceStart id tag) l = refl
-start_ends_none (MappingStart id tag) l = refl
-start_ends_none _ l = absurd l
-
-end_ends_none : (h : Happening) → IsEnd h → documents_ended_by h ≡ 0
-end_ends_none SequenceEnd l = refl
-end_ends_none MappingEnd l = refl
-end_ends_none _ l = absurd l
-
-start_counts : (h : Happening) (c : Count) → IsStart h → counted h c ≡ counts_begun (id_of_anchor h) c
-start_counts (SequenceStart id tag) c l = refl
-start_counts (MappingStart id tag) c l = refl
-start_counts _ c l = absurd l
-
-end_counts : (h : Happening) (c : Count) → IsEnd h → counted h c ≡ left c
-end_counts SequenceEnd c l = refl
-end_counts MappingEnd c l = refl
-end_counts _ c l = absurd l
-
--- ## Roots
-
-root_more : (es fs : List Event) (index : ℕ) (r : Root) → IsRootAt es index r → IsRootAt (es ++ fs) index r
-root_more es fs index r p = record {
-  front = p.front;
-  own = p.own;
-  last = p.last;
-  behind = p.behind ++ fs;
-  split = ap (λ (ds : List Event). ds ++ fs) p.split ∙ append_assoc p.front (p.own ++ (p.last ∷ p.behind)) fs
-      ∙ ap (λ (ds : List Event). p.front ++ ds) (append_assoc p.own (p.last ∷ p.behind) fs);
-  documents = p.documents;
-  number = p.number;
-  node = p.node;
-  ends = p.ends;
-  expanded = p.expanded;
-}
-
-roots_more : (es fs : List Event) (index : ℕ) (rs : List Root) → AreRootsFrom es index rs
-    → AreRootsFrom (es ++ fs) index rs
-roots_more es fs index [] h = tt
-roots_more es fs index (r ∷ rs) h = (root_more es fs index r h.0, roots_more es fs (suc index) rs h.1)
-
-roots-snoc : (es : List Event) (index : ℕ) (rs : List Root) (r : Root) → AreRootsFrom es index rs
-    → IsRootAt es (index + length rs) r → AreRootsFrom es index (rs ++ r ∷ [])
-roots-snoc es index [] r h is =
-    let same : index + 0 ≡ index = omega arith in (subst (λ (i : ℕ). IsRootAt es i r) same is, tt)
-roots-snoc es index (q ∷ rs) r h is =
-    let same : index + suc (length rs) ≡ suc index + length rs = omega arith in
-    (h.0, roots-snoc es (suc index) rs r h.1 (subst (λ (i : ℕ). IsRootAt es i r) same is))
 
 -- ## One event more
 
@@ -165,11 +105,6 @@ start_grows old mid new span what id a only adds h start anchor told es g =
 
 -- ## A collection ends
 
-set_seam : {X : Type 0} (xs : List X) (y z : X) (ys : List X)
-    → slice_set (xs ++ (y ∷ ys)) (length xs) z ≡ xs ++ (z ∷ ys)
-set_seam [] y z ys = refl
-set_seam (x ∷ xs) y z ys = ap (λ l. x ∷ l) (set_seam xs y z ys)
-
 -- the innermost level is the last
 top : (kept front : List Level) (l : Level) (inside : List Level) → kept ≡ front ++ l ∷ [] → IsStack kept inside
     → (others : List Level) × (inside ≡ l ∷ others) × IsStack front others
@@ -240,16 +175,6 @@ one_part : (n m : ℕ) (parts : List (List Event)) → n ∷ [] ≡ numbers m pa
 one_part n m [] e = absurd (cc)
 one_part n m (own ∷ []) e = (own, refl, cc)
 one_part n m (own ∷ (p ∷ ps)) e = absurd (cc)
-
-all_told : (doc es : List Event) (s : Store) (waiting : List ℕ) (entries : List Entry)
-    → Holds doc es s [] waiting entries → AreEntriesFrom es s 0 entries
-all_told doc es s waiting entries (outer, i, h) =
-    let first = i.first in
-    subst (λ (xs : List Entry). AreEntriesFrom es s 0 xs) (sym i.split)
-    (entries_both es s 0 (nodes_begun doc) outer i.inner
-    (subst (λ (ds : List Event). AreEntriesFrom ds s 0 outer) (sym i.events)
-    (entries_more doc (all_of i.parts) s s 0 outer (more_none s) h))
-    (omega (arith, first)) i.told)
 
 none_held : (es : List Event) (g : Growth) → g.levels.items ≡ [] → (h : HasGrown es g)
     → Holds h.doc es (store_of g.table) [] g.waiting.items g.table.entries.items
@@ -455,15 +380,6 @@ grows_none g between empty counter = begins_anew [] g between
     }) counter
 
 -- ## Before the first event
-
-no_node : IsNode [] → ⊥
-no_node n = elim n [ ]
-
-no_nodes_yet : (doc : List Event) (parts : List (List Event)) → AreNodes parts → [] ≡ doc ++ all_of parts → parts ≡ []
-no_nodes_yet doc [] nodes e = refl
-no_nodes_yet (x ∷ doc) (own ∷ others) nodes e = absurd (cc)
-no_nodes_yet [] ([] ∷ others) (one_more _ _ n m) e = absurd (no_node n)
-no_nodes_yet [] ((x ∷ own) ∷ others) nodes e = absurd (cc)
 
 first_between : (g : Growth) (doc : List Event) (inside : List Level) → IsStack g.levels.items inside
     → Holds doc [] (store_of g.table) inside g.waiting.items g.table.entries.items → HasNoneOpen g

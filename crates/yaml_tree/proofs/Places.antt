@@ -1,6 +1,6 @@
 -- A number is of one node, and a node has one list of parts: events show where a node ends.
-use Rattle.std.proofs.Common.{arith, ◌≡◌, ◌∙◌, refl, sym, ap, subst, ℕ, suc, ◌+◌, ◌<◌, List, [], ◌∷◌, ◌++◌, append_assoc, append-nil, inl, inr}
-use Rattle.saphyr_parser.specs.Events.{Happening, Alias, Scalar, SequenceStart, SequenceEnd, MappingStart, MappingEnd}
+use Rattle.std.proofs.Common.{arith, ◌≡◌, ◌∙◌, refl, sym, ap, subst, ℕ, ◌+◌, ◌<◌, List, [], ◌∷◌, ◌++◌, append_assoc, inl, inr}
+use Rattle.saphyr_parser.specs.Events.{Happening, Alias, Scalar, SequenceStart, MappingStart}
 use Rattle.yaml_tree.specs.Tables.{AreNodes, Event, IsEnd, IsLeafEvent, IsMadeOf, IsNode, IsNodeAt, IsStart, all_of, beginning, nodes_begun, leaf, none, one_more, whole}
 
 -- ## What an event does
@@ -48,6 +48,15 @@ pub begins : (own : List Event) → IsNode own → Begins own
 begins _ (leaf e l) = record { first = e; others = []; split = refl; one = leaf_begins e.0 l }
 begins _ (whole first parts last s nodes end) =
     record { first = first; others = all_of parts ++ last ∷ []; split = refl; one = start_begins first.0 s }
+
+no_node : IsNode [] → ⊥
+no_node n = elim n [ ]
+
+pub no_nodes_yet : (doc : List Event) (parts : List (List Event)) → AreNodes parts → [] ≡ doc ++ all_of parts → parts ≡ []
+no_nodes_yet doc [] nodes e = refl
+no_nodes_yet (x ∷ doc) (own ∷ others) nodes e = absurd (cc)
+no_nodes_yet [] ([] ∷ others) (one_more _ _ n m) e = absurd (no_node n)
+no_nodes_yet [] ((x ∷ own) ∷ others) nodes e = absurd (cc)
 
 -- ## Where a node ends
 

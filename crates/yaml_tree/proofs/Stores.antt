@@ -2,7 +2,7 @@
 use Rattle.std.proofs.Common.{arith, ◌≡◌, ◌∙◌, refl, sym, ap, subst, ℕ, zero, suc, ◌+◌, List, [], ◌∷◌, ◌++◌, Option, Some, None, Result, Ok, Err, OnOk, IfOk, length, append_assoc, append-nil}
 use Rattle.std.proofs.lemmas.List.{length-append}
 use Rattle.std.specs.List.{slice_get}
-use Rattle.saphyr_parser.specs.Events.{Happening, ResolvedTag, Alias, Scalar, SequenceStart, MappingStart}
+use Rattle.saphyr_parser.specs.Events.{Happening, Alias, Scalar}
 use Rattle.yaml_tree.specs.declared.table.Content.{Content}
 use Rattle.yaml_tree.specs.declared.table.Content.TheVariants as content
 use Rattle.yaml_tree.specs.declared.table.NodeTable.{NodeTable}
@@ -11,6 +11,7 @@ use Rattle.yaml_tree.specs.declared.table.Row.{Row}
 use Rattle.yaml_tree.specs.declared.table.TagRows.{TagRows}
 use Rattle.yaml_tree.specs.Tables.{HasParts, IsStart, HasTagRows, MaybeTag, StandIn, Store, StoresProperties, TellsFirst, store_of}
 use Rattle.yaml_tree.specs.GrowerSeen.{IsMore, KeepsNodes, Stores, StoresText, StoresTexts, with_row}
+use Rattle.yaml_tree.proofs.LastItems.{get_seam}
 
 pub more_none : (s : Store) → IsMore s s
 more_none s = record {
@@ -137,10 +138,6 @@ stores_both a b c m n = record {
 pub ok_map : {T E A B : Type 0} (result : Result T E) → OnOk result A → (A → B) → OnOk result B
 ok_map (Ok u) a f = f a
 ok_map (Err e) a f = tt
-
-pub get_seam : {X : Type 0} (xs : List X) (y : X) (ys : List X) → slice_get (xs ++ (y ∷ ys)) (length xs) ≡ Some y
-get_seam [] y ys = refl
-get_seam (x ∷ xs) y ys = get_seam xs y ys
 
 -- the texts of a tag are stored, and then the properties
 pub record Keeping (old texts noted new : NodeTable) (p : Properties) (tag : MaybeTag) : Type 0 where
