@@ -14,6 +14,7 @@ use Rattle.yaml_tree.specs.Accessing.{is_this_text}
 use Rattle.yaml_tree.specs.Tables.{AreNodes, CountsParts, Event, FindsNumber, IsMadeOf, IsNodeAt, IsTable, HasNumber, OfNode, Store, TellsFirst, all_of, nodes_begun, count_of, none as no_parts, numbers, one_more, part_of_step, store_of}
 use Rattle.saphyr_parser_c.specs.Followed.{FollowsAlias, FollowsIn, GetsAt, HasKeyText, IsKey, IsPairOfParts, IsTextOfKey, IsThere, LeadsFrom, named_by, named_in, text_of_first, scalar_text}
 use Rattle.yaml_tree.proofs.Entries.{entry_there, entry_told}
+use Rattle.yaml_tree.proofs.LookUps.{length-numbers}
 use Rattle.yaml_tree.proofs.Places.{begun-append, made_once, place_once, start_begins, within}
 
 -- ## Places
@@ -210,10 +211,6 @@ no_key es own text whole index table t at leads = λ key there.
     (leads_in es own whole (Key index) None table t at leads) there in cc
 
 -- ## Pairs
-
-length-numbers : (n : ℕ) (parts : List (List Event)) → length (numbers n parts) ≡ length parts
-length-numbers n [] = refl
-length-numbers n (own ∷ others) = let e = length-numbers (n + nodes_begun own) others in omega (arith, e)
 
 some_within : (xs : List ℕ) (i k : ℕ) → Some k ≡ slice_get xs i → i < length xs
 some_within [] i k e = cc

@@ -30,7 +30,7 @@ unfolding count
 grown-twice e f c = let same : (c.nodes + e.nodes) + f.nodes ≡ c.nodes + (e.nodes + f.nodes) = omega arith in
     ap (λ (n : ℕ). count n f.sizes c.levels) same
 
-counted-append : (xs ys : List Happening) (c : Count) → counted_all (xs ++ ys) c ≡ counted_all ys (counted_all xs c)
+pub counted-append : (xs ys : List Happening) (c : Count) → counted_all (xs ++ ys) c ≡ counted_all ys (counted_all xs c)
 counted-append [] ys c = refl
 counted-append (x ∷ xs) ys c = counted-append xs ys (counted x c)
 
@@ -69,7 +69,8 @@ counts_node = of_node Grows (record {
 })
 
 -- from nothing the count is that of the tree
-pub counts_root : (root : Node) → (counted_all (node_events root) (record { nodes = 0; sizes = no_sizes; levels = [] })).nodes
+pub counts_root : (root : Node)
+    → (counted_all (node_events root) (record { nodes = 0; sizes = no_sizes; levels = [] })).nodes
     ≡ (expanded root no_sizes).nodes
 counts_root root =
     let none : Count = record { nodes = 0; sizes = no_sizes; levels = [] } in

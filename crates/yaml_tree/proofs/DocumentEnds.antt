@@ -4,7 +4,7 @@ use Rattle.std.specs.List.{flat_map}
 use Rattle.saphyr_parser.specs.Events.{Happening, DocumentEnd}
 use Rattle.yaml_tree.specs.declared.document.Document.{Document}
 use Rattle.yaml_tree.specs.Unloading.{node_events, document_events}
-use Rattle.yaml_tree.specs.DocumentLoading.{EndNoDocument}
+use Rattle.yaml_tree.specs.Loading.{EndNoDocument}
 
 abbrev end : Happening → ℕ
 end DocumentEnd = 1

@@ -1,159 +1,136 @@
 -- A loader takes events, all or up to the end of a document.
-use Rattle.std.proofs.Common.{◌≡◌, List, [], ◌∷◌, ◌++◌, None, option_and_then, Ok, refl, sym, ap, subst, ◌∙◌, append_assoc, append-nil}
-use Rattle.std.proofs.lemmas.List.{map-append}
-use Rattle.saphyr_scalar.specs.declared.scalar.position.Span.{Span}
+use Rattle.std.proofs.Common.{◌≡◌, ◌<◌, List, [], ◌∷◌, ◌++◌, Bool, true, false, Some, None, option_and_then, ℕ, refl, sym, ap, subst, ◌∙◌, append_assoc, append-nil}
+use Rattle.saphyr_scalar.specs.declared.scalar.position.Marker.{Marker}
 use Rattle.saphyr_parser.specs.Types.Fault.{Fault}
 use Rattle.saphyr_parser.specs.Types.Fault.TheVariants as parse
 use Rattle.saphyr_parser.specs.Events.{Happening, DocumentEnd}
-use Rattle.saphyr_parser.specs.Answer.{Answer, empty_answer, with_first_event}
-use Rattle.saphyr_parser.specs.Cursor.{Refuses}
-use Rattle.saphyr_parser.specs.Nesting.{nest_before_stream, nest_behind_all, happenings, IsNested}
+use Rattle.saphyr_parser.specs.Answer.{Answer, OutOfMemory, Refused, empty_answer, fault_alone, with_first_event}
+use Rattle.saphyr_parser.specs.Cursor.{Refuses, count}
+use Rattle.saphyr_parser.specs.Nesting.{nest_behind_all, happenings}
 use Rattle.yaml_tree.specs.declared.fault.TreeFault.{TreeFault}
 use Rattle.yaml_tree.specs.declared.fault.TreeFault.TheVariants as fault
 use Rattle.yaml_tree.specs.declared.tally.Limits.{Limits}
-use Rattle.yaml_tree.specs.declared.loading.Loader.{Loader}
 use Rattle.yaml_tree.specs.Counting.{no_nodes, StayWithin}
-use Rattle.yaml_tree.specs.LoaderSeen.{HasTaken, Forbids}
-use Rattle.yaml_tree.specs.Loading.{Stops, RunsOut, FailsToLoad, TakesAll}
-use Rattle.yaml_tree.specs.DocumentLoading.{EndNoDocument}
-use Rattle.yaml_tree.specs.DocumentSeen.{TakesToEnd, TakesRest, StopsBehind, RunsOutBehind, FailsBehind}
-use Rattle.yaml_tree.proofs.Loads.{no_nest}
-use Rattle.yaml_tree.proofs.Nests.{nest_behind_all-append}
+use Rattle.yaml_tree.specs.LoaderSeen.{nest_behind_both}
+use Rattle.yaml_tree.specs.Loading.{Fails, FailsToParse, Forbids, GoOn, Stops, TakesRest, TakesToEnd}
+use Rattle.yaml_tree.specs.Tables.{Event}
+use Rattle.yaml_tree.proofs.DocumentEnds.{none_more}
+use Rattle.yaml_tree.proofs.LastItems.{nothing_before}
+use Rattle.yaml_tree.proofs.Taking.{happenings-append, nest_behind_both-append}
 
 -- ## Event after event
 
--- After the events `before` a loader has taken others, of which this holds.
-pub record ReadsOn (Hold : List Happening → Type 0) (limits : Limits) (before : List Happening)
-    (all left : Answer) (l : Loader) : Type 0 where
-  pub taken : List (Happening × Span)
+-- of an answer these events were taken, and this holds of them
+pub record ReadsOn (wanted : Bool) (Holds : List Event → Type 0) (all left : Answer) : Type 0 where
+  pub taken : List Event
   pub split : all.events ≡ taken ++ left.events
   pub fault : all.fault ≡ left.fault
-  pub inside : Hold (happenings taken)
-  pub loader : HasTaken limits (before ++ happenings taken) l
+  pub inside : GoOn wanted (happenings taken)
+  pub holds : Holds taken
 
-abbrev pub AnyEvents : List Happening → Type 0
-AnyEvents hs = Unit {0}
+goes_none : (wanted : Bool) → GoOn wanted []
+goes_none true = tt
+goes_none false = tt
 
--- it has taken events of any kind from the first one on
-abbrev pub HasRead : Limits → Answer → Answer → Loader → Type 0
-HasRead limits all left l = ReadsOn AnyEvents limits [] all left l
+goes_more : (wanted : Bool) (hs : List Happening) (h : Happening) → GoOn wanted hs
+    → (wanted ≡ false → h ≡ DocumentEnd → ⊥) → GoOn wanted (hs ++ h ∷ [])
+goes_more true hs h g n = tt
+goes_more false hs h g n = none_more hs h g (n refl)
 
-unfoldable pub reads_nothing : (Hold : List Happening → Type 0) (limits : Limits) (before : List Happening)
-    (all : Answer) (l : Loader) → Hold [] → HasTaken limits before l → ReadsOn Hold limits before all all l
-reads_nothing Hold limits before all l none h = record {
-  taken = [];
-  split = refl;
-  fault = refl;
-  inside = none;
-  loader = subst (λ (es : List Happening). HasTaken limits es l) (sym (append-nil before)) h;
-}
+pub reads_nothing : (wanted : Bool) (Holds : List Event → Type 0) (all : Answer) → Holds []
+    → ReadsOn wanted Holds all all
+reads_nothing wanted Holds all h =
+    record { taken = []; split = refl; fault = refl; inside = goes_none wanted; holds = h }
 
-pub given_push : (es : List (Happening × Span)) (e : Happening × Span)
-    → happenings (es ++ e ∷ []) ≡ happenings es ++ e.0 ∷ []
-given_push es e = map-append (λ (d : Happening × Span). d.0) es (e ∷ [])
+-- another event was handed out
+module _ (wanted : Bool) (Held : List Event → Type 0) (all a b : Answer) (e : Event) (r : ReadsOn wanted Held all a)
+    (next : a ≡ with_first_event e b) where
+  split_here : all.events ≡ r.taken ++ (e ∷ b.events)
+  split_here = r.split ∙ ap (λ (x : Answer). r.taken ++ x.events) next
 
-pub split_more : (all a b : Answer) (es : List (Happening × Span)) (e : Happening × Span) → all.events ≡ es ++ a.events
-    → a ≡ with_first_event e b → all.events ≡ es ++ (e ∷ b.events)
-split_more all a b es e s h = s ∙ ap (λ (x : Answer). es ++ x.events) h
+  split_behind : all.events ≡ (r.taken ++ e ∷ []) ++ b.events
+  split_behind = split_here ∙ sym (append_assoc r.taken (e ∷ []) b.events)
 
-pub given_more : (before : List Happening) (es : List (Happening × Span)) (e : Happening × Span)
-    → (before ++ happenings es) ++ e.0 ∷ [] ≡ before ++ happenings (es ++ e ∷ [])
-given_more before es e = append_assoc before (happenings es) (e.0 ∷ [])
-    ∙ ap (λ (hs : List Happening). before ++ hs) (sym (given_push es e))
+  fault_behind : all.fault ≡ b.fault
+  fault_behind = r.fault ∙ ap (λ (x : Answer). x.fault) next
 
--- the last event is taken too
-unfoldable pub reads_on : (Hold : List Happening → Type 0) (limits : Limits) (before : List Happening)
-    (all a b : Answer) (e : Happening × Span) (old new : Loader) (r : ReadsOn Hold limits before all a old)
-    → a ≡ with_first_event e b → Hold (happenings r.taken ++ e.0 ∷ [])
-    → HasTaken limits ((before ++ happenings r.taken) ++ e.0 ∷ []) new → ReadsOn Hold limits before all b new
-reads_on Hold limits before all a b e old new r h i t = record {
-  taken = r.taken ++ e ∷ [];
-  split = split_more all a b r.taken e r.split h ∙ sym (append_assoc r.taken (e ∷ []) b.events);
-  fault = r.fault ∙ ap (λ (x : Answer). x.fault) h;
-  inside = subst Hold (sym (given_push r.taken e)) i;
-  loader = subst (λ (es : List Happening). HasTaken limits es new) (given_more before r.taken e) t;
-}
+  pub reads_on : (Holds : List Event → Type 0) → (wanted ≡ false → e.0 ≡ DocumentEnd → ⊥)
+      → Holds (r.taken ++ e ∷ []) → ReadsOn wanted Holds all b
+  reads_on Holds go_on h = record {
+    taken = r.taken ++ e ∷ [];
+    split = split_behind;
+    fault = fault_behind;
+    inside = subst (GoOn wanted) (sym (happenings-append r.taken (e ∷ [])))
+        (goes_more wanted (happenings r.taken) e.0 r.inside go_on);
+    holds = h;
+  }
 
--- the last event is taken too, and ends the document
-pub reads_end : (limits : Limits) (before : List Happening) (all a b : Answer) (e : Happening × Span)
-    (old new : Loader) (r : ReadsOn EndNoDocument limits before all a old) → a ≡ with_first_event e b
-    → e.0 ≡ DocumentEnd → HasTaken limits ((before ++ happenings r.taken) ++ e.0 ∷ []) new
-    → TakesToEnd limits before all b new
-reads_end limits before all a b e old new r h n t = record {
-  taken = r.taken ++ e ∷ [];
-  inner = happenings r.taken;
-  split = split_more all a b r.taken e r.split h ∙ sym (append_assoc r.taken (e ∷ []) b.events);
-  fault = r.fault ∙ ap (λ (x : Answer). x.fault) h;
-  ended = given_push r.taken e ∙ ap (λ (x : Happening). happenings r.taken ++ x ∷ []) n;
-  inside = r.inside;
-  loader = subst (λ (es : List Happening). HasTaken limits es new) (given_more before r.taken e) t;
-}
+  -- it is taken too, and ends the document
+  pub reads_end : (Holds : List Event → Type 0) → (wanted ≡ false) × (e.0 ≡ DocumentEnd)
+      → Holds (r.taken ++ e ∷ []) → (wanted ≡ false) × TakesToEnd Holds all b
+  reads_end Holds last h = (
+    last.0,
+    record {
+      taken = r.taken ++ e ∷ [];
+      inner = r.taken;
+      last = e;
+      split = split_behind;
+      fault = fault_behind;
+      up_to = refl;
+      ends = last.1;
+      inside = subst (λ (w : Bool). GoOn w (happenings r.taken)) last.0 r.inside;
+      holds = h;
+    },
+  )
 
--- the last event can't be taken
-stops_behind : (Hold : List Happening → Type 0) (f : TreeFault) (limits : Limits) (before : List Happening)
-    (all a b : Answer) (e : Happening × Span) (old : Loader) (r : ReadsOn Hold limits before all a old)
-    → a ≡ with_first_event e b → Forbids f limits ((before ++ happenings r.taken) ++ e.0 ∷ []) e.1.start
-    → StopsBehind Hold f limits before all b
-stops_behind Hold f limits before all a b e old r h w = record {
-  taken = r.taken;
-  event = e;
-  split = split_more all a b r.taken e r.split h;
-  fault = r.fault ∙ ap (λ (x : Answer). x.fault) h;
-  inside = r.inside;
-  within = r.loader.within;
-  why = w;
-}
+  stops_behind : (f : TreeFault) (limits : Limits) → StayWithin limits (happenings r.taken) no_nodes
+      → Forbids ⊥ f limits (happenings (r.taken ++ e ∷ [])) e.1.start → Stops wanted f limits all b
+  stops_behind f limits within why = record {
+    taken = r.taken;
+    event = e;
+    split = split_here;
+    fault = fault_behind;
+    inside = r.inside;
+    within = within;
+    why = subst (λ (hs : List Happening). Forbids ⊥ f limits hs e.1.start) (happenings-append r.taken (e ∷ [])) why;
+  }
 
--- with others after they don't nest either
-nest_nowhere : (all a b : Answer) (before : List Happening) (es : List (Happening × Span)) (e : Happening × Span)
-    → all.events ≡ es ++ a.events → a ≡ with_first_event e b
-    → nest_behind_all ((before ++ happenings es) ++ e.0 ∷ []) nest_before_stream ≡ None
-    → nest_behind_all (before ++ happenings all.events) nest_before_stream ≡ None
-nest_nowhere all a b before es e s h none =
-    let front = (before ++ happenings es) ++ e.0 ∷ [] in
-    let own : happenings all.events ≡ happenings es ++ (e.0 ∷ happenings b.events) =
-    ap happenings (split_more all a b es e s h) ∙ map-append (λ (d : Happening × Span). d.0) es (e ∷ b.events) in
-    let split : before ++ happenings all.events ≡ front ++ happenings b.events =
-    ap (λ (hs : List Happening). before ++ hs) own
-    ∙ sym (append_assoc before (happenings es) (e.0 ∷ happenings b.events))
-    ∙ sym (append_assoc (before ++ happenings es) (e.0 ∷ []) (happenings b.events)) in
-    ap (λ (hs : List Happening). nest_behind_all hs nest_before_stream) split
-    ∙ nest_behind_all-append front (happenings b.events) nest_before_stream
-    ∙ ap (option_and_then (nest_behind_all (happenings b.events))) none
+  -- it can't be taken
+  pub fails_behind : (Ill Later : Type 0) (f : TreeFault) (limits : Limits) → (Ill → Later)
+      → StayWithin limits (happenings r.taken) no_nodes
+      → Forbids Ill f limits (happenings (r.taken ++ e ∷ [])) e.1.start → Fails wanted Later limits f all b
+  fails_behind Ill Later fault.NotFresh limits later within why = later why
+  fails_behind Ill Later (fault.Parse f) limits later within why = absurd why
+  fails_behind Ill Later fault.OutOfMemory limits later within why = stops_behind fault.OutOfMemory limits within why
+  fails_behind Ill Later (fault.TooManyNodes at most) limits later within why =
+      stops_behind (fault.TooManyNodes at most) limits within why
+  fails_behind Ill Later (fault.TooDeep at most) limits later within why =
+      stops_behind (fault.TooDeep at most) limits within why
 
-pub fails_behind : (Hold : List Happening → Type 0) (f : TreeFault) (limits : Limits) (before : List Happening)
-    (all a b : Answer) (e : Happening × Span) (old : Loader) (r : ReadsOn Hold limits before all a old)
-    → a ≡ with_first_event e b → Forbids f limits ((before ++ happenings r.taken) ++ e.0 ∷ []) e.1.start
-    → FailsBehind Hold limits before f all b
-fails_behind Hold (fault.Parse f) limits before all a b e old r h w = absurd w
-fails_behind Hold fault.NotFresh limits before all a b e old r h w =
-    nest_nowhere all a b before r.taken e r.split h w
-fails_behind Hold fault.OutOfMemory limits before all a b e old r h w =
-    stops_behind Hold fault.OutOfMemory limits before all a b e old r h w
-fails_behind Hold (fault.TooManyNodes at most) limits before all a b e old r h w =
-    stops_behind Hold (fault.TooManyNodes at most) limits before all a b e old r h w
-fails_behind Hold (fault.TooDeep at most) limits before all a b e old r h w =
-    stops_behind Hold (fault.TooDeep at most) limits before all a b e old r h w
+  -- where it doesn't nest, all don't
+  pub nests_nowhere : (before : List Happening) → nest_behind_both before (r.taken ++ e ∷ []) ≡ None
+      → nest_behind_both before all.events ≡ None
+  nests_nowhere before none = ap (nest_behind_both before) split_behind
+      ∙ nest_behind_both-append before (r.taken ++ e ∷ []) b.events
+      ∙ ap (option_and_then (nest_behind_all (happenings b.events))) none
 
 -- ## The last of the events
 
 -- where no event is left all were taken
-all_read : (all a : Answer) (es : List (Happening × Span)) → all.events ≡ es ++ a.events → a.events ≡ []
-    → happenings es ≡ happenings all.events
-all_read all a es split e =
-    ap happenings (sym (split ∙ ap (λ (l : List (Happening × Span)). es ++ l) e ∙ append-nil es))
+all_read : (all a : Answer) (es : List Event) → all.events ≡ es ++ a.events → a.events ≡ [] → es ≡ all.events
+all_read all a es split e = sym (split ∙ ap (λ (l : List Event). es ++ l) e ∙ append-nil es)
 
-pub refuses_behind : (Hold : List Happening → Type 0) (f : Fault) (limits : Limits) (before : List Happening)
-    (all a b : Answer) (l : Loader) → ReadsOn Hold limits before all a l → Refuses f a → b ≡ empty_answer
-    → FailsBehind Hold limits before (fault.Parse f) all b
-refuses_behind Hold (parse.Scan e) limits before all a b l r h k =
-    let same = all_read all a r.taken r.split (ap (λ (x : Answer). x.events) h) in (
+pub refuses_behind : (wanted : Bool) (Holds : List Event → Type 0) (f : Fault) (limits : Limits) (all a b : Answer)
+    (r : ReadsOn wanted Holds all a) → StayWithin limits (happenings r.taken) no_nodes → Refuses f a
+    → b ≡ empty_answer → FailsToParse wanted limits f all b
+refuses_behind wanted Holds (parse.Scan e) limits all a b r within h k =
+    let same = ap happenings (all_read all a r.taken r.split (ap (λ (x : Answer). x.events) h)) in (
       r.fault ∙ ap (λ (x : Answer). x.fault) h,
-      subst Hold same r.inside,
-      subst (λ (es : List Happening). StayWithin limits (before ++ es) no_nodes) same r.loader.within,
+      subst (GoOn wanted) same r.inside,
+      subst (λ (hs : List Happening). StayWithin limits hs no_nodes) same within,
       k,
     )
-refuses_behind Hold parse.OutOfMemory limits before all a b l r h k = (
+refuses_behind wanted Holds parse.OutOfMemory limits all a b r within h k = (
   record {
     taken = r.taken;
     lost = a;
@@ -161,135 +138,45 @@ refuses_behind Hold parse.OutOfMemory limits before all a b l r h k = (
     fault = r.fault;
     some_lost = h;
     inside = r.inside;
-    within = r.loader.within;
+    within = within;
   },
   k,
 )
-refuses_behind Hold parse.Receiver limits before all a b l r h k = h
-refuses_behind Hold parse.InsideDocument limits before all a b l r h k = h
+refuses_behind wanted Holds _ limits all a b r within h k = h
 
-pub reads_rest : (Hold : List Happening → Type 0) (limits : Limits) (before : List Happening) (all a b : Answer)
-    (l : Loader) → ReadsOn Hold limits before all a l → a ≡ empty_answer → b ≡ empty_answer
-    → TakesRest Hold limits before all b l
-reads_rest Hold limits before all a b l r h k =
-    let same = all_read all a r.taken r.split (ap (λ (x : Answer). x.events) h) in record {
-      inside = subst Hold same r.inside;
-      fault = r.fault ∙ ap (λ (x : Answer). x.fault) h;
-      nothing = k;
-      loader = subst (λ (es : List Happening). HasTaken limits (before ++ es) l) same r.loader;
-    }
-
--- ## After other events
-
--- events, and others after them
-pub record Parts (front : List (Happening × Span)) (all mid : Answer) : Type 0 where
-  pub split : all.events ≡ front ++ mid.events
-  pub fault : all.fault ≡ mid.fault
-
-pub all_parts : (all : Answer) → Parts [] all all
-all_parts all = record { split = refl; fault = refl }
-
-pub read_parts : (limits : Limits) (all left : Answer) (l : Loader) (r : HasRead limits all left l)
-    → Parts r.taken all left
-read_parts limits all left l r = record { split = r.split; fault = r.fault }
-
-given_all : (front : List (Happening × Span)) (all mid : Answer) → Parts front all mid
-    → happenings front ++ happenings mid.events ≡ happenings all.events
-given_all front all mid p =
-    sym (ap happenings p.split ∙ map-append (λ (d : Happening × Span). d.0) front mid.events)
-
-pub given_both : (es fs : List (Happening × Span)) → happenings es ++ happenings fs ≡ happenings (es ++ fs)
-given_both es fs = sym (map-append (λ (d : Happening × Span). d.0) es fs)
-
-pub split_both : (front : List (Happening × Span)) (all mid : Answer) (es fs : List (Happening × Span))
-    → Parts front all mid → mid.events ≡ es ++ fs → all.events ≡ (front ++ es) ++ fs
-split_both front all mid es fs p e =
-    p.split ∙ ap (λ (l : List (Happening × Span)). front ++ l) e ∙ sym (append_assoc front es fs)
-
-pub reads_document : (limits : Limits) (all mid left : Answer) (old new : Loader) (r : HasRead limits all mid old)
-    → TakesToEnd limits (happenings r.taken) mid left new → HasRead limits all left new
-reads_document limits all mid left old new r t = record {
-  taken = r.taken ++ t.taken;
-  split = split_both r.taken all mid t.taken left.events (read_parts limits all mid old r) t.split;
-  fault = r.fault ∙ t.fault;
-  inside = tt;
-  loader = subst (λ (es : List Happening). HasTaken limits es new) (given_both r.taken t.taken) t.loader;
+pub reads_rest : (wanted : Bool) (Holds : List Event → Type 0) (all a b : Answer) → ReadsOn wanted Holds all a
+    → a ≡ empty_answer → b ≡ empty_answer → TakesRest (λ es. GoOn wanted (happenings es) × Holds es) all b
+reads_rest wanted Holds all a b r h k = record {
+  fault = r.fault ∙ ap (λ (x : Answer). x.fault) h;
+  nothing = k;
+  holds = subst (λ (es : List Event). GoOn wanted (happenings es) × Holds es)
+      (all_read all a r.taken r.split (ap (λ (x : Answer). x.events) h)) (r.inside, r.holds);
 }
 
-pub reads_stream : (Hold : List Happening → Type 0) (limits : Limits) (front : List (Happening × Span))
-    (all mid left : Answer) (l : Loader) → Parts front all mid
-    → TakesRest Hold limits (happenings front) mid left l → TakesAll limits (Ok tt) all left l
-reads_stream Hold limits front all mid left l p t = (
-  subst (λ (es : List Happening). HasTaken limits es l) (given_all front all mid p) t.loader,
-  p.fault ∙ t.fault,
-  t.nothing,
+-- ## A look before
+
+memory_is_no_refusal : (mark : Marker) (info : List ℕ) → Some OutOfMemory ≡ Some (Refused mark info) → ⊥
+memory_is_no_refusal mark info e = cc
+
+-- where memory ran out before the first event nothing but that fault can be answered
+pub fails_lost : (wanted : Bool) (Ill Other : Type 0) (f : TreeFault) (limits : Limits) (all left : Answer)
+    → 0 < count all → (Ill → ⊥) → Fails wanted Ill limits f (fault_alone OutOfMemory) left
+    → Fails wanted Other limits f all left
+fails_lost wanted Ill Other (fault.Parse (parse.Scan e)) limits all left some nests h =
+    absurd (memory_is_no_refusal _ _ h.0)
+fails_lost wanted Ill Other (fault.Parse parse.OutOfMemory) limits all left some nests h = (
+  record {
+    taken = [];
+    lost = all;
+    split = refl;
+    fault = refl;
+    some_lost = some;
+    inside = goes_none wanted;
+    within = tt;
+  },
+  h.1,
 )
-
--- a call that has passed other events stops as its loader does, where it counts no less
-unfoldable pub stops_from : (Hold : List Happening → Type 0) (f : TreeFault) (limits : Limits)
-    (before : List Happening) (front : List (Happening × Span)) (all mid left : Answer) → Parts front all mid
-    → (s : StopsBehind Hold f limits before mid left)
-    → ((hs : List Happening) → StayWithin limits (before ++ hs) no_nodes
-    → StayWithin limits (happenings front ++ hs) no_nodes)
-    → ((hs : List Happening) → Forbids f limits (before ++ hs) s.event.1.start
-    → Forbids f limits (happenings front ++ hs) s.event.1.start)
-    → Stops f limits all left
-stops_from Hold f limits before front all mid left p s within why =
-    let own = happenings s.taken in
-    let last = s.event.0 ∷ [] in
-    record {
-      taken = front ++ s.taken;
-      event = s.event;
-      split = split_both front all mid s.taken (s.event ∷ left.events) p s.split;
-      fault = p.fault ∙ s.fault;
-      within = subst (λ (es : List Happening). StayWithin limits es no_nodes) (given_both front s.taken)
-          (within own s.within);
-      why = subst (λ (es : List Happening). Forbids f limits es s.event.1.start)
-          (sym (append_assoc (happenings front) own last)
-          ∙ ap (λ (es : List Happening). es ++ last) (given_both front s.taken))
-          (why (own ++ last) (subst (λ (es : List Happening). Forbids f limits es s.event.1.start)
-          (append_assoc before own last) s.why));
-    }
-
-unfoldable pub runs_out_from : (Hold : List Happening → Type 0) (limits : Limits) (before : List Happening)
-    (front : List (Happening × Span)) (all mid : Answer) → Parts front all mid
-    → (s : RunsOutBehind Hold limits before mid)
-    → ((hs : List Happening) → StayWithin limits (before ++ hs) no_nodes
-    → StayWithin limits (happenings front ++ hs) no_nodes) → RunsOut limits all
-runs_out_from Hold limits before front all mid p s within = record {
-  taken = front ++ s.taken;
-  lost = s.lost;
-  split = split_both front all mid s.taken s.lost.events p s.split;
-  fault = p.fault ∙ s.fault;
-  some_lost = s.some_lost;
-  within = subst (λ (es : List Happening). StayWithin limits es no_nodes) (given_both front s.taken)
-      (within (happenings s.taken) s.within);
-}
-
-stops_in_stream : (Hold : List Happening → Type 0) (f : TreeFault) (limits : Limits)
-    (front : List (Happening × Span)) (all mid left : Answer) → Parts front all mid
-    → StopsBehind Hold f limits (happenings front) mid left → Stops f limits all left
-stops_in_stream Hold f limits front all mid left p s =
-    stops_from Hold f limits (happenings front) front all mid left p s (λ hs w. w) (λ hs w. w)
-
-pub fails_in_stream : (Hold : List Happening → Type 0) (f : TreeFault) (limits : Limits)
-    (front : List (Happening × Span)) (all mid left : Answer) → Parts front all mid
-    → FailsBehind Hold limits (happenings front) f mid left → FailsToLoad limits f all left
-fails_in_stream Hold (fault.Parse (parse.Scan e)) limits front all mid left p h = (
-  p.fault ∙ h.0,
-  subst (λ (es : List Happening). StayWithin limits es no_nodes) (given_all front all mid p) h.2,
-  h.3,
-)
-fails_in_stream Hold (fault.Parse parse.OutOfMemory) limits front all mid left p h =
-    (runs_out_from Hold limits (happenings front) front all mid p h.0 (λ hs w. w), h.1)
-fails_in_stream Hold (fault.Parse parse.Receiver) limits front all mid left p h = h
-fails_in_stream Hold (fault.Parse parse.InsideDocument) limits front all mid left p h = h
-fails_in_stream Hold fault.NotFresh limits front all mid left p h = λ (w : IsNested all).
-    no_nest all.fault _ (ap (λ (hs : List Happening). nest_behind_all hs nest_before_stream)
-    (sym (given_all front all mid p)) ∙ h) w
-fails_in_stream Hold fault.OutOfMemory limits front all mid left p h =
-    stops_in_stream Hold fault.OutOfMemory limits front all mid left p h
-fails_in_stream Hold (fault.TooManyNodes at most) limits front all mid left p h =
-    stops_in_stream Hold (fault.TooManyNodes at most) limits front all mid left p h
-fails_in_stream Hold (fault.TooDeep at most) limits front all mid left p h =
-    stops_in_stream Hold (fault.TooDeep at most) limits front all mid left p h
+fails_lost wanted Ill Other (fault.Parse _) limits all left some nests h = absurd h
+fails_lost wanted Ill Other fault.NotFresh limits all left some nests h = absurd (nests h)
+fails_lost wanted Ill Other _ limits all left some nests h =
+    absurd (nothing_before h.taken left.events h.event h.split)

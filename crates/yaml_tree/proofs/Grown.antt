@@ -1,23 +1,19 @@
 -- Nodes as they begin and end, event after event.
-use Rattle.std.proofs.Common.{arith, ◌≡◌, ◌∙◌, refl, sym, ap, subst, inl, inr, ℕ, suc, ◌+◌, List, [], ◌∷◌, ◌++◌, Some, length, append_assoc, append-nil}
+use Rattle.std.proofs.Common.{arith, ◌≡◌, ◌∙◌, refl, sym, ap, subst, inl, inr, ℕ, suc, ◌+◌, List, [], ◌∷◌, ◌++◌, length, append_assoc, append-nil}
 use Rattle.std.proofs.lemmas.List.{length-append}
-use Rattle.saphyr_scalar.specs.declared.scalar.position.Marker.{Marker}
-use Rattle.saphyr_parser.specs.Events.{Happening, Alias, Scalar, SequenceStart, SequenceEnd, MappingStart, MappingEnd}
+use Rattle.saphyr_parser.specs.Events.{Happening, Alias, Scalar, SequenceEnd, MappingEnd}
 use Rattle.yaml_tree.specs.declared.growing.Level.{Level}
 use Rattle.yaml_tree.specs.declared.table.Content.{Content}
 use Rattle.yaml_tree.specs.declared.table.Content.TheVariants as content
 use Rattle.yaml_tree.specs.declared.table.Entry.{Entry}
 use Rattle.yaml_tree.specs.declared.table.Mark.{Mark}
 use Rattle.yaml_tree.specs.declared.table.Row.{Row}
-use Rattle.yaml_tree.specs.Tables.{AreEntriesFrom, AreNodes, Event, HasParts, IsEnd, IsEntryAt, IsLeafEvent, IsMadeOf, IsNode, IsNodeAt, IsStart, StandIn, Store, TellsNode, TellsFirst, all_of, beginning, nodes_begun, leaf, marker_of, none, numbers, one_more, whole}
+use Rattle.yaml_tree.specs.Tables.{AreEntriesFrom, AreNodes, Event, HasParts, IsEnd, IsEntryAt, IsLeafEvent, IsNode, IsNodeAt, StandIn, Store, TellsNode, TellsFirst, all_of, beginning, nodes_begun, leaf, marker_of, none, numbers, one_more, whole}
 use Rattle.yaml_tree.specs.GrowerSeen.{Holds, Inside, IsMore, IsOpen, closed}
+use Rattle.yaml_tree.proofs.Places.{begun-append, leaf_begins, start_begins}
 use Rattle.yaml_tree.proofs.Stores.{more_none, parts_closed, parts_more, stands_last, told_closed, told_more}
 
 -- ## Events
-
-pub begun-append : (xs ys : List Event) → nodes_begun (xs ++ ys) ≡ nodes_begun xs + nodes_begun ys
-begun-append [] ys = omega arith
-begun-append (x ∷ xs) ys = let e = begun-append xs ys in omega (arith, e)
 
 all_of-snoc : (ps : List (List Event)) (own : List Event) → all_of (ps ++ own ∷ []) ≡ all_of ps ++ own
 all_of-snoc [] own = append-nil own
@@ -37,27 +33,15 @@ numbers-snoc n (p ∷ ps) own =
     ap (λ (ms : List ℕ). n ∷ ms)
     (numbers-snoc (n + nodes_begun p) ps own ∙ ap (λ (m : ℕ). numbers (n + nodes_begun p) ps ++ m ∷ []) e)
 
-leaf_begins : (h : Happening) → IsLeafEvent h → beginning h ≡ 1
-leaf_begins (Alias id) l = refl
-leaf_begins (Scalar text style id tag) l = refl
-leaf_begins _ l = absurd l
-
-start_begins : (h : Happening) → IsStart h → beginning h ≡ 1
-start_begins (SequenceStart id tag) l = refl
-start_begins (MappingStart id tag) l = refl
-start_begins _ l = absurd l
-
 end_begins : (h : Happening) → IsEnd h → beginning h ≡ 0
 end_begins SequenceEnd l = refl
 end_begins MappingEnd l = refl
 end_begins _ l = absurd l
 
-begun_one : (e : Event) → nodes_begun (e ∷ []) ≡ beginning e.0
-begun_one e = omega arith
-
 -- ## More events, more in the store
 
-tells_more : (a b : Store) (n : ℕ) (e : Entry) (own : List Event) → IsMore a b → TellsNode a n e own → TellsNode b n e own
+tells_more : (a b : Store) (n : ℕ) (e : Entry) (own : List Event) → IsMore a b → TellsNode a n e own
+    → TellsNode b n e own
 tells_more a b n e own more t = record {
   first = t.first;
   parts = t.parts;
@@ -136,6 +120,13 @@ holds_store doc es a b (l ∷ ls) waiting entries more (x, around, before, e, ou
   holds_store doc around a b ls before outer more h,
 )
 
+pub holds_along : (doc es : List Event) (s t : Store) (ls : List Level) (vs ws : List ℕ) (xs ys : List Entry) → t ≡ s
+    → ws ≡ vs → ys ≡ xs → Holds doc es s ls vs xs → Holds doc es t ls ws ys
+holds_along doc es s t ls vs ws xs ys store waiting entries h =
+    subst (λ (k : Store). Holds doc es k ls ws ys) (sym store)
+    (subst (λ (ns : List ℕ). Holds doc es s ls ns ys) (sym waiting)
+    (subst (λ (ds : List Entry). Holds doc es s ls vs ds) (sym entries) h))
+
 -- ## A node more
 
 inside_count : (es base : List Event) (s : Store) (waiting before : List ℕ) (entries outer : List Entry)
@@ -146,13 +137,16 @@ inside_count es base s waiting before entries outer i =
     let e : length outer + length i.inner ≡ nodes_begun base + nodes_begun (all_of i.parts) = omega (arith, a, b) in e)
     ∙ sym (begun-append base (all_of i.parts)) ∙ ap nodes_begun (sym i.events)
 
+-- The node is the last part: its number is how many nodes have begun, which is the first part's number and how many
+-- nodes the parts begin. Its entries stand behind those of the parts.
 inside_adds : (es own base : List Event) (s : Store) (waiting before : List ℕ) (entries outer more : List Entry)
     → Inside es base s waiting before entries outer → IsNode own → length more ≡ nodes_begun own
     → AreEntriesFrom (es ++ own) s (nodes_begun es) more
     → Inside (es ++ own) base s (waiting ++ nodes_begun es ∷ []) before (entries ++ more) outer
 inside_adds es own base s waiting before entries outer more i node long told =
     let n = nodes_begun base in
-    let here : nodes_begun es ≡ n + nodes_begun (all_of i.parts) = ap nodes_begun i.events ∙ begun-append base (all_of i.parts) in
+    let here : nodes_begun es ≡ n + nodes_begun (all_of i.parts) =
+    ap nodes_begun i.events ∙ begun-append base (all_of i.parts) in
     let inner = i.count in
     record {
       parts = i.parts ++ own ∷ [];
@@ -167,7 +161,8 @@ inside_adds es own base s waiting before entries outer more i node long told =
       split = ap (λ (xs : List Entry). xs ++ more) i.split ∙ append_assoc outer i.inner more;
       first = i.first;
       count = length-append i.inner more
-          ∙ (let e : length i.inner + length more ≡ nodes_begun (all_of i.parts) + nodes_begun own = omega (arith, inner, long) in e)
+          ∙ (let e : length i.inner + length more ≡ nodes_begun (all_of i.parts) + nodes_begun own =
+          omega (arith, inner, long) in e)
           ∙ sym (begun-append (all_of i.parts) own) ∙ ap nodes_begun (sym (all_of-snoc i.parts own));
       told = entries_both (es ++ own) s n (nodes_begun es) i.inner more
           (entries_more es own s s n i.inner (more_none s) i.told) (omega (arith, here, inner)) told;
@@ -178,6 +173,16 @@ pub holds_count : (doc es : List Event) (s : Store) (ls : List Level) (waiting :
 holds_count doc es s [] waiting entries (outer, i, h) = inside_count es doc s waiting [] entries outer i
 holds_count doc es s (l ∷ ls) waiting entries (x, around, before, e, outer, i, o, n, w, h) =
     inside_count es (around ++ x ∷ []) s waiting before entries (outer ++ e ∷ []) i
+
+pub all_told : (doc es : List Event) (s : Store) (waiting : List ℕ) (entries : List Entry)
+    → Holds doc es s [] waiting entries → AreEntriesFrom es s 0 entries
+all_told doc es s waiting entries (outer, i, h) =
+    let first = i.first in
+    subst (λ (xs : List Entry). AreEntriesFrom es s 0 xs) (sym i.split)
+    (entries_both es s 0 (nodes_begun doc) outer i.inner
+    (subst (λ (ds : List Event). AreEntriesFrom ds s 0 outer) (sym i.events)
+    (entries_more doc (all_of i.parts) s s 0 outer (more_none s) h))
+    (omega (arith, first)) i.told)
 
 adds : (doc es own : List Event) (s : Store) (ls : List Level) (waiting : List ℕ) (entries more : List Entry)
     → Holds doc es s ls waiting entries → IsNode own → length more ≡ nodes_begun own
@@ -205,8 +210,8 @@ leaf_parts s (content.Sequence row number) h (id, tag, e, k) l = absurd (subst I
 leaf_parts s (content.Mapping row number) h (id, tag, e, k) l = absurd (subst IsLeafEvent e l)
 
 pub adds_leaf : (doc es : List Event) (x : Event) (s : Store) (ls : List Level) (waiting : List ℕ)
-    (entries : List Entry) (e : Entry) → Holds doc es s ls waiting entries → IsLeafEvent x.0 → TellsFirst s e.content x.0
-    → marker_of e.start ≡ x.1.start → marker_of e.end ≡ x.1.end
+    (entries : List Entry) (e : Entry) → Holds doc es s ls waiting entries → IsLeafEvent x.0
+    → TellsFirst s e.content x.0 → marker_of e.start ≡ x.1.start → marker_of e.end ≡ x.1.end
     → Holds doc (es ++ x ∷ []) s ls (waiting ++ nodes_begun es ∷ []) (entries ++ e ∷ [])
 adds_leaf doc es x s ls waiting entries e h l told start end =
     let one = leaf_begins x.0 l in
@@ -231,6 +236,7 @@ adds_leaf doc es x s ls waiting entries e h l told start end =
 
 -- ## A collection begins, and ends
 
+-- Its entry stands behind all others, at its number. Nothing is inside it yet, so it has no parts.
 pub begins : (doc es : List Event) (x : Event) (s : Store) (l : Level) (ls : List Level) (waiting : List ℕ)
     (entries : List Entry) (e : Entry) → l.number ≡ length entries → l.waiting ≡ length waiting → IsOpen s x e
     → Holds doc es s ls waiting entries → Holds doc (es ++ x ∷ []) s (l ∷ ls) waiting (entries ++ e ∷ [])
@@ -276,6 +282,9 @@ pub record Ended (doc es : List Event) (y : Event) (a b : Store) (end : Mark) (r
   pub holds : b.parts ≡ a.parts ++ own → row.first ≡ length a.parts → row.count ≡ length own
       → Holds doc (es ++ y ∷ []) b ls (before ++ l.number ∷ []) (outer ++ (closed row end entry ∷ inner))
 
+-- Its first event, the events of its parts and its last event are those of one node (`all`). This node is added to what
+-- is around: its entry, which is closed now, and behind that the entries of its parts, which tell the same of more
+-- events. The numbers of its parts are those that waited, from the number behind its own on.
 pub ends : (doc es : List Event) (y : Event) (a b : Store) (end : Mark) (row : Row) (l : Level) (ls : List Level)
     (waiting : List ℕ) (entries : List Entry) → IsEnd y.0 → marker_of end ≡ y.1.end → IsMore a b
     → Holds doc es a (l ∷ ls) waiting entries → Ended doc es y a b end row l ls waiting entries
@@ -340,8 +349,8 @@ ends doc es y a b end row l ls waiting entries is_end place more (x, around, bef
           (entries_more es (y ∷ []) a b (nodes_begun base) i.inner more i.told)) in
           subst (λ (m : ℕ). Holds doc (es ++ y ∷ []) b ls (before ++ m ∷ []) (outer ++ (done ∷ i.inner)))
           (sym number)
-          (subst (λ (ds : List Event). Holds doc ds b ls (before ++ nodes_begun around ∷ []) (outer ++ (done ∷ i.inner)))
-          (sym events)
+          (subst (λ (ds : List Event).
+          Holds doc ds b ls (before ++ nodes_begun around ∷ []) (outer ++ (done ∷ i.inner))) (sym events)
           (adds doc around all b ls before outer (done ∷ i.inner)
           (holds_store doc around a b ls before outer more h) node long (first_is, others)));
     }

@@ -1,9 +1,9 @@
 -- Which parser loading leaves: event after event was handed out.
-use Rattle.std.proofs.Common.{◌≡◌, ◌<◌, ◌++◌, List, [], ◌∷◌, Result, Ok, Err, Vec, Global, refl, sym, ap, subst, ◌∙◌, append-nil, length-append, arith, inr}
+use Rattle.std.proofs.Common.{◌≡◌, ◌<◌, ◌++◌, List, [], ◌∷◌, Bool, false, Result, Ok, Err, Vec, Global, refl, sym, ap, subst, ◌∙◌, append-nil, arith, inr}
 use Rattle.saphyr_scalar.specs.declared.scalar.position.Marker.{Marker}
 use Rattle.saphyr_scalar.specs.declared.scalar.position.Span.{Span}
 use Rattle.saphyr_parser.specs.Events.{Happening}
-use Rattle.saphyr_parser.specs.Answer.{Answer, empty_answer}
+use Rattle.saphyr_parser.specs.Answer.{Answer, empty_answer, with_first_event}
 use Rattle.saphyr_parser.specs.Cursor.{EventCursor, count, to_come}
 use Rattle.saphyr_parser.specs.Calls.{Advances, AdvancesOver, IsOver, Looks}
 use Rattle.yaml_tree.specs.declared.fault.TreeFault.{TreeFault}
@@ -13,7 +13,9 @@ use Rattle.yaml_tree.specs.declared.document.Document.{Document}
 use Rattle.yaml_tree.specs.declared.builder.Builder.{Builder}
 use Rattle.yaml_tree.specs.BuilderSeen.{Finishes}
 use Rattle.saphyr_parser.specs.Nesting.{IsAtStart}
-use Rattle.yaml_tree.specs.LoaderSeen.{Forbids}
+use Rattle.yaml_tree.specs.DocumentSeen.{LeavesPart}
+use Rattle.yaml_tree.specs.Loading.{Forbids}
+use Rattle.yaml_tree.specs.Tables.{Event}
 use Rattle.yaml_tree.specs.Leaving.{HasHandedOut, LeavesFrom, LeavesParser}
 
 -- What the parser's law `hands_out_what_comes` says of events that were handed out, and of the end.
@@ -45,11 +47,10 @@ leaves_all x a b c splits none h (over, same) =
     (subst (λ (l : List (Happening × Span)). AdvancesOver l a b) (sym all) h.over, over)
 
 -- an event was handed out and not taken
-pub leaves_at : (X : Type 0) (f : TreeFault) (limits : Limits) (events : List Happening) (place : Marker)
-    (a b : EventCursor) → Forbids f limits events place → HasHandedOut a b
-    → LeavesFrom {X = X} (Err f) a b
-leaves_at X (fault.Parse f) limits events place a b w h = absurd w
-leaves_at X _ limits events place a b w h = h
+pub leaves_at : (Ill : Type 0) (f : TreeFault) (limits : Limits) (hs : List Happening) (place : Marker)
+    (a b : EventCursor) → Forbids Ill f limits hs place → HasHandedOut a b → LeavesPart (Err f) a b
+leaves_at Ill (fault.Parse f) limits hs place a b w h = absurd w
+leaves_at Ill _ limits hs place a b w h = h
 
 pub leaves_looked : (X Y : Type 0) (f : TreeFault) (old looked new : EventCursor) → Looks old looked
     → IsAtStart (to_come looked) → LeavesFrom {X = X} (Err f) looked new → LeavesParser {X = Y} (Err f) old new
@@ -58,41 +59,13 @@ leaves_looked X Y _ old looked new l s h = record { looked = looked; looks = l; 
 
 -- all events were taken, and the documents are finished
 pub leaves_behind : (r : Result (Vec Document Global) TreeFault) (b : Builder) (old looked new : EventCursor)
-    → Looks old looked → IsAtStart (to_come looked) → LeavesFrom {X = Unit {0}} (Ok tt) looked new → Finishes r b
+    → Looks old looked → IsAtStart (to_come looked) → LeavesFrom {X = Bool} (Ok false) looked new → Finishes r b
     → LeavesParser r old new
 leaves_behind (Ok documents) b old looked new l s h f = record { looked = looked; looks = l; leaves = h }
 leaves_behind (Err fault.NotFresh) b old looked new l s h f =
     record { looked = looked; looks = l; leaves = inr (s, record { handed = (to_come looked).events; over = h.0 }) }
 leaves_behind (Err _) b old looked new l s h f = absurd f
 
--- ## Document after document
-
-pub hands_both : (a b c : EventCursor) → HasHandedOut a b → HasHandedOut b c → HasHandedOut a c
-hands_both a b c h k =
-    record { handed = h.handed ++ k.handed; over = over_both h.handed k.handed a b c h.over k.over }
-
-pub leaves_rest : {X Y : Type 0} (x : X) (y : Y) (a b c : EventCursor) → Splits → HasHandedOut a b
-    → LeavesFrom {X = X} (Ok x) b c → LeavesFrom {X = Y} (Ok y) a c
-leaves_rest x y a b c splits h (all, over) = (
-  subst (λ (l : List (Happening × Span)). AdvancesOver l a c) (sym (splits h.handed a b h.over).0)
-      (over_both h.handed (to_come b).events a b c h.over all),
-  over,
-)
-
-pub leaves_fault : (X Y : Type 0) (f : TreeFault) (a b c : EventCursor) → HasHandedOut a b
-    → LeavesFrom {X = X} (Err f) b c → LeavesFrom {X = Y} (Err f) a c
-leaves_fault X Y (fault.Parse f) a b c h (m, k, fails) = (m, hands_both a b m h k, fails)
-leaves_fault X Y _ a b c h k = hands_both a b c h k
-
-less_behind : (es : List (Happening × Span)) (e : Happening × Span) (a b : Answer)
-    → a.events ≡ (es ++ e ∷ []) ++ b.events → a.fault ≡ b.fault → count b < count a
-less_behind es e a b split same =
-    rw (split, same) (omega (arith, length-append (es ++ e ∷ []) b.events, length-append es (e ∷ [])))
-
 -- after an event less is left
-pub hands_less : (a b c : EventCursor) (e : Happening × Span) → Splits → HasHandedOut a b → Advances e b c
-    → count (to_come c) < count (to_come a)
-unfolding hands_more
-hands_less a b c e splits h next =
-    let more = hands_more a b c e h next in
-    let split = splits more.handed a c more.over in less_behind h.handed e (to_come a) (to_come c) split.0 split.1
+pub less_behind : (e : Event) (a b : Answer) → a ≡ with_first_event e b → count b < count a
+less_behind e a b same = rw same (omega arith)

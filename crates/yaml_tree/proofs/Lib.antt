@@ -23,6 +23,7 @@ pub mod Counts
 pub mod Leads
 pub mod Stores
 pub mod Grown
+pub mod Roots
 pub mod Growths
 pub mod Expands
 pub mod Entries

@@ -1,17 +1,17 @@
 -- What a call answers.
-use Rattle.std.proofs.Common.{◌≡◌, ℕ, ◌<◌, List, [], ◌∷◌, ◌++◌, Option, Some, None, Result, Ok, Err, Vec, Global, refl, subst, ◌∙◌, inl, inr}
-use Rattle.saphyr_scalar.specs.declared.scalar.position.Marker.{Marker}
-use Rattle.saphyr_parser.specs.Types.Fault.TheVariants as parse
-use Rattle.saphyr_parser.specs.Answer.{Ending, Refused, OutOfMemory, Answer, fault_alone}
+use Rattle.std.proofs.Common.{◌≡◌, ◌<◌, [], Bool, true, false, true≢false, refl, Option, Some, None, Result, Ok, Err, Vec, Global, subst, ◌∙◌, inl, inr}
+use Rattle.saphyr_parser.specs.Answer.{Ending, OutOfMemory, Answer, fault_alone}
 use Rattle.saphyr_parser.specs.Cursor.{count, Stays}
 use Rattle.yaml_tree.specs.declared.fault.TreeFault.{TreeFault}
 use Rattle.yaml_tree.specs.declared.fault.TreeFault.TheVariants as fault
 use Rattle.yaml_tree.specs.declared.tally.Limits.{Limits}
 use Rattle.yaml_tree.specs.declared.document.Document.{Document}
 use Rattle.yaml_tree.specs.declared.loading.Loader.{Loader}
-use Rattle.saphyr_parser.specs.Nesting.{Nest, nest_behind_stream, IsAtStart, IsWhole}
+use Rattle.saphyr_parser.specs.Nesting.{Nest, nest_behind_stream, IsAtStart, IsNested, IsWhole}
 use Rattle.yaml_tree.specs.BuilderSeen.{Finishes}
-use Rattle.yaml_tree.specs.Loading.{Stops, FailsToLoad, LoadsDocuments, TakesAll}
+use Rattle.yaml_tree.specs.LoaderSeen.{TakesEvents}
+use Rattle.yaml_tree.specs.Loading.{LoadsDocuments}
+use Rattle.yaml_tree.proofs.DocumentRead.{fails_lost}
 
 -- ## The documents
 
@@ -23,48 +23,45 @@ pub whole_is_complete : (f : Option Ending) (o : Option Nest) (n : Nest) → f �
 whole_is_complete f o n e g w =
     subst (λ (x : Option Nest). IsWhole None x) g (subst (λ (x : Option Ending). IsWhole x o) e w)
 
+-- where all events are wanted no document's end is the last
+pub takes_all : (limits : Limits) (ended : Bool) (all left : Answer) (l : Loader)
+    → TakesEvents true limits [] (Ok ended) all left l → ended ≡ false
+takes_all limits true all left l t = absurd (true≢false t.0)
+takes_all limits false all left l t = refl
+
 pub loads_all : (limits : Limits) (all left : Answer) (l : Loader) (r : Result (Vec Document Global) TreeFault)
-    → IsAtStart all → TakesAll limits (Ok tt) all left l → Finishes r l.builder → LoadsDocuments limits r all left
-loads_all limits all left l (Ok documents) b t f = (f.0 ∙ t.0.written, t.1, t.0.within, t.2)
+    → IsAtStart all → TakesEvents true limits [] (Ok false) all left l → Finishes r l.builder
+    → LoadsDocuments limits r all left
+loads_all limits all left l (Ok documents) b t f =
+    (f.0 ∙ t.holds.1.written, t.fault, t.holds.1.within, t.nothing)
 loads_all limits all left l (Err fault.NotFresh) b t f =
-    inr (b, λ w. f (whole_is_complete all.fault _ _ t.1 t.0.nested w))
+    inr (b, λ w. f (whole_is_complete all.fault _ _ t.fault t.holds.1.nested w))
 loads_all limits all left l (Err _) b t f = absurd f
 
-pub loads_none : (limits : Limits) (all left : Answer) (f : TreeFault) → IsAtStart all → FailsToLoad limits f all left
-    → LoadsDocuments limits (Err f) all left
-loads_none limits all left fault.NotFresh b h = inr (b, h)
-loads_none limits all left _ b h = h
+pub loads_none : (limits : Limits) (all left : Answer) (l : Loader) (f : TreeFault) → IsAtStart all
+    → TakesEvents true limits [] (Err f) all left l → LoadsDocuments limits (Err f) all left
+loads_none limits all left l fault.NotFresh b none = inr (b, λ w. no_nest all.fault _ none w)
+loads_none limits all left l _ b h = h
 
 -- ## Lack of memory before the first event
 
-pub nothing_before : {X : Type 0} (xs ys : List X) (y : X) → [] ≡ xs ++ (y ∷ ys) → ⊥
-nothing_before [] ys y e = cc
-nothing_before (x ∷ xs) ys y e = cc
-
-pub never_stops : (f : TreeFault) (limits : Limits) (left : Answer) → Stops f limits (fault_alone OutOfMemory) left → ⊥
-never_stops f limits left s = nothing_before s.taken left.events s.event s.split
+-- a look before loses nothing, or all
+pub behind_look : (Loads : Answer → Type 0) (all mid : Answer) → Stays all mid
+    → (0 < count all → Loads (fault_alone OutOfMemory) → Loads all) → Loads mid → Loads all
+behind_look Loads all mid (inl same) lost loads = subst Loads same loads
+behind_look Loads all mid (inr gone) lost loads = lost gone.0 (subst Loads gone.1 loads)
 
 pub some_fault : (f : Ending) → Some f ≡ None → ⊥
 some_fault f e = cc
 
-pub memory_is_no_refusal : (mark : Marker) (info : List ℕ) → Some OutOfMemory ≡ Some (Refused mark info) → ⊥
-memory_is_no_refusal mark info e = cc
-
--- then nothing but that fault can be answered
-runs_out : (limits : Limits) (all left : Answer) (r : Result (Vec Document Global) TreeFault) → 0 < count all
-    → LoadsDocuments limits r (fault_alone OutOfMemory) left → LoadsDocuments limits r all left
-runs_out limits all left (Ok documents) h l = absurd (some_fault _ l.1)
-runs_out limits all left (Err (fault.Parse (parse.Scan e))) h l = absurd (memory_is_no_refusal _ _ l.0)
-runs_out limits all left (Err (fault.Parse parse.OutOfMemory)) h l =
-    (record { taken = []; lost = all; split = refl; fault = refl; some_lost = h; within = tt }, l.1)
-runs_out limits all left (Err (fault.Parse parse.Receiver)) h l = l
-runs_out limits all left (Err (fault.Parse parse.InsideDocument)) h l = l
-runs_out limits all left (Err fault.NotFresh) h (inl late) = absurd (late.0 tt)
-runs_out limits all left (Err fault.NotFresh) h (inr ill) = absurd (ill.1 tt)
-runs_out limits all left (Err _) h l = absurd (never_stops _ _ _ l)
-
 pub loads_behind : (limits : Limits) (all mid left : Answer) (r : Result (Vec Document Global) TreeFault)
     → Stays all mid → LoadsDocuments limits r mid left → LoadsDocuments limits r all left
-loads_behind limits all mid left r (inl same) l = subst (λ (a : Answer). LoadsDocuments limits r a left) same l
-loads_behind limits all mid left r (inr lost) l = runs_out limits all left r lost.0
-    (subst (λ (a : Answer). LoadsDocuments limits r a left) lost.1 l)
+loads_behind limits all mid left r stays = behind_look (λ a. LoadsDocuments limits r a left) all mid stays (lost r)
+  where
+    lost : (s : Result (Vec Document Global) TreeFault) → 0 < count all
+        → LoadsDocuments limits s (fault_alone OutOfMemory) left → LoadsDocuments limits s all left
+    lost (Ok documents) some l = absurd (some_fault _ l.1)
+    lost (Err fault.NotFresh) some (inl late) = absurd (late.0 tt)
+    lost (Err fault.NotFresh) some (inr ill) = absurd (ill.1 tt)
+    lost (Err f) some l = fails_lost true (IsNested (fault_alone OutOfMemory) → ⊥) (IsNested all → ⊥) f limits all
+        left some (λ ill. ill tt) l

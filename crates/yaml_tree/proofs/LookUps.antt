@@ -14,7 +14,7 @@ use Rattle.yaml_tree.specs.Tables.{CountsParts, Event, FindsNumber, HasParts, Te
 use Rattle.yaml_tree.proofs.Entries.{entry_there, entry_told}
 use Rattle.yaml_tree.proofs.Places.{begins, begun-append, fronts_once, place_once}
 
-length-numbers : (n : ℕ) (parts : List (List Event)) → length (numbers n parts) ≡ length parts
+pub length-numbers : (n : ℕ) (parts : List (List Event)) → length (numbers n parts) ≡ length parts
 length-numbers n [] = refl
 length-numbers n (own ∷ others) = let e = length-numbers (n + nodes_begun own) others in omega (arith, e)
 
@@ -47,8 +47,8 @@ count_told s (content.Mapping row n) h number parts told has =
     ap (λ (n : ℕ). n / 2) (sym has.4 ∙ length-numbers (suc number) parts)
     ∙ sym (ap (λ (h : Happening). count_of h (length parts)) told.2)
 
-pub counts : (s : Store) (number : ℕ) (e : Entry) (x : Content) (own : List Event) → e.content ≡ x → TellsNode s number e own
-    → CountsParts own (count_in x)
+pub counts : (s : Store) (number : ℕ) (e : Entry) (x : Content) (own : List Event) → e.content ≡ x
+    → TellsNode s number e own → CountsParts own (count_in x)
 counts s number e x own is t = record {
   first = t.first;
   parts = t.parts;

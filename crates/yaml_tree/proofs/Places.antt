@@ -1,6 +1,6 @@
 -- A number is of one node, and a node has one list of parts: events show where a node ends.
-use Rattle.std.proofs.Common.{arith, ◌≡◌, ◌∙◌, refl, sym, ap, subst, ℕ, suc, ◌+◌, ◌<◌, List, [], ◌∷◌, ◌++◌, append_assoc, append-nil, inl, inr}
-use Rattle.saphyr_parser.specs.Events.{Happening, Alias, Scalar, SequenceStart, SequenceEnd, MappingStart, MappingEnd}
+use Rattle.std.proofs.Common.{arith, ◌≡◌, ◌∙◌, refl, sym, ap, subst, ℕ, ◌+◌, ◌<◌, List, [], ◌∷◌, ◌++◌, append_assoc, inl, inr}
+use Rattle.saphyr_parser.specs.Events.{Happening, Alias, Scalar, SequenceStart, MappingStart}
 use Rattle.yaml_tree.specs.Tables.{AreNodes, Event, IsEnd, IsLeafEvent, IsMadeOf, IsNode, IsNodeAt, IsStart, all_of, beginning, nodes_begun, leaf, none, one_more, whole}
 
 -- ## What an event does
@@ -20,7 +20,7 @@ no_start_ends (SequenceStart id tag) s e = absurd e
 no_start_ends (MappingStart id tag) s e = absurd e
 no_start_ends _ s e = absurd s
 
-leaf_begins : (h : Happening) → IsLeafEvent h → beginning h ≡ 1
+pub leaf_begins : (h : Happening) → IsLeafEvent h → beginning h ≡ 1
 leaf_begins (Alias id) l = refl
 leaf_begins (Scalar text style id tag) l = refl
 leaf_begins _ l = absurd l
@@ -48,6 +48,15 @@ pub begins : (own : List Event) → IsNode own → Begins own
 begins _ (leaf e l) = record { first = e; others = []; split = refl; one = leaf_begins e.0 l }
 begins _ (whole first parts last s nodes end) =
     record { first = first; others = all_of parts ++ last ∷ []; split = refl; one = start_begins first.0 s }
+
+no_node : IsNode [] → ⊥
+no_node n = elim n [ ]
+
+pub no_nodes_yet : (doc : List Event) (parts : List (List Event)) → AreNodes parts → [] ≡ doc ++ all_of parts → parts ≡ []
+no_nodes_yet doc [] nodes e = refl
+no_nodes_yet (x ∷ doc) (own ∷ others) nodes e = absurd (cc)
+no_nodes_yet [] ([] ∷ others) (one_more _ _ n m) e = absurd (no_node n)
+no_nodes_yet [] ((x ∷ own) ∷ others) nodes e = absurd (cc)
 
 -- ## Where a node ends
 
@@ -103,9 +112,11 @@ pub made_once : (own : List Event) (first f : Event) (parts qs : List (List Even
 made_once own first f parts qs last z (inl m) (inl n) =
     let same = same_head first f [] [] (sym m.1 ∙ n.1) in (same, m.2 ∙ sym n.2, m.3 ∙ same ∙ sym n.3)
 made_once own first f parts qs last z (inl m) (inr n) =
-    absurd (no_leaf_starts f.0 (subst (λ (x : Event). IsLeafEvent x.0) (same_head first f [] _ (sym m.1 ∙ n.1)) m.0) n.0)
+    let same = same_head first f [] _ (sym m.1 ∙ n.1) in
+    absurd (no_leaf_starts f.0 (subst (λ (x : Event). IsLeafEvent x.0) same m.0) n.0)
 made_once own first f parts qs last z (inr m) (inl n) =
-    absurd (no_leaf_starts first.0 (subst (λ (x : Event). IsLeafEvent x.0) (sym (same_head first f _ [] (sym m.1 ∙ n.1))) n.0) m.0)
+    let same = same_head first f _ [] (sym m.1 ∙ n.1) in
+    absurd (no_leaf_starts first.0 (subst (λ (x : Event). IsLeafEvent x.0) (sym same) n.0) m.0)
 made_once own first f parts qs last z (inr m) (inr n) =
     let same = sym m.1 ∙ n.1 in
     let inner = nodes_once parts qs (last ∷ []) (z ∷ []) last z [] [] m.2 n.2 m.3 n.3 refl refl
@@ -118,13 +129,15 @@ pub begun-append : (xs ys : List Event) → nodes_begun (xs ++ ys) ≡ nodes_beg
 begun-append [] ys = omega arith
 begun-append (x ∷ xs) ys = let e = begun-append xs ys in omega (arith, e)
 
-pub fronts_once : (f g xs ys : List Event) (x y : Event) → beginning x.0 ≡ 1 → beginning y.0 ≡ 1 → nodes_begun f ≡ nodes_begun g
-    → f ++ (x ∷ xs) ≡ g ++ (y ∷ ys) → x ∷ xs ≡ y ∷ ys
+pub fronts_once : (f g xs ys : List Event) (x y : Event) → beginning x.0 ≡ 1 → beginning y.0 ≡ 1
+    → nodes_begun f ≡ nodes_begun g → f ++ (x ∷ xs) ≡ g ++ (y ∷ ys) → x ∷ xs ≡ y ∷ ys
 fronts_once [] [] xs ys x y one other count same = same
 fronts_once [] (e ∷ g) xs ys x y one other count same =
-    let is = ap (λ (h : Event). beginning h.0) (same_head x e xs (g ++ (y ∷ ys)) same) in absurd (omega (arith, one, is, count))
+    let is = ap (λ (h : Event). beginning h.0) (same_head x e xs (g ++ (y ∷ ys)) same) in
+    absurd (omega (arith, one, is, count))
 fronts_once (e ∷ f) [] xs ys x y one other count same =
-    let is = ap (λ (h : Event). beginning h.0) (same_head e y (f ++ (x ∷ xs)) ys same) in absurd (omega (arith, other, is, count))
+    let is = ap (λ (h : Event). beginning h.0) (same_head e y (f ++ (x ∷ xs)) ys same) in
+    absurd (omega (arith, other, is, count))
 fronts_once (e ∷ f) (h ∷ g) xs ys x y one other count same =
     let is = ap (λ (h : Event). beginning h.0) (same_head e h (f ++ (x ∷ xs)) (g ++ (y ∷ ys)) same) in
     fronts_once f g xs ys x y one other (omega (arith, is, count)) (same_tail e h (f ++ (x ∷ xs)) (g ++ (y ∷ ys)) same)
@@ -141,7 +154,8 @@ place_once es number a b p q =
     let same = fronts_once p.front q.front (one.others ++ p.behind) (other.others ++ q.behind) one.first other.first
     one.one other.one (p.first ∙ sym q.first) (long one ∙ sym (long2 other)) in
     (node_once a b p.behind q.behind p.node q.node
-    (ap (λ (l : List Event). l ++ p.behind) one.split ∙ same ∙ ap (λ (l : List Event). l ++ q.behind) (sym other.split))).0
+    (ap (λ (l : List Event). l ++ p.behind) one.split ∙ same
+    ∙ ap (λ (l : List Event). l ++ q.behind) (sym other.split))).0
 
 pub within : (es : List Event) (number : ℕ) (own : List Event) → IsNodeAt es number own → number < nodes_begun es
 within es number own at =

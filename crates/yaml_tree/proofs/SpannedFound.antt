@@ -1,8 +1,8 @@
 -- The next document and its spans, and what a call answers.
-use Rattle.std.proofs.Common.{◌≡◌, ◌∙◌, List, [], ◌∷◌, ◌++◌, map, Option, Some, None, Bool, Result, Ok, Err, refl, sym, ap, subst, inl, inr}
+use Rattle.std.proofs.Common.{◌≡◌, ◌∙◌, List, [], ◌∷◌, ◌++◌, map, Option, Some, None, Bool, false, Result, Ok, Err, refl, sym, ap, subst}
 use Rattle.std.proofs.lemmas.List.{append_cancel_right}
 use Rattle.saphyr_scalar.specs.declared.scalar.position.Span.{Span}
-use Rattle.saphyr_parser.specs.Answer.{Answer}
+use Rattle.saphyr_parser.specs.Answer.{Answer, OutOfMemory, fault_alone}
 use Rattle.saphyr_parser.specs.Cursor.{Stays}
 use Rattle.saphyr_parser.specs.Events.{Happening, StreamStart}
 use Rattle.saphyr_parser.specs.Nesting.{happenings}
@@ -13,11 +13,13 @@ use Rattle.yaml_tree.specs.declared.spans.DocumentSpans.{DocumentSpans}
 use Rattle.yaml_tree.specs.declared.spans.SpanKeeper.{SpanKeeper}
 use Rattle.yaml_tree.specs.declared.spanned_loading.SpannedLoader.{SpannedLoader}
 use Rattle.yaml_tree.specs.DocumentLoading.{AtMost}
-use Rattle.yaml_tree.specs.DocumentSeen.{GoesOnBehind, TakesPart, HoldsLast}
+use Rattle.yaml_tree.specs.DocumentSeen.{GoesOnBehind, HoldsLast}
+use Rattle.yaml_tree.specs.LoaderSeen.{TakesEvents}
 use Rattle.yaml_tree.specs.KeeperSeen.{HandsOutLast, HasKeptNone, HasSpans, KeepsTaken, ReturnsLast, document_of, kept_spans}
 use Rattle.yaml_tree.specs.Unloading.{document_events}
 use Rattle.yaml_tree.specs.Spanning.{IsSpannedDocument, all_spans, kept_behind_all}
 use Rattle.yaml_tree.proofs.DocumentFound.{loads_last, no_events_of}
+use Rattle.yaml_tree.proofs.Loads.{behind_look}
 use Rattle.yaml_tree.proofs.Spanned.{keeps_next}
 
 one_mapped : {X Y : Type 0} (f : X → Y) (xs : List X) (y : Y) → map f xs ≡ y ∷ []
@@ -36,13 +38,14 @@ pub record IsPaired (held : Result (Option Document) TreeFault) (r : Result (Opt
   pub spans : HasSpans r all left
 
 paired : (d : Document) (s : DocumentSpans) (r : Result (Option Pair) TreeFault) (all left : Answer)
-    → r ≡ Ok (Some (d, s)) → IsSpannedDocument d (all_spans s) all.events left.events → IsPaired (Ok (Some d)) r all left
+    → r ≡ Ok (Some (d, s)) → IsSpannedDocument d (all_spans s) all.events left.events
+    → IsPaired (Ok (Some d)) r all left
 paired d s r all left is spanned =
     record { same = ap document_of is; spans = subst (λ x. HasSpans x all left) (sym is) spanned }
 
 module _ (limits : Limits) (before : List Happening) (b : Bool) (all left : Answer) (first : SpanKeeper)
     (l : SpannedLoader) (r : Result (Option Pair) TreeFault) (at : AtMost StreamStart before)
-    (on : GoesOnBehind before all) (t : TakesPart limits before (Ok b) all left l.loader)
+    (on : GoesOnBehind before all) (t : TakesEvents false limits before (Ok b) all left l.loader)
     (k : KeepsTaken all left first l.keeper) (none : HasKeptNone first) where
   pairs_with : (held : Result (Option Document) TreeFault) → HoldsLast held l.loader.builder
       → ReturnsLast held l.keeper.ended.items r → IsPaired held r all left
@@ -62,7 +65,7 @@ module _ (limits : Limits) (before : List Happening) (b : Bool) (all left : Answ
 
 pub pairs : (limits : Limits) (before : List Happening) (b : Bool) (all left : Answer) (first : SpanKeeper)
     (l : SpannedLoader) (r : Result (Option Pair) TreeFault) → AtMost StreamStart before → GoesOnBehind before all
-    → TakesPart limits before (Ok b) all left l.loader → KeepsTaken all left first l.keeper → HasKeptNone first
+    → TakesEvents false limits before (Ok b) all left l.loader → KeepsTaken all left first l.keeper → HasKeptNone first
     → (h : HandsOutLast r l) → IsPaired h.0 r all left
 pairs limits before b all left first l r at on t k none h =
     pairs_with limits before b all left first l r at on t k none h.0 h.1 h.2
@@ -77,14 +80,12 @@ nothing_passed d (x ∷ front) own left e given = absurd (cc)
 no_spans : (d : Document) (spans : List Span) (left : List (Happening × Span)) → IsSpannedDocument d spans [] left → ⊥
 no_spans d spans left h = nothing_passed d h.front h.own left h.split h.events
 
-spans_behind_look : (all mid left : Answer) (r : Result (Option Pair) TreeFault) → Stays all mid → HasSpans r mid left
+spans_lost : (all left : Answer) (r : Result (Option Pair) TreeFault) → HasSpans r (fault_alone OutOfMemory) left
     → HasSpans r all left
-spans_behind_look all mid left r (inl same) h = subst (λ (a : Answer). HasSpans r a left) same h
-spans_behind_look all mid left (Ok (Some d)) (inr lost) h = absurd (no_spans d.0 (all_spans d.1) left.events
-    (subst (λ (a : Answer). HasSpans (Ok (Some d)) a left) lost.1 h))
-spans_behind_look all mid left (Ok None) (inr lost) h = tt
-spans_behind_look all mid left (Err f) (inr lost) h = tt
+spans_lost all left (Ok (Some d)) h = absurd (no_spans d.0 (all_spans d.1) left.events h)
+spans_lost all left _ h = tt
 
 pub spans_found : (before : List Happening) (all mid left : Answer) (r : Result (Option Pair) TreeFault)
     → Stays all mid × GoesOnBehind before mid → (GoesOnBehind before mid → HasSpans r mid left) → HasSpans r all left
-spans_found before all mid left r (stays, on) spans = spans_behind_look all mid left r stays (spans on)
+spans_found before all mid left r (stays, on) spans =
+    behind_look (λ a. HasSpans r a left) all mid stays (λ some h. spans_lost all left r h) (spans on)

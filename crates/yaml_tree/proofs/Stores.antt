@@ -2,7 +2,7 @@
 use Rattle.std.proofs.Common.{arith, ◌≡◌, ◌∙◌, refl, sym, ap, subst, ℕ, zero, suc, ◌+◌, List, [], ◌∷◌, ◌++◌, Option, Some, None, Result, Ok, Err, OnOk, IfOk, length, append_assoc, append-nil}
 use Rattle.std.proofs.lemmas.List.{length-append}
 use Rattle.std.specs.List.{slice_get}
-use Rattle.saphyr_parser.specs.Events.{Happening, ResolvedTag, Alias, Scalar, SequenceStart, MappingStart}
+use Rattle.saphyr_parser.specs.Events.{Happening, Alias, Scalar}
 use Rattle.yaml_tree.specs.declared.table.Content.{Content}
 use Rattle.yaml_tree.specs.declared.table.Content.TheVariants as content
 use Rattle.yaml_tree.specs.declared.table.NodeTable.{NodeTable}
@@ -11,6 +11,7 @@ use Rattle.yaml_tree.specs.declared.table.Row.{Row}
 use Rattle.yaml_tree.specs.declared.table.TagRows.{TagRows}
 use Rattle.yaml_tree.specs.Tables.{HasParts, IsStart, HasTagRows, MaybeTag, StandIn, Store, StoresProperties, TellsFirst, store_of}
 use Rattle.yaml_tree.specs.GrowerSeen.{IsMore, KeepsNodes, Stores, StoresText, StoresTexts, with_row}
+use Rattle.yaml_tree.proofs.LastItems.{get_seam}
 
 pub more_none : (s : Store) → IsMore s s
 more_none s = record {
@@ -69,7 +70,8 @@ properties_more a b (suc n) id tag more (p, is, anchor, t) = (
   subst (λ (ts : List ℕ). HasTagRows ts p.tag tag) (sym more.texts) (tag_more a.texts more.more_texts p.tag tag t),
 )
 
-pub texts_more : (a b : Store) (text : List ℕ) (row : Row) → IsMore a b → StandIn text row a.texts → StandIn text row b.texts
+pub texts_more : (a b : Store) (text : List ℕ) (row : Row) → IsMore a b → StandIn text row a.texts
+    → StandIn text row b.texts
 texts_more a b text row more h =
     subst (StandIn text row) (sym more.texts) (stands_more text row a.texts more.more_texts h)
 
@@ -132,9 +134,10 @@ stores_both a b c m n = record {
   more = more_both (store_of a) (store_of b) (store_of c) m.more n.more;
 }
 
-get_seam : {X : Type 0} (xs : List X) (y : X) → slice_get (xs ++ y ∷ []) (length xs) ≡ Some y
-get_seam [] y = refl
-get_seam (x ∷ xs) y = get_seam xs y
+-- what holds where a call succeeds leads to something else
+pub ok_map : {T E A B : Type 0} (result : Result T E) → OnOk result A → (A → B) → OnOk result B
+ok_map (Ok u) a f = f a
+ok_map (Err e) a f = tt
 
 -- the texts of a tag are stored, and then the properties
 pub record Keeping (old texts noted new : NodeTable) (p : Properties) (tag : MaybeTag) : Type 0 where
@@ -174,7 +177,7 @@ kept_properties old texts noted new p tag number k is =
     subst (λ (n : ℕ). StoresProperties (store_of new) n p.anchor tag) next (
       p,
       ap (λ (ps : List Properties). slice_get ps (length noted.properties.items)) k.properties
-          ∙ get_seam noted.properties.items p,
+          ∙ get_seam noted.properties.items p [],
       refl,
       subst (λ (ts : List ℕ). HasTagRows ts p.tag tag) (sym own) k.tells,
     )

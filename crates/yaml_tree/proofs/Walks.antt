@@ -8,6 +8,7 @@ use Rattle.saphyr_scalar.specs.declared.scalar.style.ScalarStyle.{ScalarStyle}
 use Rattle.saphyr_parser.specs.Types.Tag.{Tag}
 use Rattle.saphyr_parser.specs.Events as events
 use Rattle.saphyr_parser.specs.Events.{Happening, SequenceStart, SequenceEnd, MappingStart, MappingEnd}
+use Rattle.saphyr_parser.specs.Nesting.{happenings}
 use Rattle.saphyr_parser.specs.Views.Events.{resolved_tag}
 use Rattle.std.specs.Prelude.{string_bytes}
 use Rattle.yaml_tree.specs.declared.node.Node.{Node, Alias, Scalar, Seq, Map, the_lemmas}
@@ -20,6 +21,7 @@ use Rattle.yaml_tree.specs.declared.walk.Walk.{Walk}
 use Rattle.yaml_tree.specs.Unloading.{node_events, pair_events}
 use Rattle.yaml_tree.specs.Walking.{IsCollectionEnd, AreCollectionEnds, BeginsNode, root_events, rest_events, frames_events, to_visit, left_to_visit, openings, Turns, Enters, Visits, IsWalkOf, path_of}
 use Rattle.yaml_tree.specs.Following.{LeadsTo}
+use Rattle.yaml_tree.proofs.Taking.{happenings-append}
 use Rattle.yaml_tree.proofs.Unloads.{node_events-Seq, node_events-Map}
 use Rattle.yaml_tree.proofs.Balance.{ends_frames}
 
@@ -203,6 +205,7 @@ ends_joined (x ∷ xs) ys h k = (h.0, ends_joined xs ys h.1 k)
 pub record HasPassed (old new : Walk) : Type 0 where
   pub passed : List (Happening × Span)
   pub ends : AreCollectionEnds passed
+  pub told : to_visit old ≡ happenings passed ++ to_visit new
   pub split : left_to_visit old ≡ passed ++ left_to_visit new
   pub within : (root : Node) → IsWalkOf root old → IsWalkOf root new
 
@@ -215,6 +218,9 @@ passes_end old s t span others p (h, end, e) within es et =
     record {
       passed = p.passed ++ (h, span) ∷ [];
       ends = ends_joined p.passed ((h, span) ∷ []) p.ends (end, tt);
+      told = p.told ∙ ap (λ (hs : List Happening). happenings p.passed ++ hs) e
+          ∙ sym (append_assoc (happenings p.passed) (h ∷ []) (to_visit t))
+          ∙ ap (λ (hs : List Happening). hs ++ to_visit t) (sym (happenings-append p.passed ((h, span) ∷ [])));
       split = p.split ∙ ap (λ (l : List (Happening × Span)). p.passed ++ l) step
           ∙ sym (append_assoc p.passed ((h, span) ∷ []) (left_to_visit t));
       within = λ root of. within root (p.within root of);
@@ -228,6 +234,7 @@ visits_node old s t visit others p b leads es et = (
   p.passed,
   to_visit s,
   p.ends,
+  p.told,
   b,
   p.split ∙ ap (λ (l : List Span). p.passed ++ zip (to_visit s) l)
       (es ∙ ap (λ (o : List Span). visit.span ∷ o) (sym et)),

@@ -1,8 +1,7 @@
 -- What loading the next document answers, and what it leaves (YAML 1.2.2, 3.1.2).
-use Rattle.std.specs.Prelude.{◌≡◌, ◌⊎◌, ◌<◌, List, [], ◌∷◌, ◌++◌, Option, Some, None, Result, Ok, Err}
+use Rattle.std.specs.Prelude.{◌≡◌, ◌⊎◌, ◌<◌, false, List, [], ◌∷◌, ◌++◌, Option, Some, None, Result, Ok, Err}
 use Rattle.saphyr_scalar.specs.declared.scalar.position.Span.{Span}
-use Rattle.saphyr_parser.specs.Types.Fault.TheVariants as parse
-use Rattle.saphyr_parser.specs.Events.{Happening, StreamStart, StreamEnd, DocumentStart, DocumentEnd}
+use Rattle.saphyr_parser.specs.Events.{Happening, StreamStart, StreamEnd, DocumentStart}
 use Rattle.saphyr_parser.specs.Answer.{Answer, Ending, empty_answer}
 use Rattle.saphyr_parser.specs.Cursor.{EventCursor, count, to_come}
 use Rattle.saphyr_parser.specs.Calls.{AdvancesOver, IsOver, Looks}
@@ -13,7 +12,7 @@ use Rattle.yaml_tree.specs.declared.tally.Limits.{Limits}
 use Rattle.yaml_tree.specs.declared.document.Document.{Document}
 use Rattle.yaml_tree.specs.Unloading.{document_events}
 use Rattle.yaml_tree.specs.Counting.{no_nodes, StayWithin}
-use Rattle.yaml_tree.specs.Loading.{Stops, RunsOut, FailsToLoad}
+use Rattle.yaml_tree.specs.Loading.{Fails}
 use Rattle.yaml_tree.specs.Leaving.{HasHandedOut, LeavesFrom}
 
 -- ## Where a document may come next
@@ -49,11 +48,6 @@ NestOn hs fault = IsWhole fault (nest_behind_all (with_stream_start hs) nest_bef
 abbrev pub AtMost : Happening → List Happening → Type 0
 AtMost h hs = (hs ≡ []) ⊎ (hs ≡ h ∷ [])
 
--- none of these events ends a document
-abbrev pub EndNoDocument : List Happening → Type 0
-EndNoDocument [] = Unit {0}
-EndNoDocument (h ∷ hs) = (h ≡ DocumentEnd → ⊥) × EndNoDocument hs
-
 -- The document's events were passed, and the stream's start where that came first. All others are left.
 pub record PassesDocument (limits : Limits) (document : Document) (all left : Answer) : Type 0 where
   pub start : List Happening
@@ -76,14 +70,7 @@ pub record PassesNoDocument (all left : Answer) : Type 0 where
 
 -- A fault, before which no document ended, and what it leaves. No text's events fail to nest.
 abbrev pub FailsInDocument : Limits → TreeFault → Answer → Answer → Type 0
-FailsInDocument limits (fault.Parse (parse.Scan e)) all left =
-    FailsToLoad limits (fault.Parse (parse.Scan e)) all left × EndNoDocument (happenings all.events)
-FailsInDocument limits (fault.Parse parse.OutOfMemory) all left =
-    ((lost : RunsOut limits all) × EndNoDocument (happenings lost.taken)) × (left ≡ empty_answer)
-FailsInDocument limits (fault.Parse parse.Receiver) all left = ⊥
-FailsInDocument limits (fault.Parse parse.InsideDocument) all left = ⊥
-FailsInDocument limits fault.NotFresh all left = NestOn (happenings all.events) all.fault → ⊥
-FailsInDocument limits f all left = (stop : Stops f limits all left) × EndNoDocument (happenings stop.taken)
+FailsInDocument limits f all left = Fails false (NestOn (happenings all.events) all.fault → ⊥) limits f all left
 
 -- What a call answers, and what it leaves of all that was still to come. The limits are on this document alone.
 abbrev pub LoadsDocument : Limits → Result (Option Document) TreeFault → Answer → Answer → Type 0

@@ -182,7 +182,8 @@ abbrev pub documents_ended : List Event → ℕ
 documents_ended [] = 0
 documents_ended (e ∷ es) = documents_ended_by e.0 + documents_ended es
 
--- the document's nodes, once it is expanded (`nodes_once_expanded`)
+-- The document's nodes, once it is expanded (`nodes_once_expanded`). Events of a parser are those of such a root: they
+-- nest, which the law `nests_events` says, so starts and ends are of one kind and each key has a value.
 abbrev pub IsExpanded : List Event → ℕ → Type 0
 IsExpanded own nodes =
     (root : Node) → node_events root ≡ happenings own → nodes ≡ min most (expanded root no_sizes).nodes

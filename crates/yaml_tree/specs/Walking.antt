@@ -5,6 +5,7 @@ use Rattle.std.specs.Borrow.{Bor}
 use Rattle.std.specs.declared.alloc.AllocError.{AllocError}
 use Rattle.saphyr_scalar.specs.declared.scalar.position.Span.{Span}
 use Rattle.saphyr_parser.specs.Events.{Happening, SequenceStart, SequenceEnd, MappingStart, MappingEnd}
+use Rattle.saphyr_parser.specs.Nesting.{happenings}
 use Rattle.yaml_tree.specs.declared.node.Node.{Node}
 use Rattle.yaml_tree.specs.declared.paths.Step.{Step}
 use Rattle.yaml_tree.specs.declared.paths.Step.TheVariants as steps
@@ -163,13 +164,13 @@ Enters (Enter entered depth) node old new around =
 Enters _ node old new around = ⊥
 
 -- A visit of the next node: only ends of collections are passed before its event, whose span it has, and the path leads
--- to it. Where no visit comes, no node is left. Then, and after lack of memory, no span is left, so that nothing more
--- comes.
+-- to it. Where no visit comes, no node with a span is left. Then, and after lack of memory, no span is left, so that
+-- nothing more comes.
 abbrev pub Visits : Walk → Option (Result Visit AllocError) → Walk → Type 0
 Visits old None new = AreCollectionEnds (left_to_visit old) × (new.spans.now ≡ [])
 Visits old (Some (Err e)) new = new.spans.now ≡ []
 Visits old (Some (Ok visit)) new =
     (passed : List (Happening × Span)) × (events : List Happening) × AreCollectionEnds passed
-    × BeginsNode visit.node.now visit.depth events (to_visit new)
+    × (to_visit old ≡ happenings passed ++ events) × BeginsNode visit.node.now visit.depth events (to_visit new)
     × (left_to_visit old ≡ passed ++ zip events (visit.span ∷ new.spans.now))
     × ((root : Node) → IsWalkOf root old → IsWalkOf root new × LeadsTo (path_of new) root visit.node.now events)

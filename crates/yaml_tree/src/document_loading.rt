@@ -1,5 +1,5 @@
 //! The next document of a parser (YAML 1.2.2, 3.1.2).
-ghost use Rattle.std.specs.Prelude.{List};
+ghost use Rattle.std.specs.Prelude.{List, []};
 ghost use Rattle.saphyr_parser.specs.Events.{Happening, StreamStart};
 ghost use Rattle.saphyr_parser.specs.Cursor.{to_come};
 ghost use Rattle.saphyr_parser.specs.Calls.{Looks};
@@ -66,14 +66,14 @@ fn next_document<'input, T: Input>(
     mut loader: Loader,
     parser: &mut Parser<'input, T>,
 ) -> Result<Option<Document>, TreeFault>
-    ensures loads { (limits : Limits) (before : List Happening) → HasTaken limits before loader
+    ensures loads { (limits : Limits) (before : List Happening) → HasTaken limits before [] loader
         → AtMost StreamStart before → GoesOnBehind before (to_come parser.old)
         → LoadsDocument limits result (to_come parser.old) (to_come parser.new) }
-    ensures leaves { (limits : Limits) (before : List Happening) → HasTaken limits before loader
+    ensures leaves { (limits : Limits) (before : List Happening) → HasTaken limits before [] loader
         → AtMost StreamStart before → GoesOnBehind before (to_come parser.old)
         → LeavesBehindLook result parser.old parser.new }
 {
-    match loader.take_document(parser) {
+    match loader.take_events(parser, false) {
         Ok(_) => loader.builder.last_document(),
         Err(fault) => {
             drop(loader);

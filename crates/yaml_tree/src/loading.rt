@@ -1,19 +1,20 @@
 //! Documents from the events of a parser (YAML 1.2.2, 3.1.2).
-ghost use Rattle.std.specs.Prelude.{◌≡◌, ◌↔◌, List, [], ◌∷◌, ◌++◌, IsTrue};
+ghost use Rattle.std.specs.Prelude.{◌≡◌, ◌↔◌, false, List, [], ◌∷◌, ◌++◌, IsTrue};
 ghost use Rattle.saphyr_parser.specs.Events.{Happening, StreamStart, DocumentEnd};
 ghost use Rattle.saphyr_parser.specs.Views.Events.{happening};
 ghost use Rattle.saphyr_parser.specs.Cursor.{to_come};
 ghost use Rattle.saphyr_parser.specs.Calls.{Looks};
-ghost use Rattle.yaml_tree.specs.Loading.{LoadsDocuments, TakesAll, BeginsSo};
-ghost use Rattle.yaml_tree.specs.Leaving.{LeavesParser, LeavesFrom};
-ghost use Rattle.yaml_tree.specs.DocumentSeen.{TakesPart, Shrinks, LeavesPart};
+ghost use Rattle.yaml_tree.specs.Loading.{LoadsDocuments, BeginsSo};
+ghost use Rattle.yaml_tree.specs.Leaving.{LeavesParser};
+ghost use Rattle.yaml_tree.specs.DocumentSeen.{LeavesPart};
+ghost use Rattle.yaml_tree.specs.Tables.{Event as Given};
 
 use crate::builder::Builder;
 use crate::document::Document;
 use crate::fault::TreeFault;
 use crate::tally::{Limits, Tally};
 use saphyr_parser::law::hands_out_what_comes;
-use saphyr_parser::{Event, Input, Marker, Parser};
+use saphyr_parser::{Event, Input, Parser, Span};
 use std::alloc::Global;
 
 /// Loads all documents of a text, from a parser that has handed out no event.
@@ -33,8 +34,8 @@ pub fn load_documents<'input, T: Input>(
         return Err(TreeFault::NotFresh);
     }
     let mut loader = Loader::new(alloc, limits);
-    match loader.take_all(parser) {
-        Ok(()) => loader.builder.finish(),
+    match loader.take_events(parser, true) {
+        Ok(_) => loader.builder.finish(),
         Err(fault) => {
             drop(loader);
             Err(fault)
@@ -54,11 +55,11 @@ pub(crate) fn is_at_start<'input, T: Input>(parser: &mut Parser<'input, T>) -> b
     }
 }
 
-// Whether a document ends with the event.
-pub(crate) fn ends_document(event: &Event) -> bool
-    ensures { IsTrue result ↔ happening event.now ≡ DocumentEnd }
+// Whether no event behind this one is wanted: all are, or those up to the end of a document.
+pub(crate) fn is_last(event: &Event, all: bool) -> bool
+    ensures { IsTrue result ↔ (all ≡ false) × (happening event.now ≡ DocumentEnd) }
 {
-    matches!(event, Event::DocumentEnd)
+    !all && matches!(event, Event::DocumentEnd)
 }
 
 // Trees that grow within limits.
@@ -69,10 +70,10 @@ pub(crate) struct Loader {
 }
 
 impl Loader {
-    ghost use Rattle.yaml_tree.specs.LoaderSeen.{HasTaken, TakesLast};
+    ghost use Rattle.yaml_tree.specs.LoaderSeen.{HasTaken, TakesEvents, TakesLast};
 
     pub(crate) fn new(alloc: Global, limits: Limits) -> Loader
-        ensures { HasTaken limits [] result }
+        ensures { HasTaken limits [] [] result }
     {
         Loader {
             tally: Tally::new(limits),
@@ -82,7 +83,7 @@ impl Loader {
 
     // A loader that has taken the stream's start.
     pub(crate) fn in_stream(alloc: Global, limits: Limits) -> Loader
-        ensures { HasTaken limits (StreamStart ∷ []) result }
+        ensures { HasTaken limits (StreamStart ∷ []) [] result }
     {
         Loader {
             tally: Tally::new(limits),
@@ -90,39 +91,24 @@ impl Loader {
         }
     }
 
-    // Takes all events that are still to come.
-    fn take_all<'input, T: Input>(
+    // Takes all events, or those up to the end of a document. Returns whether a document ended there.
+    pub(crate) fn take_events<'input, T: Input>(
         &mut self,
         parser: &mut Parser<'input, T>,
-    ) -> Result<(), TreeFault>
-        ensures takes { (limits : Limits) → HasTaken limits [] self.old
-            → TakesAll limits result (to_come parser.old) (to_come parser.new) self.new }
-        ensures leaves { (limits : Limits) → HasTaken limits [] self.old
-            → LeavesFrom result parser.old parser.new }
-    {
-        hands_out_what_comes();
-        while self.take_document(parser)? {}
-        Ok(())
-    }
-
-    // Takes events up to the end of a document. Returns whether a document ended; if not, the stream has.
-    pub(crate) fn take_document<'input, T: Input>(
-        &mut self,
-        parser: &mut Parser<'input, T>,
+        all: bool,
     ) -> Result<bool, TreeFault>
         ensures takes { (limits : Limits) (before : List Happening)
-            → HasTaken limits before self.old
-            → TakesPart limits before result (to_come parser.old) (to_come parser.new) self.new }
-        ensures shrinks { Shrinks result (to_come parser.old) (to_come parser.new) }
+            → HasTaken limits before [] self.old → TakesEvents all limits before result
+            (to_come parser.old) (to_come parser.new) self.new }
         ensures leaves { (limits : Limits) (before : List Happening)
-            → HasTaken limits before self.old → LeavesPart result parser.old parser.new }
+            → HasTaken limits before [] self.old → LeavesPart result parser.old parser.new }
     {
         hands_out_what_comes();
         while let Some(read) = parser.next_event() {
             match read {
                 Ok((event, span)) => {
-                    let last = ends_document(&event);
-                    self.take(event, span.start)?;
+                    let last = is_last(&event, all);
+                    self.take(event, span)?;
                     if last {
                         return Ok(true);
                     }
@@ -133,12 +119,13 @@ impl Loader {
         Ok(false)
     }
 
-    // Takes an event whose span starts here. Checks the limits first.
-    fn take(&mut self, event: Event, place: Marker) -> Result<(), TreeFault>
-        ensures { (limits : Limits) (events : List Happening) → HasTaken limits events self.old
-            → TakesLast result limits (events ++ happening event.entry ∷ []) place self.new }
+    // Takes an event with its span. Checks the limits first.
+    fn take(&mut self, event: Event, span: Span) -> Result<(), TreeFault>
+        ensures { (limits : Limits) (before : List Happening) (es : List Given)
+            → HasTaken limits before es self.old → TakesLast result limits before
+            (es ++ (happening event.entry, span) ∷ []) span.start self.new }
     {
-        match self.tally.count(&event, place) {
+        match self.tally.count(&event, span.start) {
             Ok(()) => self.builder.take(event),
             Err(fault) => {
                 drop(event);

@@ -1,5 +1,5 @@
 //! The next document of a parser, and the spans of its events (YAML 1.2.2, 3.1.2).
-ghost use Rattle.std.specs.Prelude.{List};
+ghost use Rattle.std.specs.Prelude.{List, []};
 ghost use Rattle.saphyr_parser.specs.Events.{Happening, StreamStart};
 ghost use Rattle.saphyr_parser.specs.Cursor.{to_come};
 ghost use Rattle.yaml_tree.specs.LoaderSeen.{HasTaken};
@@ -42,19 +42,19 @@ fn next_document<'input, T: Input>(
 ) -> Result<Option<(Document, DocumentSpans)>, TreeFault>
     requires { HasKeptNone loader.keeper }
     ensures loads { (limits : Limits) (before : List Happening)
-        → HasTaken limits before loader.loader
+        → HasTaken limits before [] loader.loader
         → AtMost StreamStart before → GoesOnBehind before (to_come parser.old)
         → LoadsDocument limits (document_of result) (to_come parser.old) (to_come parser.new) }
     ensures spans { (limits : Limits) (before : List Happening)
-        → HasTaken limits before loader.loader
+        → HasTaken limits before [] loader.loader
         → AtMost StreamStart before → GoesOnBehind before (to_come parser.old)
         → HasSpans result (to_come parser.old) (to_come parser.new) }
     ensures leaves { (limits : Limits) (before : List Happening)
-        → HasTaken limits before loader.loader
+        → HasTaken limits before [] loader.loader
         → AtMost StreamStart before → GoesOnBehind before (to_come parser.old)
         → LeavesBehindLook (document_of result) parser.old parser.new }
 {
-    match loader.take_document(parser) {
+    match loader.take_events(parser, false) {
         Ok(_) => loader.last_document(),
         Err(fault) => {
             drop(loader);

@@ -3,15 +3,16 @@ ghost use Rattle.std.specs.Prelude.{◌≡◌, List, [], ◌∷◌, ◌++◌, ma
 ghost use Rattle.saphyr_parser.specs.Events.{Happening, StreamStart};
 ghost use Rattle.saphyr_parser.specs.Views.Events.{happening};
 ghost use Rattle.saphyr_parser.specs.Cursor.{to_come};
-ghost use Rattle.yaml_tree.specs.Spanning.{IsSpannedStream, all_spans, kept_behind, kept_behind_all};
-ghost use Rattle.yaml_tree.specs.DocumentSeen.{LeavesPart, Shrinks, TakesPart};
+ghost use Rattle.yaml_tree.specs.Spanning.{IsSpannedStream, all_spans, kept_behind};
+ghost use Rattle.yaml_tree.specs.DocumentSeen.{LeavesPart};
 ghost use Rattle.yaml_tree.specs.KeeperSeen.{HandsOutLast, HasKeptNone, KeepsTaken, kept_spans, documents_of};
-ghost use Rattle.yaml_tree.specs.Loading.{LoadsDocuments, TakesAll};
-ghost use Rattle.yaml_tree.specs.Leaving.{LeavesParser, LeavesFrom};
+ghost use Rattle.yaml_tree.specs.Loading.{LoadsDocuments};
+ghost use Rattle.yaml_tree.specs.Leaving.{LeavesParser};
+ghost use Rattle.yaml_tree.specs.Tables.{Event as Given};
 
 use crate::document::Document;
 use crate::fault::TreeFault;
-use crate::loading::{Loader, ends_document, is_at_start};
+use crate::loading::{Loader, is_at_start, is_last};
 use crate::spans::{DocumentSpans, SpanKeeper, SpannedDocuments};
 use crate::tally::Limits;
 use saphyr_parser::law::hands_out_what_comes;
@@ -37,8 +38,8 @@ pub fn load_documents_with_spans<'input, T: Input>(
         return Err(TreeFault::NotFresh);
     }
     let mut loader = SpannedLoader::new(alloc, limits);
-    match loader.take_all(parser) {
-        Ok(()) => loader.finish(),
+    match loader.take_events(parser, true) {
+        Ok(_) => loader.finish(),
         Err(fault) => {
             drop(loader);
             Err(fault)
@@ -54,11 +55,11 @@ pub(crate) struct SpannedLoader {
 }
 
 impl SpannedLoader {
-    ghost use Rattle.yaml_tree.specs.LoaderSeen.{HasTaken, TakesLast};
+    ghost use Rattle.yaml_tree.specs.LoaderSeen.{HasTaken, TakesEvents, TakesLast};
     ghost use Rattle.yaml_tree.specs.BuilderSeen.{Finishes};
 
     pub(crate) fn new(alloc: Global, limits: Limits) -> SpannedLoader
-        ensures loader { HasTaken limits [] result.loader }
+        ensures loader { HasTaken limits [] [] result.loader }
         ensures keeper { HasKeptNone result.keeper }
     {
         SpannedLoader {
@@ -69,7 +70,7 @@ impl SpannedLoader {
 
     // A loader that has taken the stream's start.
     pub(crate) fn in_stream(alloc: Global, limits: Limits) -> SpannedLoader
-        ensures loader { HasTaken limits (StreamStart ∷ []) result.loader }
+        ensures loader { HasTaken limits (StreamStart ∷ []) [] result.loader }
         ensures keeper { HasKeptNone result.keeper }
     {
         SpannedLoader {
@@ -78,43 +79,25 @@ impl SpannedLoader {
         }
     }
 
-    // Takes all events that are still to come.
-    fn take_all<'input, T: Input>(
+    // Takes all events, or those up to the end of a document. Returns whether a document ended there.
+    pub(crate) fn take_events<'input, T: Input>(
         &mut self,
         parser: &mut Parser<'input, T>,
-    ) -> Result<(), TreeFault>
-        ensures takes { (limits : Limits) → HasTaken limits [] self.old.loader
-            → TakesAll limits result (to_come parser.old) (to_come parser.new) self.new.loader }
-        ensures keeps { (limits : Limits) → HasTaken limits [] self.old.loader
-            → OnOk result (kept_spans self.new.keeper
-            ≡ kept_behind_all (to_come parser.old).events (kept_spans self.old.keeper)) }
-        ensures leaves { (limits : Limits) → HasTaken limits [] self.old.loader
-            → LeavesFrom result parser.old parser.new }
-    {
-        hands_out_what_comes();
-        while self.take_document(parser)? {}
-        Ok(())
-    }
-
-    // Takes events up to the end of a document. Returns whether a document ended; if not, the stream has.
-    pub(crate) fn take_document<'input, T: Input>(
-        &mut self,
-        parser: &mut Parser<'input, T>,
+        all: bool,
     ) -> Result<bool, TreeFault>
         ensures takes { (limits : Limits) (before : List Happening)
-            → HasTaken limits before self.old.loader → TakesPart limits before result
+            → HasTaken limits before [] self.old.loader → TakesEvents all limits before result
             (to_come parser.old) (to_come parser.new) self.new.loader }
         ensures keeps { OnOk result (KeepsTaken (to_come parser.old) (to_come parser.new)
             self.old.keeper self.new.keeper) }
-        ensures shrinks { Shrinks result (to_come parser.old) (to_come parser.new) }
         ensures leaves { (limits : Limits) (before : List Happening)
-            → HasTaken limits before self.old.loader → LeavesPart result parser.old parser.new }
+            → HasTaken limits before [] self.old.loader → LeavesPart result parser.old parser.new }
     {
         hands_out_what_comes();
         while let Some(read) = parser.next_event() {
             match read {
                 Ok((event, span)) => {
-                    let last = ends_document(&event);
+                    let last = is_last(&event, all);
                     self.take(event, span)?;
                     if last {
                         return Ok(true);
@@ -128,9 +111,9 @@ impl SpannedLoader {
 
     // Takes an event with its span. Checks the limits first.
     fn take(&mut self, event: Event, span: Span) -> Result<(), TreeFault>
-        ensures takes { (limits : Limits) (events : List Happening)
-            → HasTaken limits events self.old.loader → TakesLast result limits
-            (events ++ happening event.entry ∷ []) span.start self.new.loader }
+        ensures takes { (limits : Limits) (before : List Happening) (es : List Given)
+            → HasTaken limits before es self.old.loader → TakesLast result limits before
+            (es ++ (happening event.entry, span) ∷ []) span.start self.new.loader }
         ensures keeps { OnOk result (kept_spans self.new.keeper
             ≡ kept_behind (happening event.entry) span (kept_spans self.old.keeper)) }
     {

@@ -1,20 +1,19 @@
 //! Tables of documents, right from the events of a parser (YAML 1.2.2, 3.1.2).
-ghost use Rattle.std.specs.Prelude.{◌≡◌, ◌↔◌, [], ◌∷◌, ◌++◌, false, IsTrue, List};
-ghost use Rattle.saphyr_parser.specs.Answer.{Answer};
-ghost use Rattle.saphyr_parser.specs.Cursor.{Stays, to_come};
+ghost use Rattle.std.specs.Prelude.{◌≡◌, [], ◌∷◌, ◌++◌, List, OnOk};
+ghost use Rattle.saphyr_parser.specs.Cursor.{to_come};
 ghost use Rattle.saphyr_parser.specs.Events.{DocumentEnd};
 ghost use Rattle.saphyr_parser.specs.Views.Events.{happening};
 ghost use Rattle.yaml_tree.specs.DocumentSeen.{LeavesPart};
-ghost use Rattle.yaml_tree.specs.DocumentLoading.{ComesBetweenDocuments, LeavesBehindDocument};
+ghost use Rattle.yaml_tree.specs.DocumentLoading.{ComesBetweenDocuments, LeavesBehindDocument, LeavesBehindLook};
+ghost use Rattle.yaml_tree.specs.GrowerSeen.{HasNoneOpen};
 ghost use Rattle.yaml_tree.specs.Leaving.{LeavesParser};
 ghost use Rattle.yaml_tree.specs.TableLoading.{LoadsTable, LoadsNextTable};
-ghost use Rattle.yaml_tree.specs.TableSeen.{LoadsHere, LeavesHere};
 ghost use Rattle.yaml_tree.specs.Tables.{Event as Given};
 
 use crate::document_loading::{Place, find_place};
 use crate::fault::TreeFault;
 use crate::growing::Growth;
-use crate::loading::{ends_document, is_at_start};
+use crate::loading::{is_at_start, is_last};
 use crate::table::NodeTable;
 use crate::tally::{Limits, Tally};
 use saphyr_parser::law::hands_out_what_comes;
@@ -68,10 +67,10 @@ fn next_table<'input, T: Input>(
     parser: &mut Parser<'input, T>,
     limits: Limits,
 ) -> Result<Option<NodeTable>, TreeFault>
-    ensures loads { (all : Answer) → Stays all (to_come parser.old)
-        → ComesBetweenDocuments (to_come parser.old)
-        → LoadsHere limits result all (to_come parser.new) }
-    ensures leaves { LeavesHere result parser.old parser.new }
+    ensures loads { ComesBetweenDocuments (to_come parser.old)
+        → LoadsNextTable limits result (to_come parser.old) (to_come parser.new) }
+    ensures leaves { ComesBetweenDocuments (to_come parser.old)
+        → LeavesBehindLook result parser.old parser.new }
 {
     let mut grower = Grower::new(alloc, limits);
     match grower.take_events(parser, false) {
@@ -87,13 +86,6 @@ fn next_table<'input, T: Input>(
     }
 }
 
-// Whether no event behind this one is wanted.
-fn is_last(event: &Event, all: bool) -> bool
-    ensures { IsTrue result ↔ (all ≡ false) × (happening event.now ≡ DocumentEnd) }
-{
-    !all && ends_document(event)
-}
-
 // A table that grows within limits.
 #[derive(Drop)]
 struct Grower {
@@ -102,7 +94,7 @@ struct Grower {
 }
 
 impl Grower {
-    ghost use Rattle.yaml_tree.specs.TableSeen.{EndsBetween, FinishesTable, HasGrownWithin, GrowsByEvents, GrowsByLast};
+    ghost use Rattle.yaml_tree.specs.TableSeen.{FinishesTable, HasGrownWithin, GrowsByEvents, GrowsByLast};
 
     fn new(alloc: Global, limits: Limits) -> Grower
         ensures { HasGrownWithin limits [] result }
@@ -145,7 +137,8 @@ impl Grower {
     fn take(&mut self, event: &Event, span: Span) -> Result<(), TreeFault>
         ensures takes { (limits : Limits) (es : List Given) → HasGrownWithin limits es self.old
             → GrowsByLast result limits (es ++ (happening event.now, span) ∷ []) span.start self.new }
-        ensures ends { EndsBetween result (happening event.now) self.new }
+        ensures ends { happening event.now ≡ DocumentEnd
+            → OnOk result (HasNoneOpen self.new.growth) }
     {
         self.tally.count(event, span.start)?;
         match self.growth.add(event, span) {
@@ -157,7 +150,7 @@ impl Grower {
     // The table of all events, of which none is still to come. Those of a text leave no document open.
     fn finish(self) -> Result<NodeTable, TreeFault>
         ensures { (limits : Limits) (es : List Given) → HasGrownWithin limits es self
-            → FinishesTable limits es result }
+            → FinishesTable es result }
     {
         if self.growth.is_between() {
             Ok(self.growth.table)

@@ -1,3 +1,5 @@
+use Rattle.saphyr_parser.specs.Cursor.{to_come}
+use Rattle.yaml_tree.specs.declared.document.Document.{Document}
 use Rattle.yaml_tree.proofs.DocumentFound.{loads_last, fails_in_document, leaves_last, leaves_failed}
 use Rattle.yaml_tree.proofs.document_loading.next_document.Goals as goal
 
@@ -13,8 +15,9 @@ returns-in-Ok-clause-leaves g c = λ limits before h at on.
 
 pub returns-in-Err-clause-loads : goal.returns-in-Err-clause-loads
 returns-in-Err-clause-loads g c = λ limits before h at on.
-    fails_in_document c.in-Err.fault limits before _ _ at on (c.in-Err.ensures.takes limits before h)
+    fails_in_document c.in-Err.fault limits before (to_come c.args.parser.now) (to_come c.take_events.new.parser)
+    c.take_events.new.self on (c.in-Err.ensures.takes limits before h)
 
 pub returns-in-Err-clause-leaves : goal.returns-in-Err-clause-leaves
 returns-in-Err-clause-leaves g c = λ limits before h at on.
-    leaves_failed before c.in-Err.fault _ _ on (c.in-Err.ensures.leaves limits before h)
+    leaves_failed Document c.in-Err.fault _ _ on.0 (c.in-Err.ensures.leaves limits before h)

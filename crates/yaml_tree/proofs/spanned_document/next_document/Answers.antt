@@ -14,7 +14,7 @@ returns-in-Ok-clause-loads g c = λ limits before h at on.
     let own = pairs limits before c.in-Ok.field-0 _ _ _ _ c.last_document.result at on takes c.in-Ok.ensures.keeps
     c.requires last in
     subst (λ (r : Result (Option Document) TreeFault). LoadsDocument limits r (to_come c.args.parser.now)
-    (to_come c.take_document.new.parser)) (sym own.same)
+    (to_come c.take_events.new.parser)) (sym own.same)
     (loads_last limits before c.in-Ok.field-0 _ _ _ last.0 at on takes last.1)
 
 pub returns-in-Ok-clause-spans : goal.returns-in-Ok-clause-spans
@@ -29,14 +29,15 @@ returns-in-Ok-clause-leaves g c = λ limits before h at on.
     let own = pairs limits before c.in-Ok.field-0 _ _ _ _ c.last_document.result at on takes c.in-Ok.ensures.keeps
     c.requires last in
     subst (λ (r : Result (Option Document) TreeFault). LeavesBehindLook r c.args.parser.now
-    c.take_document.new.parser) (sym own.same)
+    c.take_events.new.parser) (sym own.same)
     (leaves_last limits before c.in-Ok.field-0 _ _ _ last.0 at on takes last.1
     (c.in-Ok.ensures.leaves limits before h))
 
 pub returns-in-Err-clause-loads : goal.returns-in-Err-clause-loads
 returns-in-Err-clause-loads g c = λ limits before h at on.
-    fails_in_document c.in-Err.fault limits before _ _ at on (c.in-Err.ensures.takes limits before h)
+    fails_in_document c.in-Err.fault limits before (to_come c.args.parser.now) (to_come c.take_events.new.parser)
+    c.take_events.new.self.loader on (c.in-Err.ensures.takes limits before h)
 
 pub returns-in-Err-clause-leaves : goal.returns-in-Err-clause-leaves
 returns-in-Err-clause-leaves g c = λ limits before h at on.
-    leaves_failed before c.in-Err.fault _ _ on (c.in-Err.ensures.leaves limits before h)
+    leaves_failed Document c.in-Err.fault _ _ on.0 (c.in-Err.ensures.leaves limits before h)

@@ -1,6 +1,7 @@
 use Rattle.std.proofs.Common.{refl}
-use Rattle.yaml_tree.proofs.Growths.{leaf_ok}
+use Rattle.yaml_tree.proofs.Growths.{leaf_grows}
+use Rattle.yaml_tree.proofs.Stores.{ok_map}
 use Rattle.yaml_tree.proofs.growing.Growth.add_leaf.Goals as goal
 
 pub returns : goal.returns
-returns c = leaf_ok _ _ _ _ _ _ _ _ c.in_ok-push_leaf.ensures refl refl refl c.add.ensures
+returns c = ok_map _ c.add.ensures (leaf_grows _ _ _ _ _ _ _ c.in_ok-push_leaf.ensures refl)

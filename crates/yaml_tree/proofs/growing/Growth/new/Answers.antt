@@ -1,5 +1,3 @@
-use Rattle.std.proofs.Common.{rules}
-use Rattle.yaml_tree.specs.GrowerSeen.{HasNoneOpen}
 use Rattle.yaml_tree.proofs.Growths.{grows_none}
 use Rattle.yaml_tree.proofs.growing.Growth.new.Goals as goal
 

@@ -1,5 +1,6 @@
-use Rattle.yaml_tree.proofs.Growths.{pass_ok}
+use Rattle.yaml_tree.proofs.Growths.{pass_grows}
+use Rattle.yaml_tree.proofs.Stores.{ok_map}
 use Rattle.yaml_tree.proofs.growing.Growth.pass.Goals as goal
 
 pub returns : goal.returns
-returns c = pass_ok _ _ c.stay.ensures
+returns c = ok_map _ c.stay.ensures (pass_grows c.args.self.now)

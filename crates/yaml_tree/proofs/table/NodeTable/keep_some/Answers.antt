@@ -14,7 +14,8 @@ returns-clause-stores c = keeps_ok _ _ _ _ _ _ _ (record {
 pub returns-clause-properties : goal.returns-clause-properties
 returns-clause-properties c =
     let long : c.len.result ≡ length c.push.new.self.items = search rules in
-    kept_ok _ c.args.self.now c.keep_tag.new.self c.expect_at.new.self (record c.expect_at.new.self { properties = c.push.new.self })
+    kept_ok _ c.args.self.now c.keep_tag.new.self c.expect_at.new.self
+    (record c.expect_at.new.self { properties = c.push.new.self })
     _ _ _ c.len.result (record {
       first = c.in_ok-tag.ensures.stores;
       tells = c.in_ok-tag.ensures.tag;

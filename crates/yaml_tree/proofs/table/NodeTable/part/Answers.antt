@@ -13,7 +13,8 @@ pub returns-in_default-step : goal.returns-in_default-step
 returns-in_default-step c = record {
   leads = of_entry c.args.self.now c.args.number c.in_ok-row.field-0.now _ c.in_ok-row.ensures
       (λ own told. leads_to _ c.args.number c.in_ok-row.field-0.now _ own c.args.step _ c.in-Sequence.is
-      (no_item (store_of c.args.self.now) c.in-Sequence.row c.in-Sequence.field-1 c.args.step c.in_default-step.not-Index) told);
+      (no_item (store_of c.args.self.now) c.in-Sequence.row c.in-Sequence.field-1 c.args.step
+      c.in_default-step.not-Index) told);
   no_node = λ _. refl;
 }
 
@@ -32,10 +33,11 @@ returns-in-Value-clause-leads c = rw c.in-Value.is (of_entry c.args.self.now c.a
 
 pub returns-in-Index-step-clause-leads : goal.returns-in-Index-step-clause-leads
 returns-in-Index-step-clause-leads c = rw c.in-Index-step.is (of_entry c.args.self.now c.args.number
-    c.in_ok-row.field-0.now _ c.in_ok-row.ensures (λ own told. leads_to _ c.args.number c.in_ok-row.field-0.now _ own _ _
-    c.in-Mapping.is refl told))
+    c.in_ok-row.field-0.now _ c.in_ok-row.ensures (λ own told. leads_to _ c.args.number c.in_ok-row.field-0.now _ own _
+    _ c.in-Mapping.is refl told))
 
 pub returns-in_default-clause-leads : goal.returns-in_default-clause-leads
 returns-in_default-clause-leads c = of_entry c.args.self.now c.args.number c.in_ok-row.field-0.now _ c.in_ok-row.ensures
     (λ own told. leads_to _ c.args.number c.in_ok-row.field-0.now c.in_ok-row.field-0.now.content own c.args.step _ refl
-    (no_part (store_of c.args.self.now) c.in_ok-row.field-0.now.content c.args.step c.in_default.not-Sequence c.in_default.not-Mapping) told)
+    (no_part (store_of c.args.self.now) c.in_ok-row.field-0.now.content c.args.step c.in_default.not-Sequence
+    c.in_default.not-Mapping) told)

@@ -14,7 +14,8 @@ returns-then-has_anchor-2 c = λ es t.
 
 pub loop-number-preserved : goal.loop-number-preserved
 loop-number-preserved c = none_further c.args.self.now c.args.id c.loop-number.number c.loop-number.invariant
-    (λ es own t at has. let zero = c.has_anchor-in-loop-number.ensures.not_here c.if-has_anchor-2.false es own t at has in
+    (λ es own t at has.
+    let zero = c.has_anchor-in-loop-number.ensures.not_here c.if-has_anchor-2.false es own t at has in
     omega (arith, c.if-id-eq0.false, zero))
 
 pub returns : goal.returns

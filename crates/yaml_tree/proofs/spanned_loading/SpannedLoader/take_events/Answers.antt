@@ -1,28 +1,21 @@
-use Rattle.std.proofs.Common.{◌≡◌, ◌∷◌, ◌++◌, [], Bool, Err, false, true≢false, sym, ◌∙◌, rules}
+use Rattle.std.proofs.Common.{◌≡◌, Bool, Err, false, true≢false, sym, ◌∙◌, rules}
 use Rattle.saphyr_parser.specs.Cursor.{event_of}
-use Rattle.saphyr_parser.specs.Nesting.{happenings}
-use Rattle.yaml_tree.specs.DocumentLoading.{EndNoDocument}
-use Rattle.yaml_tree.proofs.DocumentEnds.{none_more}
-use Rattle.yaml_tree.proofs.DocumentRead.{reads_nothing, reads_on, reads_end, fails_behind, refuses_behind, reads_rest}
-use Rattle.yaml_tree.proofs.Leaving.{hands_none, hands_more, hands_less, leaves_all, leaves_at}
+use Rattle.yaml_tree.proofs.DocumentRead.{reads_nothing, reads_on, reads_end, fails_behind, nests_nowhere, refuses_behind, reads_rest}
+use Rattle.yaml_tree.proofs.Leaving.{hands_none, hands_more, leaves_all, leaves_at}
 use Rattle.yaml_tree.proofs.SpansRead.{keeps_none, keeps_more, keeps_rest}
-use Rattle.yaml_tree.proofs.spanned_loading.SpannedLoader.take_document.Goals as goal
+use Rattle.yaml_tree.proofs.spanned_loading.SpannedLoader.take_events.Goals as goal
 
 pub loop-read-init : goal.loop-read-init
-loop-read-init g c = (
-  λ limits before h. reads_nothing EndNoDocument limits before _ _ tt h,
-  hands_none _,
-  keeps_none _ _,
-)
+loop-read-init g c = (λ limits before h. reads_nothing c.args.all _ _ h, hands_none _, keeps_none _ _)
 
 pub loop-read-preserved : goal.loop-read-preserved
 loop-read-preserved g c = (
   λ limits before h.
       let read = c.loop-read.invariant.0 limits before h in
-      let hands = rw c.in-Ok.is at c.in-Some.ensures.hands in
-      reads_on EndNoDocument limits before _ _ _ (event_of (c.in-Ok.event, c.in-Ok.span)) _ _ read hands
-      (none_more _ _ read.inside (λ e. true≢false (sym (c.ends_document-last.ensures.1 e) ∙ c.if-last.false)))
-      (c.in_ok-take-in-Ok.ensures.takes limits (before ++ happenings read.taken) read.loader),
+      reads_on c.args.all _ _ _ _ (event_of (c.in-Ok.event, c.in-Ok.span)) read
+      (rw c.in-Ok.is at c.in-Some.ensures.hands) _
+      (λ off is. true≢false (sym (c.is_last-last.ensures.1 (off, is)) ∙ c.if-last.false))
+      (c.in_ok-take-in-Ok.ensures.takes limits before read.taken read.holds),
   hands_more _ _ _ (event_of (c.in-Ok.event, c.in-Ok.span)) c.loop-read.invariant.1
       (rw c.in-Ok.is at c.in-Some.ensures.leaves),
   keeps_more _ _ _ (event_of (c.in-Ok.event, c.in-Ok.span)) _ _ _ c.loop-read.invariant.2
@@ -32,18 +25,13 @@ loop-read-preserved g c = (
 pub returns-then-last-clause-takes : goal.returns-then-last-clause-takes
 returns-then-last-clause-takes g c = λ limits before h.
     let read = c.loop-read.invariant.0 limits before h in
-    let hands = rw c.in-Ok.is at c.in-Some.ensures.hands in
-    reads_end limits before _ _ _ (event_of (c.in-Ok.event, c.in-Ok.span)) _ _ read hands
-    (c.ends_document-last.ensures.0 c.if-last.true)
-    (c.in_ok-take-in-Ok.ensures.takes limits (before ++ happenings read.taken) read.loader)
+    reads_end c.args.all _ _ _ _ (event_of (c.in-Ok.event, c.in-Ok.span)) read
+    (rw c.in-Ok.is at c.in-Some.ensures.hands) _ (c.is_last-last.ensures.0 c.if-last.true)
+    (c.in_ok-take-in-Ok.ensures.takes limits before read.taken read.holds)
 
 pub returns-then-last-clause-keeps : goal.returns-then-last-clause-keeps
 returns-then-last-clause-keeps g c = keeps_more _ _ _ (event_of (c.in-Ok.event, c.in-Ok.span)) _ _ _
     c.loop-read.invariant.2 (rw c.in-Ok.is at c.in-Some.ensures.hands) c.in_ok-take-in-Ok.ensures.keeps
-
-pub returns-then-last-clause-shrinks : goal.returns-then-last-clause-shrinks
-returns-then-last-clause-shrinks g c = hands_less _ _ _ (event_of (c.in-Ok.event, c.in-Ok.span))
-    c.hands_out_what_comes.ensures.events c.loop-read.invariant.1 (rw c.in-Ok.is at c.in-Some.ensures.leaves)
 
 pub returns-then-last-clause-leaves : goal.returns-then-last-clause-leaves
 returns-then-last-clause-leaves g c = λ limits before h.
@@ -53,10 +41,12 @@ returns-then-last-clause-leaves g c = λ limits before h.
 pub returns-in_err-take-in-Ok-clause-takes : goal.returns-in_err-take-in-Ok-clause-takes
 returns-in_err-take-in-Ok-clause-takes g c = λ limits before h.
     let read = c.loop-read.invariant.0 limits before h in
+    let next = event_of (c.in-Ok.event, c.in-Ok.span) in
     let hands = rw c.in-Ok.is at c.in-Some.ensures.hands in
     let answer : c.from_residual.result ≡ Err c.in_err-take-in-Ok.field-0.0 = search rules in
-    rw answer (fails_behind EndNoDocument _ limits before _ _ _ (event_of (c.in-Ok.event, c.in-Ok.span)) _ read hands
-    (c.in_err-take-in-Ok.ensures.takes limits (before ++ happenings read.taken) read.loader))
+    rw answer (fails_behind c.args.all _ _ _ _ next read hands _ _ _ limits
+    (λ none. nests_nowhere c.args.all _ _ _ _ next read hands before none) read.holds.within
+    (c.in_err-take-in-Ok.ensures.takes limits before read.taken read.holds))
 
 pub returns-in_err-take-in-Ok-clause-keeps : goal.returns-in_err-take-in-Ok-clause-keeps
 returns-in_err-take-in-Ok-clause-keeps g c =
@@ -65,18 +55,16 @@ returns-in_err-take-in-Ok-clause-keeps g c =
 pub returns-in_err-take-in-Ok-clause-leaves : goal.returns-in_err-take-in-Ok-clause-leaves
 returns-in_err-take-in-Ok-clause-leaves g c = λ limits before h.
     let read = c.loop-read.invariant.0 limits before h in
-    let next = event_of (c.in-Ok.event, c.in-Ok.span) in
-    let leaves = rw c.in-Ok.is at c.in-Some.ensures.leaves in
     let answer : c.from_residual.result ≡ Err c.in_err-take-in-Ok.field-0.0 = search rules in
-    rw answer (leaves_at Bool _ limits ((before ++ happenings read.taken) ++ next.0 ∷ []) next.1.start _ _
-    (c.in_err-take-in-Ok.ensures.takes limits (before ++ happenings read.taken) read.loader)
-    (hands_more _ _ _ next c.loop-read.invariant.1 leaves))
+    rw answer (leaves_at _ _ limits _ _ _ _ (c.in_err-take-in-Ok.ensures.takes limits before read.taken read.holds)
+    (hands_more _ _ _ (event_of (c.in-Ok.event, c.in-Ok.span)) c.loop-read.invariant.1
+    (rw c.in-Ok.is at c.in-Some.ensures.leaves)))
 
 pub returns-in-Err-clause-takes : goal.returns-in-Err-clause-takes
 returns-in-Err-clause-takes g c = λ limits before h.
+    let read = c.loop-read.invariant.0 limits before h in
     let hands = rw c.in-Err.is at c.in-Some.ensures.hands in
-    refuses_behind EndNoDocument c.in-Err.fault limits before _ _ _ _ (c.loop-read.invariant.0 limits before h)
-    hands.0 hands.1
+    refuses_behind c.args.all _ c.in-Err.fault limits _ _ _ read read.holds.within hands.0 hands.1
 
 pub returns-in-Err-clause-leaves : goal.returns-in-Err-clause-leaves
 returns-in-Err-clause-leaves g c = λ limits before h.
@@ -86,7 +74,7 @@ returns-in-Err-clause-leaves g c = λ limits before h.
 pub returns-clause-takes : goal.returns-clause-takes
 returns-clause-takes g c = λ limits before h.
     let hands = c.in_default.ensures.hands in
-    reads_rest EndNoDocument limits before _ _ _ _ (c.loop-read.invariant.0 limits before h) hands.0 hands.1
+    reads_rest c.args.all _ _ _ _ (c.loop-read.invariant.0 limits before h) hands.0 hands.1
 
 pub returns-clause-leaves : goal.returns-clause-leaves
 returns-clause-leaves g c = λ limits before h.
