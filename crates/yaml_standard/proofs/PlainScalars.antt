@@ -14,8 +14,9 @@ use Rattle.yaml_standard.specs.PlainParts.{IsBeforeWord, AreMarkAndColons}
 use Rattle.yaml_standard.specs.Takes.{TakesOff}
 use Rattle.yaml_standard.specs.Words.{AreSomeSafe}
 use Rattle.yaml_standard.proofs.Pieces.{taken_so, then, known_then, then_known, many_more}
-use Rattle.yaml_standard.proofs.PlainWords.{colon_safe, first_is, more_left}
+use Rattle.yaml_standard.proofs.PlainWords.{first_is, more_left}
 use Rattle.yaml_standard.proofs.Separation.{shorter_by}
+use Rattle.yaml_laws.proofs.Flow.Words.{colon_is_safe}
 
 -- ## First words
 
@@ -151,7 +152,7 @@ AreColons t = AreIn (λ x. x == 58) t
 colons_safe : (in_flow : Bool) (t : List ℕ) → AreColons t → AreIn (is_plain_safe in_flow) t
 colons_safe in_flow [] h = tt
 colons_safe in_flow (c ∷ cs) h = (
-  subst (λ y. IsTrue (is_plain_safe in_flow y)) (sym ((is_char c 58).0 h.0)) (colon_safe in_flow),
+  subst (λ y. IsTrue (is_plain_safe in_flow y)) (sym ((is_char c 58).0 h.0)) (colon_is_safe in_flow),
   colons_safe in_flow cs h.1,
 )
 

@@ -9,6 +9,7 @@ use Rattle.scalar_laws.proofs.Beginnings.{both_in, heads, tails}
 use Rattle.yaml_standard.specs.Takes.{TakesOff}
 use Rattle.yaml_standard.specs.Words.{IsSafePart, AreSomeSafe}
 use Rattle.yaml_standard.proofs.Pieces.{nothing_taken, then, known_then, then_known}
+use Rattle.yaml_laws.proofs.Flow.Words.{colon_is_safe}
 
 pub no_colons : (a : List ℕ) → TakesOff (AreIn (λ x. x == 58)) a a
 no_colons a = nothing_taken _ a tt
@@ -20,10 +21,6 @@ one_more_colon a b c s e = then_known (58 ∷ []) (λ p k. both_in (λ x. x == 5
 pub part_taken : (in_flow : Bool) (x : ℕ) (a b c : List ℕ) → TakesOff (AreIn (λ y. y == 58)) a b → b ≡ x ∷ c
     → IsTrue (is_plain_safe in_flow x) → x ≢ 58 → TakesOff (IsSafePart in_flow) a c
 part_taken in_flow x a b c s e safe other = then_known (x ∷ []) (λ p k. (p, x, k, safe, other, refl)) s e
-
-pub colon_safe : (in_flow : Bool) → IsTrue (is_plain_safe in_flow 58)
-colon_safe true = refl
-colon_safe false = refl
 
 dash_safe : (in_flow : Bool) → IsTrue (is_plain_safe in_flow 45)
 dash_safe true = refl
@@ -47,7 +44,7 @@ part_safe : (in_flow : Bool) (colons : List ℕ) (c : ℕ) → AreIn (λ x. x ==
 part_safe in_flow [] c h safe other = (safe, λ e. absurd (other e), tt)
 part_safe in_flow (x ∷ xs) c h safe other =
     let is : x ≡ 58 = (is_char x 58).0 h.0 in (
-      subst (λ y. IsTrue (is_plain_safe in_flow y)) (sym is) (colon_safe in_flow),
+      subst (λ y. IsTrue (is_plain_safe in_flow y)) (sym is) (colon_is_safe in_flow),
       λ e. more_end xs c,
       part_safe in_flow xs c h.1 safe other,
     )

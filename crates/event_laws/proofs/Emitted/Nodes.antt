@@ -176,8 +176,8 @@ emits_so u w span n p q r s = cc
 pub node_opens : (f : SpansByKinds) (d : NodeContext) (x : State) (ss : Outer) (e : Memory) (m n : Machine)
     (p : forest.Properties) (front : List Kind) (k : Kind) (ks : List Kind) (part : Part) (ps : List Part)
     (make : ℕ → Option ResolvedTag → Happening) → YieldProperties p front × IsContentKind k
-    → (m.state ≢ state.End) × (event_step m ≡ next_node d (at f (front ++ k ∷ ks) x ss e)) → event_in e part ≡ with_properties make e p
-    → ((q : NodeProperties) → Has e p.anchor p.tag q
+    → (m.state ≢ state.End) × (event_step m ≡ next_node d (at f (front ++ k ∷ ks) x ss e))
+    → event_in e part ≡ with_properties make e p → ((q : NodeProperties) → Has e p.anchor p.tag q
     → (span : Span) × (node_content_at k q d (record { span = f ks; kind = k }) (at f ks x ss (noted p.anchor e))
     ≡ emit (make q.anchor q.tag) span n)) → SaysParts (after part e) n ps → SaysParts e m (part ∷ ps)
 node_opens f d x ss e m n p front k ks part ps make (h, c) (more, q) v go l = says e m n part ps more (λ w z.

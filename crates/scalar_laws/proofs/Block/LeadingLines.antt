@@ -56,8 +56,8 @@ pub record Led (st : BlockStyle) (c : Chomping) (i n : ℕ) (others : List ℕ) 
   pub whole : (e : ℕ) → contents st ls ++ reading.chomped c true (empty_at_end e ls) ≡ line_feeds d ++ later
 
 led_at : {i n : ℕ} {given : Bool} {others : List ℕ} (st : BlockStyle) (c : Chomping) (limit : Option ℕ)
-    (before : EmptyLinesRead) (b : Bool) (m : Marker) (x : ℕ) (cs t : List ℕ) (ls : List Line) → IsLimit i given limit → (given ≡ false → x ≢ space)
-    → m.col ≡ i → before.widest ≤ i
+    (before : EmptyLinesRead) (b : Bool) (m : Marker) (x : ℕ) (cs t : List ℕ) (ls : List Line) → IsLimit i given limit
+    → (given ≡ false → x ≢ space) → m.col ≡ i → before.widest ≤ i
     → is_yaml_non_break x ≡ true → ((k : ℕ) → Left n others (between st i None k b m (x ∷ t)))
     → ((k : ℕ) → Value c i (between st i None k b m (x ∷ t)) ≡ line_feeds k ++ FirstValue st c (x ∷ cs) ls)
     → Led st c i n others before (Content (x ∷ cs) ∷ ls) (pass_empty_lines limit before b m (x ∷ t))

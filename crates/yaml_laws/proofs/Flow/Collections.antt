@@ -198,7 +198,8 @@ close_passes around b are y flows back m o x fits right ended j ls now held_key 
     let v = arrives around inside m (ch ∷ o) (text ∙ past_content around.indent m ch o
     mark.content) mark.content.blank (mark_begins m ch o mark (fits_clear fits)) flows right in
     let stepped = λ (d : Bool). are.shuts around y flows back (slice_index o 0) (length now.places) d (arrived v)
-    ∙ close_collection_gives ends kind ch o m v.blank around d (arrived v) x j ls ended.found there ended.is flows calm in
+    ∙ close_collection_gives ends kind ch o m v.blank around d (arrived v) x j ls ended.found there ended.is flows
+    calm in
     let below = fits_below fits in
     let new = mark_places ends m there.mark kind in
     let next = closed x j ls there now in
@@ -285,7 +286,8 @@ brackets_pass around Is b are m w inside o now fits content parts low calm befor
     let texts = append_assoc (b.opening ∷ w) (inside ++ close) o ∙ ap (λ (t : List ℕ). b.opening ∷ (w ++ t)) follow in
     let opened = open_passes around b.context are.flows b.opens b.opening mark are.begins m
     (w ++ (inside ++ (b.closing ∷ o))) now first right
-    (parted_by around.indent w (inside ++ (b.closing ∷ o)) parts (content o)) low calm before start (rw texts at ready) in
+    (parted_by around.indent w (inside ++ (b.closing ∷ o)) parts (content o)) low calm before start
+    (rw texts at ready) in
     let j = opened.0 in
     let p = separation_joins (moved m (b.opening ∷ [])) w (inside ++ (b.closing ∷ o)) parts opened.2 in
     let r = run j (after p) p.knows.0.0 p.knows.0.1

@@ -203,7 +203,8 @@ pub key_passes : {around : Around} (room : ℕ) (key value : Node) → PassesNod
 key_passes {around} room key value K V y flows m t o ends h line now fresh next =
     key_and_value room key value K V (key_kinds (begins_pair y)) y flows m t o ends h now next
     (λ more colon_fits parted colon_ends n. colon_passes around y flows m (moved m h.0) key h.1 more h.4 colon_fits
-    parted colon_ends line (keeping (moment_in y now) m h.0) (ap (λ (b : Bool). saved b (length now.places) m now.key) fresh) n.passes)
+    parted colon_ends line (keeping (moment_in y now) m h.0) (ap (λ (b : Bool). saved b (length now.places) m now.key)
+    fresh) n.passes)
 
 -- ## A value without a key
 

@@ -134,7 +134,8 @@ tag_one reads around tag m t o h now ends = tag_passes reads around tag t o m h 
 -- both, with a gap between
 both_passed : {around : Around} {P Q : List ℕ → Type 0} {i j : Kind} → ReadsOne around P i → ReadsOne around Q j
     → (m : Marker) (t o : List ℕ)
-    → (a w b : List ℕ) × P a × IsGap around.indent w × Q b × Begins b × (t ≡ a ++ (w ++ b)) → (now : FlowMoment) → EndsTag (not (is_block now.context)) o → Fits around now.context m t o
+    → (a w b : List ℕ) × P a × IsGap around.indent w × Q b × Begins b × (t ≡ a ++ (w ++ b)) → (now : FlowMoment)
+    → EndsTag (not (is_block now.context)) o → Fits around now.context m t o
     → (start : Bool → State) → Ready around start now m (t ++ o)
     → PassesPiece around start (behind_properties now.context (keeping now m t) now.adjacent)
     now.context now.outer now.places (moved m t) o (i ∷ j ∷ [])

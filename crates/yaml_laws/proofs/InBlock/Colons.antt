@@ -216,8 +216,8 @@ reads_colon {limit} f k m o ts further e far r right h count =
     before_next (yaml.BehindKey k.col) g t (ps ++ places) (along m 1) o
     (steps_from g t (ps ++ places) r.follows refl there refl (room m.index p.mark.index (length o) limit p.low count))
     (key_are further ps r.others r.key m ts r.tokens r.first r.are) refl refl refl
-    (le_next n.adjacent m.index r.low) p.lands (p.clean (least_column (core_of g t)) (least_within further k.col f t far))
-    (or-false (crosses p.rest) ∙ p.crosses_same) (behind k.col m.col right)
+    (le_next n.adjacent m.index r.low) p.lands (p.clean (least_column (core_of g t))
+    (least_within further k.col f t far)) (or-false (crosses p.rest) ∙ p.crosses_same) (behind k.col m.col right)
   where
     further_right : (i k m : ℕ) → i ≤ k + 1 → k ≤ m → i ≤ m + 1
     further_right i k m h l = omega (arith, h, l)

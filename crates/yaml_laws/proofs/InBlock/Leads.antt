@@ -17,7 +17,12 @@ plain_lead {limit} {start} {ts} p place f m w y none h b opens v =
     let there : past 0 m (w ++ y) ≡ (moved m w, y) = cc (reaches m w b.first b.others h b.content) in
     let p_at = subst (λ (q : Marker × List ℕ). FreeAt limit start f q.0 q.1 ts) there
     (record { at = v.at; none = v.none; allowed = v.allows opens }) in
-    record { tokens = []; are = rw none refl; at = subst (FreeAt limit start f (moved m w) y) (sym (append-nil ts)) p_at }
+    record {
+      tokens = [];
+      are = rw none refl;
+      at = subst (FreeAt limit start f (moved m w) y)
+          (sym (append-nil ts)) p_at;
+    }
 
 -- Up to the first token of a collection, given its lead: properties or none, and then what is skipped up to the
 -- collection's column. A key may begin there, since a break was passed, or since the place is compact.

@@ -155,7 +155,8 @@ reads_keyless {limit} leaves key value V f n further e far t z (v, out, h, is) f
     let behind_v = subst (λ (x : Marker). EndsNodeAt (suc n.col) x z) end behind in
     let ahead = node_behind leaves value (BehindKey n.col) v z refl h behind_v.clean in
     let p = subst (λ (y : List ℕ). FreeAt limit start f n y ts) text at_colon in
-    let b = as_behind_key g n (v ++ z) (reads_value f n (v ++ z) further e far ahead whole.below p.at p.none p.allowed) in
+    let b = as_behind_key g n (v ++ z) (reads_value f n (v ++ z) further e far ahead whole.below p.at p.none
+    p.allowed) in
     let s = V (BehindKey n.col) g (frame_same further f n.col e far) (along n 1) v z h (fits_back n (58 ∷ []) v z whole)
     (rw (frame_same further f n.col e far) behind_v) start _ b in
     record {

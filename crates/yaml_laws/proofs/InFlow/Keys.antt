@@ -101,7 +101,8 @@ key_read reads around calm node m p n r h line apart short white right clear bel
       content = colon_content;
       near = (omega (arith, short));
     } in
-    let ready = rw (sym front) at (first_ready around calm v.deeper v.blank v.key v.adjacent v.places m b.first (b.others ++ o)
+    let ready = rw (sym front) at (first_ready around calm v.deeper v.blank v.key v.adjacent v.places m b.first
+    (b.others ++ o)
     b.content right (rw front at token) (rw front at (text_fresh around (suc m.col) node p n.text r h))) in
     let t = text_passes reads inner refl node m p n.text r h now refl refl (fits_key refl here refl fits)
     (follows_key here refl refl n.text r refl n.are apart white) (v.low, inl refl) _ ready in

@@ -224,8 +224,8 @@ abbrev pub IsEntryIndentation : ℕ → List ℕ → Type 0
 IsEntryIndentation m t = (filler : List ℕ) × IsFiller filler × (t ≡ filler ++ spaces m)
 
 abbrev mutual
-  -- 8.2.3 [196]: a node in block style, by its kind and its position: left out, in flow style up to the end of its line,
-  -- a block scalar, or a block collection after what leads to its first entry
+  -- 8.2.3 [196]: a node in block style, by its kind and its position: left out, in flow style up to the end of its
+  -- line, a block scalar, or a block collection after what leads to its first entry
   pub IsBlockNode : ℕ → Node → Position → List ℕ → List ℕ → Type 0
   IsBlockNode room (Alias name) place t behind = IsFlowInBlock room (Alias name) place t behind
   IsBlockNode room (Scalar p style value) place t behind =
