@@ -14,7 +14,7 @@ use Rattle.yaml_tree.specs.declared.document.Document.{Document}
 use Rattle.yaml_tree.specs.declared.loading.Loader.{Loader}
 use Rattle.yaml_tree.specs.Unloading.{document_events, unload}
 use Rattle.yaml_tree.specs.BuilderSeen.{nest_of}
-use Rattle.yaml_tree.specs.LoaderSeen.{TakesEvents}
+use Rattle.yaml_tree.specs.LoaderSeen.{LoaderTakes}
 use Rattle.yaml_tree.specs.DocumentLoading.{ComesBetweenDocuments, with_stream_start, NestOn, AtMost, PassesDocument, PassesNoDocument, LoadsDocument, LeavesLess, LeavesBehindLook, LeavesBehindDocument}
 use Rattle.yaml_tree.specs.DocumentSeen.{GoesOnBehind, LeavesPart, nest_in_stream, HoldsLast}
 use Rattle.yaml_tree.proofs.Nests.{leaves_stream}
@@ -73,10 +73,10 @@ module _ (limits : Limits) (before : List Happening) (at : AtMost StreamStart be
   -- ## A document that ended
 
   abbrev Ended : Type 0
-  Ended = TakesEvents false limits before (Ok true) all left l
+  Ended = LoaderTakes false limits before (Ok true) all left l
 
   abbrev Rested : Type 0
-  Rested = TakesEvents false limits before (Ok false) all left l
+  Rested = LoaderTakes false limits before (Ok false) all left l
 
   ends_here : (t : Ended) → happenings t.1.taken ≡ happenings t.1.inner ++ DocumentEnd ∷ []
   ends_here t = ap happenings t.1.up_to ∙ happenings-append t.1.inner (t.1.last ∷ [])
@@ -179,7 +179,7 @@ not_nested before (h ∷ hs) f is none w =
 
 pub loads_last : (limits : Limits) (before : List Happening) (b : Bool) (all left : Answer) (l : Loader)
     (r : Result (Option Document) TreeFault) → AtMost StreamStart before → GoesOnBehind before all
-    → TakesEvents false limits before (Ok b) all left l → HoldsLast r l.builder → LoadsDocument limits r all left
+    → LoaderTakes false limits before (Ok b) all left l → HoldsLast r l.builder → LoadsDocument limits r all left
 loads_last limits before true all left l (Ok (Some d)) at on t h = finds limits before at all left l d t h
 loads_last limits before true all left l (Ok None) at on t h = absurd (finds_some limits before at all left l t h)
 loads_last limits before true all left l (Err fault.NotFresh) at on t h =
@@ -192,7 +192,7 @@ loads_last limits before false all left l (Err fault.NotFresh) at on t h =
 loads_last limits before b all left l (Err _) at on t h = absurd h
 
 pub fails_in_document : (f : TreeFault) (limits : Limits) (before : List Happening) (all left : Answer) (l : Loader)
-    → GoesOnBehind before all → TakesEvents false limits before (Err f) all left l
+    → GoesOnBehind before all → LoaderTakes false limits before (Err f) all left l
     → LoadsDocument limits (Err f) all left
 fails_in_document fault.NotFresh limits before all left l on h =
     inr (on.0, not_nested before (happenings all.events) all.fault on.1 h)
@@ -250,7 +250,7 @@ leaves_found before old looked new r looks (stays, on) leaves =
 
 pub leaves_last : (limits : Limits) (before : List Happening) (b : Bool) (old new : EventCursor) (l : Loader)
     (r : Result (Option Document) TreeFault) → AtMost StreamStart before → GoesOnBehind before (to_come old)
-    → TakesEvents false limits before (Ok b) (to_come old) (to_come new) l → HoldsLast r l.builder
+    → LoaderTakes false limits before (Ok b) (to_come old) (to_come new) l → HoldsLast r l.builder
     → LeavesPart (Ok b) old new → LeavesBehindLook r old new
 leaves_last limits before true old new l (Ok (Some d)) at on t h k = k
 leaves_last limits before true old new l (Ok None) at on t h k =

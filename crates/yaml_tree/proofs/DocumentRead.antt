@@ -12,7 +12,7 @@ use Rattle.yaml_tree.specs.declared.fault.TreeFault.TheVariants as fault
 use Rattle.yaml_tree.specs.declared.tally.Limits.{Limits}
 use Rattle.yaml_tree.specs.Counting.{no_nodes, StayWithin}
 use Rattle.yaml_tree.specs.LoaderSeen.{nest_behind_both}
-use Rattle.yaml_tree.specs.Loading.{Fails, FailsToParse, Forbids, GoOn, Stops, TakesRest, TakesToEnd}
+use Rattle.yaml_tree.specs.Loading.{FailsToTake, FailsToParse, Forbids, GoOn, Stops, TakesRest, TakesToEnd}
 use Rattle.yaml_tree.specs.Tables.{Event}
 use Rattle.yaml_tree.proofs.DocumentEnds.{none_more}
 use Rattle.yaml_tree.proofs.LastItems.{nothing_before}
@@ -98,7 +98,7 @@ module _ (wanted : Bool) (Held : List Event → Type 0) (all a b : Answer) (e : 
   -- it can't be taken
   pub fails_behind : (Ill Later : Type 0) (f : TreeFault) (limits : Limits) → (Ill → Later)
       → StayWithin limits (happenings r.taken) no_nodes
-      → Forbids Ill f limits (happenings (r.taken ++ e ∷ [])) e.1.start → Fails wanted Later limits f all b
+      → Forbids Ill f limits (happenings (r.taken ++ e ∷ [])) e.1.start → FailsToTake wanted Later limits f all b
   fails_behind Ill Later fault.NotFresh limits later within why = later why
   fails_behind Ill Later (fault.Parse f) limits later within why = absurd why
   fails_behind Ill Later fault.OutOfMemory limits later within why = stops_behind fault.OutOfMemory limits within why
@@ -160,8 +160,8 @@ memory_is_no_refusal mark info e = cc
 
 -- where memory ran out before the first event nothing but that fault can be answered
 pub fails_lost : (wanted : Bool) (Ill Other : Type 0) (f : TreeFault) (limits : Limits) (all left : Answer)
-    → 0 < count all → (Ill → ⊥) → Fails wanted Ill limits f (fault_alone OutOfMemory) left
-    → Fails wanted Other limits f all left
+    → 0 < count all → (Ill → ⊥) → FailsToTake wanted Ill limits f (fault_alone OutOfMemory) left
+    → FailsToTake wanted Other limits f all left
 fails_lost wanted Ill Other (fault.Parse (parse.Scan e)) limits all left some nests h =
     absurd (memory_is_no_refusal _ _ h.0)
 fails_lost wanted Ill Other (fault.Parse parse.OutOfMemory) limits all left some nests h = (

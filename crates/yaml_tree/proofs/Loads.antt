@@ -9,7 +9,7 @@ use Rattle.yaml_tree.specs.declared.document.Document.{Document}
 use Rattle.yaml_tree.specs.declared.loading.Loader.{Loader}
 use Rattle.saphyr_parser.specs.Nesting.{Nest, nest_behind_stream, IsAtStart, IsNested, IsWhole}
 use Rattle.yaml_tree.specs.BuilderSeen.{Finishes}
-use Rattle.yaml_tree.specs.LoaderSeen.{TakesEvents}
+use Rattle.yaml_tree.specs.LoaderSeen.{LoaderTakes}
 use Rattle.yaml_tree.specs.Loading.{LoadsDocuments}
 use Rattle.yaml_tree.proofs.DocumentRead.{fails_lost}
 
@@ -25,12 +25,12 @@ whole_is_complete f o n e g w =
 
 -- where all events are wanted no document's end is the last
 pub takes_all : (limits : Limits) (ended : Bool) (all left : Answer) (l : Loader)
-    → TakesEvents true limits [] (Ok ended) all left l → ended ≡ false
+    → LoaderTakes true limits [] (Ok ended) all left l → ended ≡ false
 takes_all limits true all left l t = absurd (true≢false t.0)
 takes_all limits false all left l t = refl
 
 pub loads_all : (limits : Limits) (all left : Answer) (l : Loader) (r : Result (Vec Document Global) TreeFault)
-    → IsAtStart all → TakesEvents true limits [] (Ok false) all left l → Finishes r l.builder
+    → IsAtStart all → LoaderTakes true limits [] (Ok false) all left l → Finishes r l.builder
     → LoadsDocuments limits r all left
 loads_all limits all left l (Ok documents) b t f =
     (f.0 ∙ t.holds.1.written, t.fault, t.holds.1.within, t.nothing)
@@ -39,7 +39,7 @@ loads_all limits all left l (Err fault.NotFresh) b t f =
 loads_all limits all left l (Err _) b t f = absurd f
 
 pub loads_none : (limits : Limits) (all left : Answer) (l : Loader) (f : TreeFault) → IsAtStart all
-    → TakesEvents true limits [] (Err f) all left l → LoadsDocuments limits (Err f) all left
+    → LoaderTakes true limits [] (Err f) all left l → LoadsDocuments limits (Err f) all left
 loads_none limits all left l fault.NotFresh b none = inr (b, λ w. no_nest all.fault _ none w)
 loads_none limits all left l _ b h = h
 

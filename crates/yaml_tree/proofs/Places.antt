@@ -52,7 +52,8 @@ begins _ (whole first parts last s nodes end) =
 no_node : IsNode [] → ⊥
 no_node n = elim n [ ]
 
-pub no_nodes_yet : (doc : List Event) (parts : List (List Event)) → AreNodes parts → [] ≡ doc ++ all_of parts → parts ≡ []
+pub no_nodes_yet : (doc : List Event) (parts : List (List Event)) → AreNodes parts → [] ≡ doc ++ all_of parts
+    → parts ≡ []
 no_nodes_yet doc [] nodes e = refl
 no_nodes_yet (x ∷ doc) (own ∷ others) nodes e = absurd (cc)
 no_nodes_yet [] ([] ∷ others) (one_more _ _ n m) e = absurd (no_node n)

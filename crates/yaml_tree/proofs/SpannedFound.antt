@@ -14,7 +14,7 @@ use Rattle.yaml_tree.specs.declared.spans.SpanKeeper.{SpanKeeper}
 use Rattle.yaml_tree.specs.declared.spanned_loading.SpannedLoader.{SpannedLoader}
 use Rattle.yaml_tree.specs.DocumentLoading.{AtMost}
 use Rattle.yaml_tree.specs.DocumentSeen.{GoesOnBehind, HoldsLast}
-use Rattle.yaml_tree.specs.LoaderSeen.{TakesEvents}
+use Rattle.yaml_tree.specs.LoaderSeen.{LoaderTakes}
 use Rattle.yaml_tree.specs.KeeperSeen.{HandsOutLast, HasKeptNone, HasSpans, KeepsTaken, ReturnsLast, document_of, kept_spans}
 use Rattle.yaml_tree.specs.Unloading.{document_events}
 use Rattle.yaml_tree.specs.Spanning.{IsSpannedDocument, all_spans, kept_behind_all}
@@ -45,7 +45,7 @@ paired d s r all left is spanned =
 
 module _ (limits : Limits) (before : List Happening) (b : Bool) (all left : Answer) (first : SpanKeeper)
     (l : SpannedLoader) (r : Result (Option Pair) TreeFault) (at : AtMost StreamStart before)
-    (on : GoesOnBehind before all) (t : TakesEvents false limits before (Ok b) all left l.loader)
+    (on : GoesOnBehind before all) (t : LoaderTakes false limits before (Ok b) all left l.loader)
     (k : KeepsTaken all left first l.keeper) (none : HasKeptNone first) where
   pairs_with : (held : Result (Option Document) TreeFault) → HoldsLast held l.loader.builder
       → ReturnsLast held l.keeper.ended.items r → IsPaired held r all left
@@ -65,7 +65,7 @@ module _ (limits : Limits) (before : List Happening) (b : Bool) (all left : Answ
 
 pub pairs : (limits : Limits) (before : List Happening) (b : Bool) (all left : Answer) (first : SpanKeeper)
     (l : SpannedLoader) (r : Result (Option Pair) TreeFault) → AtMost StreamStart before → GoesOnBehind before all
-    → TakesEvents false limits before (Ok b) all left l.loader → KeepsTaken all left first l.keeper → HasKeptNone first
+    → LoaderTakes false limits before (Ok b) all left l.loader → KeepsTaken all left first l.keeper → HasKeptNone first
     → (h : HandsOutLast r l) → IsPaired h.0 r all left
 pairs limits before b all left first l r at on t k none h =
     pairs_with limits before b all left first l r at on t k none h.0 h.1 h.2

@@ -10,7 +10,7 @@ use Rattle.yaml_tree.specs.declared.spans.SpanKeeper.{SpanKeeper}
 use Rattle.yaml_tree.specs.declared.spans.SpannedDocuments.{SpannedDocuments}
 use Rattle.yaml_tree.specs.declared.spanned_loading.SpannedLoader.{SpannedLoader}
 use Rattle.yaml_tree.specs.BuilderSeen.{Finishes}
-use Rattle.yaml_tree.specs.LoaderSeen.{TakesEvents}
+use Rattle.yaml_tree.specs.LoaderSeen.{LoaderTakes}
 use Rattle.yaml_tree.specs.Leaving.{LeavesParser}
 use Rattle.yaml_tree.specs.Spanning.{KeptSpans, IsSpannedStream, all_spans, kept_behind, kept_behind_all}
 use Rattle.yaml_tree.specs.KeeperSeen.{HasKeptNone, KeepsTaken, kept_spans, documents_of}
@@ -50,7 +50,7 @@ keeps_all all left first k r e =
 -- ## The documents
 
 pub gives_spans : (r : Result SpannedDocuments TreeFault) (limits : Limits) (all mid left : Answer)
-    (l : SpannedLoader) (first : SpanKeeper) → Stays all mid → TakesEvents true limits [] (Ok false) mid left l.loader
+    (l : SpannedLoader) (first : SpanKeeper) → Stays all mid → LoaderTakes true limits [] (Ok false) mid left l.loader
     → KeepsTaken mid left first l.keeper → HasKeptNone first
     → Finishes (documents_of r) l.loader.builder
     → IfOk r (λ s. map all_spans s.spans.items ≡ (kept_spans l.keeper).ended)

@@ -12,7 +12,7 @@ use Rattle.yaml_tree.specs.declared.tally.Limits.{Limits}
 use Rattle.yaml_tree.specs.declared.document.Document.{Document}
 use Rattle.yaml_tree.specs.Unloading.{document_events}
 use Rattle.yaml_tree.specs.Counting.{no_nodes, StayWithin}
-use Rattle.yaml_tree.specs.Loading.{Fails}
+use Rattle.yaml_tree.specs.Loading.{FailsToTake}
 use Rattle.yaml_tree.specs.Leaving.{HasHandedOut, LeavesFrom}
 
 -- ## Where a document may come next
@@ -70,7 +70,7 @@ pub record PassesNoDocument (all left : Answer) : Type 0 where
 
 -- A fault, before which no document ended, and what it leaves. No text's events fail to nest.
 abbrev pub FailsInDocument : Limits → TreeFault → Answer → Answer → Type 0
-FailsInDocument limits f all left = Fails false (NestOn (happenings all.events) all.fault → ⊥) limits f all left
+FailsInDocument limits f all left = FailsToTake false (NestOn (happenings all.events) all.fault → ⊥) limits f all left
 
 -- What a call answers, and what it leaves of all that was still to come. The limits are on this document alone.
 abbrev pub LoadsDocument : Limits → Result (Option Document) TreeFault → Answer → Answer → Type 0

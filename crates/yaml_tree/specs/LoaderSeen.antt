@@ -10,7 +10,7 @@ use Rattle.yaml_tree.specs.declared.loading.Loader.{Loader}
 use Rattle.yaml_tree.specs.BuilderSeen.{builder_events, nest_of}
 use Rattle.yaml_tree.specs.TallySeen.{counts_of}
 use Rattle.yaml_tree.specs.Counting.{no_nodes, counts_behind_all, StayWithin}
-use Rattle.yaml_tree.specs.Loading.{Forbids, Takes}
+use Rattle.yaml_tree.specs.Loading.{Forbids, TakesComing}
 use Rattle.yaml_tree.specs.Tables.{Event}
 
 -- where these events lead, behind those from before
@@ -32,7 +32,7 @@ TakesLast (Err f) limits before es place new =
     Forbids (nest_behind_both before es ≡ None) f limits (happenings es) place
 
 -- what a loader takes of all that is still to come
-abbrev pub TakesEvents : Bool → Limits → List Happening → Result Bool TreeFault → Answer → Answer → Loader → Type 0
-TakesEvents wanted limits before r all left l =
-    Takes wanted (λ es. HasTaken limits before es l) (λ es. HasTaken limits before es l)
+abbrev pub LoaderTakes : Bool → Limits → List Happening → Result Bool TreeFault → Answer → Answer → Loader → Type 0
+LoaderTakes wanted limits before r all left l =
+    TakesComing wanted (λ es. HasTaken limits before es l) (λ es. HasTaken limits before es l)
     (nest_behind_both before all.events ≡ None) limits r all left

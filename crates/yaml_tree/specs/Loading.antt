@@ -84,25 +84,25 @@ FailsToParse wanted limits parse.OutOfMemory all left = RunsOut wanted limits al
 FailsToParse wanted limits _ all left = ⊥
 
 -- A fault, and what it leaves of all that was still to come. Where events don't nest this holds.
-abbrev pub Fails : Bool → Type 0 → Limits → TreeFault → Answer → Answer → Type 0
-Fails wanted Ill limits (fault.Parse f) all left = FailsToParse wanted limits f all left
-Fails wanted Ill limits fault.NotFresh all left = Ill
-Fails wanted Ill limits f all left = Stops wanted f limits all left
+abbrev pub FailsToTake : Bool → Type 0 → Limits → TreeFault → Answer → Answer → Type 0
+FailsToTake wanted Ill limits (fault.Parse f) all left = FailsToParse wanted limits f all left
+FailsToTake wanted Ill limits fault.NotFresh all left = Ill
+FailsToTake wanted Ill limits f all left = Stops wanted f limits all left
 
 -- What a loader takes of all that is still to come: up to the end of a document, where not all events are wanted, or
 -- all; and what holds of these.
-abbrev pub Takes : Bool → (AtEnd Holds : List Event → Type 0) → Type 0 → Limits → Result Bool TreeFault → Answer
+abbrev pub TakesComing : Bool → (AtEnd Holds : List Event → Type 0) → Type 0 → Limits → Result Bool TreeFault → Answer
     → Answer → Type 0
-Takes wanted AtEnd Holds Ill limits (Ok true) all left = (wanted ≡ false) × TakesToEnd AtEnd all left
-Takes wanted AtEnd Holds Ill limits (Ok false) all left =
+TakesComing wanted AtEnd Holds Ill limits (Ok true) all left = (wanted ≡ false) × TakesToEnd AtEnd all left
+TakesComing wanted AtEnd Holds Ill limits (Ok false) all left =
     TakesRest (λ es. GoOn wanted (happenings es) × Holds es) all left
-Takes wanted AtEnd Holds Ill limits (Err f) all left = Fails wanted Ill limits f all left
+TakesComing wanted AtEnd Holds Ill limits (Err f) all left = FailsToTake wanted Ill limits f all left
 
 -- ## Answers
 
 -- No text's events fail to nest.
 abbrev pub FailsToLoad : Limits → TreeFault → Answer → Answer → Type 0
-FailsToLoad limits f all left = Fails true (IsNested all → ⊥) limits f all left
+FailsToLoad limits f all left = FailsToTake true (IsNested all → ⊥) limits f all left
 
 -- events were handed out before, and nothing is passed
 abbrev pub IsLate : Answer → Answer → Type 0

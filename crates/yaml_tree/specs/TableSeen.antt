@@ -11,7 +11,7 @@ use Rattle.yaml_tree.specs.declared.tally.Limits.{Limits}
 use Rattle.yaml_tree.specs.Counting.{StayWithin, counts_behind_all, no_nodes}
 use Rattle.yaml_tree.specs.TallySeen.{counts_of}
 use Rattle.yaml_tree.specs.GrowerSeen.{HasGrown, HasNoneOpen}
-use Rattle.yaml_tree.specs.Loading.{Forbids, Takes}
+use Rattle.yaml_tree.specs.Loading.{Forbids, TakesComing}
 use Rattle.yaml_tree.specs.Tables.{Event, IsTable}
 
 -- the grower has taken exactly these events
@@ -29,8 +29,8 @@ GrowsByLast (Err f) limits es place new = Forbids ⊥ f limits (happenings es) p
 -- what a grower takes of all that is still to come
 abbrev pub GrowsByEvents : Bool → Limits → Result Bool TreeFault → Answer → Answer → Grower → Type 0
 GrowsByEvents wanted limits r all left g =
-    Takes wanted (λ es. HasGrownWithin limits es g × HasNoneOpen g.growth) (λ es. HasGrownWithin limits es g) ⊥ limits
-    r all left
+    TakesComing wanted (λ es. HasGrownWithin limits es g × HasNoneOpen g.growth)
+    (λ es. HasGrownWithin limits es g) ⊥ limits r all left
 
 -- no document is open, and the table is whole
 abbrev pub FinishesTable : List Event → Result NodeTable TreeFault → Type 0

@@ -70,7 +70,7 @@ pub(crate) struct Loader {
 }
 
 impl Loader {
-    ghost use Rattle.yaml_tree.specs.LoaderSeen.{HasTaken, TakesEvents, TakesLast};
+    ghost use Rattle.yaml_tree.specs.LoaderSeen.{HasTaken, LoaderTakes, TakesLast};
 
     pub(crate) fn new(alloc: Global, limits: Limits) -> Loader
         ensures { HasTaken limits [] [] result }
@@ -98,7 +98,7 @@ impl Loader {
         all: bool,
     ) -> Result<bool, TreeFault>
         ensures takes { (limits : Limits) (before : List Happening)
-            → HasTaken limits before [] self.old → TakesEvents all limits before result
+            → HasTaken limits before [] self.old → LoaderTakes all limits before result
             (to_come parser.old) (to_come parser.new) self.new }
         ensures leaves { (limits : Limits) (before : List Happening)
             → HasTaken limits before [] self.old → LeavesPart result parser.old parser.new }

@@ -55,7 +55,7 @@ pub(crate) struct SpannedLoader {
 }
 
 impl SpannedLoader {
-    ghost use Rattle.yaml_tree.specs.LoaderSeen.{HasTaken, TakesEvents, TakesLast};
+    ghost use Rattle.yaml_tree.specs.LoaderSeen.{HasTaken, LoaderTakes, TakesLast};
     ghost use Rattle.yaml_tree.specs.BuilderSeen.{Finishes};
 
     pub(crate) fn new(alloc: Global, limits: Limits) -> SpannedLoader
@@ -86,7 +86,7 @@ impl SpannedLoader {
         all: bool,
     ) -> Result<bool, TreeFault>
         ensures takes { (limits : Limits) (before : List Happening)
-            → HasTaken limits before [] self.old.loader → TakesEvents all limits before result
+            → HasTaken limits before [] self.old.loader → LoaderTakes all limits before result
             (to_come parser.old) (to_come parser.new) self.new.loader }
         ensures keeps { OnOk result (KeepsTaken (to_come parser.old) (to_come parser.new)
             self.old.keeper self.new.keeper) }

@@ -13,8 +13,8 @@ returns-in-Some-clause-here c = λ is es t.
 pub returns-in-Some-clause-not_here : goal.returns-in-Some-clause-not_here
 returns-in-Some-clause-not_here c = λ is es own t at has.
     anchor_not_here c.args.self.now c.args.number c.args.id c.in-Some.entry.now c.in-Some.ensures
-    (λ h told. subst (λ (b : Bool). TellsAnchor c.args.id (id_of_anchor h) b) is (c.tells_anchor.ensures h told)) es own t
-    at has
+    (λ h told. subst (λ (b : Bool). TellsAnchor c.args.id (id_of_anchor h) b) is (c.tells_anchor.ensures h told))
+    es own t at has
 
 pub returns-in-None-clause-not_here : goal.returns-in-None-clause-not_here
 returns-in-None-clause-not_here c = λ _ es own t at has.
