@@ -29,7 +29,7 @@ const OPEN_WEIGHT: usize = 1;
 const ANCHOR_WEIGHT: usize = 4;
 
 /// How many bytes of a text take as long to read as a reader takes to copy, at least.
-const COPY_WEIGHT: usize = 256;
+const COPY_WEIGHT: usize = 512;
 
 /// Whether a reader has read so much since a copy that a new one pays: most of the copy's text, and not just a little.
 pub(super) fn is_far(copied: usize, left: usize) -> bool {
@@ -280,11 +280,11 @@ impl PieceReader {
     /// Whether the reader's text is a line of a collection alone, which may be a key up to the next line.
     pub(super) fn may_be_key(&self) -> bool {
         let text = self.reader.input().as_str();
+        if !text.starts_with(['\n', '\r']) || !self.is_before_little(text) {
+            return false;
+        }
         let line = text.trim_ascii_start();
-        text.starts_with(['\n', '\r'])
-            && line.starts_with(['[', '{'])
-            && self.is_before_little(text)
-            && is_closed_line(line)
+        line.starts_with(['[', '{']) && is_closed_line(line)
     }
 
     // Whether what came may end what waits, or is many times as much. Each byte is looked at once.
