@@ -145,7 +145,7 @@ impl PieceReader {
         self.more.clear();
         self.seen = 0;
         self.looked = 0;
-        self.starved = false;
+        self.starved = self.may_be_key();
         Ok(())
     }
 
@@ -165,7 +165,7 @@ impl PieceReader {
             Progress::Event => {
                 self.passed = None;
                 self.count(&next.0);
-                self.starved = self.tells_nothing();
+                self.starved = self.tells_nothing(&next.0);
                 Some(Progress::Event)
             }
             Progress::Fault => self.fault_or_wait(fault),

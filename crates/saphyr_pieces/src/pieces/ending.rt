@@ -63,29 +63,17 @@ fn first_column(lines: &str) -> Option<usize> {
     None
 }
 
-// How many spaces a line has that has so many already, but no more than a column. `None`: content is left of that.
-fn spaces_of(line: &str, before: usize, column: usize) -> Option<usize> {
-    let mut spaces = before;
-    for b in line.bytes() {
-        if spaces >= column {
-            return Some(column);
-        }
-        if b != b' ' {
-            return None;
-        }
-        spaces = spaces.saturating_add(1);
-    }
-    Some(spaces)
-}
-
 // What ends a block scalar whose lines begin at a column, behind more of it.
 fn behind_lines(came: &str, column: usize, before: usize) -> Ending {
     let mut spaces = before;
-    for (number, line) in came.split('\n').enumerate() {
-        let from = if number > 0 { 0 } else { spaces };
-        match spaces_of(line, from, column) {
-            Some(count) => spaces = count,
-            None => return Ending::Any,
+    for b in came.bytes() {
+        if b == b'\n' {
+            spaces = 0;
+        } else if spaces < column {
+            if b != b' ' {
+                return Ending::Any;
+            }
+            spaces = spaces.saturating_add(1);
         }
     }
     Ending::Line { column, spaces }

@@ -29,7 +29,7 @@ const OPEN_WEIGHT: usize = 1;
 const ANCHOR_WEIGHT: usize = 4;
 
 /// How many bytes of a text take as long to read as a reader takes to copy, at least.
-const COPY_WEIGHT: usize = 256;
+const COPY_WEIGHT: usize = 512;
 
 /// Whether a reader has read so much since a copy that a new one pays: most of the copy's text, and not just a little.
 pub(super) fn is_far(copied: usize, left: usize) -> bool {
@@ -99,17 +99,17 @@ fn may_close(part: &str) -> bool {
         || part.bytes().any(|b| matches!(b, b'\r' | b']' | b'}'))
 }
 
-// The first byte of a node behind dashes, or a line feed, and how many dashes there are.
+// The first byte of a node behind dashes and question marks, or a line feed, and how many of these there are.
 fn first_of_node(text: &str) -> (u8, usize) {
-    let mut dashes: usize = 0;
+    let mut marks: usize = 0;
     for b in text.bytes() {
-        if b == b'-' {
-            dashes = dashes.saturating_add(1);
+        if matches!(b, b'-' | b'?') {
+            marks = marks.saturating_add(1);
         } else if b != b' ' {
-            return (b, dashes);
+            return (b, marks);
         }
     }
-    (b'\n', dashes)
+    (b'\n', marks)
 }
 
 // Whether a text is a line or a part of one, and no colon in it may end a key.
@@ -134,7 +134,7 @@ fn is_quoted_line(quote: u8, behind: &str) -> bool {
     for b in behind.bytes() {
         let is_usual = if !is_open {
             is_open = quote == b'\'' && b == quote && last == quote;
-            is_open || matches!(b, b' ' | b'\n')
+            is_open || matches!(b, b' ' | b'\r' | b'\n')
         } else if quote == b'"' && last == b'\\' {
             matches!(b, b'n' | b't' | b'"')
         } else {
@@ -149,19 +149,41 @@ fn is_quoted_line(quote: u8, behind: &str) -> bool {
     true
 }
 
-// Whether a text is a line or a part of one, of a scalar that may go on.
-fn is_scalar_line(text: &str) -> bool {
-    let (first, dashes) = first_of_node(text);
-    let begins_otherwise = match first {
-        // Behind a dash it may be a key up to the next line.
-        b'"' | b'\'' => {
-            let node = text.trim_start_matches(['-', ' ']);
-            let behind = node.strip_prefix(first as char).unwrap_or(node);
-            return dashes > 0 && is_quoted_line(first, behind) && !begins_marker(text);
+// Whether a text is a line whose last bracket ends a collection, which no colon follows.
+fn is_closed_line(text: &str) -> bool {
+    let Some(line) = text.strip_suffix('\n') else {
+        return false;
+    };
+    let mut last = 0;
+    for b in line.strip_suffix('\r').unwrap_or(line).bytes() {
+        let is_key = b == b':' && matches!(last, b']' | b'}');
+        if is_key || matches!(b, b'\n' | b'\r') {
+            return false;
         }
-        b'[' | b']' | b'{' | b'}' | b'%' | b'@' | b'`' | b'?' | b',' | 0xEF => true,
-        // A dash may begin a list, of which an event comes, and in which the scalar has another column.
-        b'|' | b'>' => dashes > 0,
+        if !matches!(b, b' ' | b'\t') {
+            last = b;
+        }
+    }
+    matches!(last, b']' | b'}')
+}
+
+// Whether a text, in front of which a dash was read or not, is a line or a part of one, of a scalar that may go on, or a
+// line of a collection that may be a key up to the next.
+fn is_undecided_line(text: &str, behind_dash: bool) -> bool {
+    let (first, marks) = first_of_node(text);
+    let begins_otherwise = match first {
+        // What is behind it is looked at before it is decided.
+        b'"' | b'\'' => {
+            let node = text.trim_start_matches(['-', '?', ' ']);
+            let behind = node.strip_prefix(first as char).unwrap_or(node);
+            return is_quoted_line(first, behind) && !begins_marker(text);
+        }
+        b'[' | b'{' => {
+            return (behind_dash || marks > 0) && is_closed_line(text) && !begins_marker(text);
+        }
+        b']' | b'}' | b'%' | b'@' | b'`' | b',' | 0xEF => true,
+        // A mark may begin a collection, of which an event comes, and in which the scalar has another column.
+        b'|' | b'>' => marks > 0,
         b'&' | b'!' => text
             .bytes()
             .any(|b| matches!(b, b'"' | b'\'' | b'[' | b'{')),
@@ -243,13 +265,26 @@ impl PieceReader {
         }
     }
 
-    /// Whether the reader's text has no event yet, or may well have none, as a line of a scalar that may go on.
-    pub(super) fn tells_nothing(&self) -> bool {
+    // Whether a node comes next in the reader's text, and that is little.
+    fn is_before_little(&self, text: &str) -> bool {
+        text.len() < LITTLE && text.len() <= self.look_past && self.reader.node_column().is_some()
+    }
+
+    /// Whether the reader's text behind an event has no other one yet, or may well have none.
+    pub(super) fn tells_nothing(&self, event: &Event<'static>) -> bool {
         let text = self.reader.input().as_str();
-        text.len() < LITTLE
-            && text.len() <= self.look_past
-            && self.reader.node_column().is_some()
-            && is_scalar_line(text)
+        let behind_dash = matches!(event, Event::SequenceStart(..));
+        self.is_before_little(text) && is_undecided_line(text, behind_dash)
+    }
+
+    /// Whether the reader's text is a line of a collection alone, which may be a key up to the next line.
+    pub(super) fn may_be_key(&self) -> bool {
+        let text = self.reader.input().as_str();
+        if !text.starts_with(['\n', '\r']) || !self.is_before_little(text) {
+            return false;
+        }
+        let line = text.trim_ascii_start();
+        line.starts_with(['[', '{']) && is_closed_line(line)
     }
 
     // Whether what came may end what waits, or is many times as much. Each byte is looked at once.
@@ -276,6 +311,14 @@ impl PieceReader {
         is_much || matches!(ending, Ending::Any)
     }
 
+    // Where the lines begin of which none was searched.
+    fn unsearched(&self) -> usize {
+        match self.more.get(..self.looked) {
+            Some(front) if front.ends_with('\n') => self.looked,
+            _ => 0,
+        }
+    }
+
     // Whether what came since the last look may decide an event.
     fn has_new(&mut self) -> bool
         requires sound { spec.IsSoundReader self.old }
@@ -284,6 +327,12 @@ impl PieceReader {
     {
         let looked = replace(&mut self.looked, self.more.len());
         self.more.get(looked..).is_none_or(may_matter) || self.more.starts_with("---")
+    }
+
+    // Whether what came from a place on may well decide an event.
+    fn may_decide_from(&self, from: usize) -> bool {
+        let column = self.column_of_end();
+        may_decide(self.more.get(from..).unwrap_or(""), column) || self.ends_line()
     }
 
     // Whether what came ends a line that the reader has with content, as where its line feed comes alone.
@@ -311,10 +360,9 @@ impl PieceReader {
         }
         let left = self.reader.input().as_str().len();
         let waits = left.saturating_add(self.weight);
+        let from = self.unsearched();
         let decides = if came < waits.max(LITTLE) {
-            waits < LITTLE
-                && self.has_new()
-                && (may_decide(&self.more, self.column_of_end()) || self.ends_line())
+            waits < LITTLE && self.has_new() && self.may_decide_from(from)
         } else {
             came.saturating_sub(self.seen) >= PART && self.may_end(waits)
         };
