@@ -1,3 +1,4 @@
 pub mod Later
 pub mod Printed
 pub mod Calls
+pub mod Long

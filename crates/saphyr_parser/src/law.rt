@@ -3,6 +3,7 @@
 mod calling;
 mod comparing;
 mod later;
+mod refusing;
 
 pub use calling::{
     hands_out_what_comes, hands_out_what_was_peeked, keeps_no_prefixes_at_first,
@@ -20,3 +21,4 @@ pub use event_laws::{
 pub use later::{
     keeps_spans_later, keeps_spans_over_load, leaves_later_parsers, loads_later_parsers,
 };
+pub use refusing::refuses_long_texts;
