@@ -1,5 +1,5 @@
 -- What each step of anchors, aliases and tags does, by the laws of the readers.
-use Rattle.saphyr_scanner.proofs.Common.{◌≡◌, ℕ, ◌+◌, ◌<◌, Bool, true, false, List, ◌∷◌, ◌++◌, length, Some, refl, sym, ap, ◌∙◌, arith, subst, inl, IsTrue, ◌==◌, slice_index, not, codes, colon, exclamation_mark, Span, IsTagText, EndsTag, Cursor, along}
+use Rattle.saphyr_scanner.proofs.Common.{◌≡◌, ℕ, ◌+◌, ◌<◌, Bool, true, false, List, ◌∷◌, ◌++◌, length, Some, refl, sym, ap, ◌∙◌, arith, subst, inl, inr, IsTrue, ◌==◌, slice_index, not, codes, colon, exclamation_mark, Span, IsHandleText, IsTagText, EndsTag, Cursor, along}
 use Rattle.saphyr_input.specs.Classes.{is_one_of}
 use Rattle.saphyr_scalar.specs.Steps.Anchor as anchors
 use Rattle.saphyr_scalar.specs.Steps.Tag as tags
@@ -56,9 +56,14 @@ pub an_anchor : Named tokens.Anchor 38
 an_anchor = grind arith
 
 -- a tag begins with `!`
-pub tag_begins : (text behind handle suffix : List ℕ) → IsTagText text handle suffix
+tag_begins : (text behind handle suffix : List ℕ) → IsTagText text handle suffix
     → slice_index (text ++ behind) 0 ≡ exclamation_mark
-tag_begins text behind handle suffix h = grind arith
+tag_begins text behind handle suffix (inl h) = ap (λ t. slice_index (t ++ behind) 0) h.0
+tag_begins text behind handle suffix (inr (inl h)) = ap (λ t. slice_index (t ++ behind) 0) h.3
+tag_begins text behind handle suffix (inr (inr h)) = ap (λ t. slice_index (t ++ behind) 0) h.4 ∙ by h.1
+  where
+    by : IsHandleText handle → slice_index ((handle ++ h.0) ++ behind) 0 ≡ exclamation_mark
+    by h = grind arith
 
 -- what a name's token leaves known of an entry of brackets
 abbrev pub NameKeeps : (List ℕ → Kind) → ℕ → Type 0
