@@ -10,9 +10,9 @@ counts the files of which the first line with a place, and of which any, names a
 table of docs/CHECK_YAML.md has these counts. With --table it prints them for each kind and for other programs, where
 they are installed; with --each the files of which `check_yaml` names no such place first, with what it prints; with
 --write it writes printed.txt.
-The files of the folders later and unseen, and their places, were written before any program ran on them. Help was
-mended with those of later at hand. Don't look at what is printed of those of unseen while you mend it: --each leaves
-them out.
+The files of the folders later, unseen and fresh, and their places, were written before any program ran on them. Help
+was mended with those of later at hand. Don't look at what is printed of those of unseen while you mend it: --each
+leaves them out. Those of fresh are of kinds that none of the others has, and are counted by themselves.
 The program is the one that `rt ci`, or `rt run` in its folder, left in out/. --table and --each need none.
 """
 
@@ -31,9 +31,10 @@ PRINTED = CASES / "printed.txt"
 PAGE = ROOT / "docs/CHECK_YAML.md"
 PROGRAM = ROOT / "crates/check_yaml/out/check_yaml"
 # The numbers of mistakes whose place has to be named first, and at all.
-WANTED_FIRST, WANTED = 254, 255
+WANTED_FIRST, WANTED, WANTED_FRESH = 254, 255, 27
 # The folders of files that were written later, as the table counts them.
-SETS = {"later": "*later*, as mended", "unseen": "*unseen*"}
+FRESH = "*fresh*"
+SETS = {"later": "*later*, as mended", "unseen": "*unseen*", "fresh": FRESH}
 # What node prints of files: the places of each, as the libraries `yaml` and `js-yaml` tell them.
 NODE = """
 const fs = require("fs"), yaml = require("yaml"), js = require("js-yaml");
@@ -154,7 +155,8 @@ def counts(places_of):
     for mistake in mistakes():
         places = places_of(mistake.name)
         one = (1, is_named(mistake, places[:1]), is_named(mistake, places))
-        for kind in (mistake.kind, set_of(mistake.name), "all"):
+        of_set = set_of(mistake.name)
+        for kind in (mistake.kind, of_set, *(["all"] if of_set != FRESH else [])):
             found[kind] = [count + add for count, add in zip(found[kind], one)]
     return found
 
@@ -195,12 +197,16 @@ def main():
     if "--write" in sys.argv:
         PRINTED.write_text(printed, encoding="utf-8")
     same = printed == PRINTED.read_text(encoding="utf-8")
-    total, first, named = counts(places_of_checker)["all"]
-    told = f"| `check_yaml` | {first} | {named} |" in PAGE.read_text(encoding="utf-8")
+    found = counts(places_of_checker)
+    total, first, named = found["all"]
+    fresh = found[FRESH][1]
+    page = PAGE.read_text(encoding="utf-8")
+    told = f"| `check_yaml` | {first} | {named} |" in page and f"first place of {fresh} is right" in page
     other = "" if same else ", and other lines than in printed.txt"
     other += "" if told else ", and other counts than in CHECK_YAML.md"
-    print(f"mistakes: of {total} {first} named first, {named} at all{other}")
-    sys.exit(0 if same and told and first >= WANTED_FIRST and named >= WANTED else 1)
+    print(f"mistakes: of {total} {first} named first, {named} at all, and {fresh} fresh ones first{other}")
+    enough = first >= WANTED_FIRST and named >= WANTED and fresh >= WANTED_FRESH
+    sys.exit(0 if same and told and enough else 1)
 
 
 if __name__ == "__main__":

@@ -19,17 +19,6 @@ fn not_utf8() -> io::Error {
     io::Error::new(ErrorKind::InvalidFilename, "the name is not UTF-8")
 }
 
-/// What a call names: a link counts as what it leads to, and `-` is standard input.
-pub fn kind_of_named(rt: &HostRuntime, path: &str) -> Kind {
-    if path == "-" {
-        return Kind::File;
-    }
-    match fs::metadata(rt, path) {
-        Ok(found) if found.is_dir() => Kind::Folder,
-        _ => Kind::File,
-    }
-}
-
 /// The entries of a folder, in the order in which the system lists them.
 pub fn list(rt: &HostRuntime, folder: &FileName) -> io::Result<Vec<Entry>> {
     if !folder.is_utf8 {

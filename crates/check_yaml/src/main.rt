@@ -11,10 +11,10 @@ ghost use Rattle.std.specs.Process.{exit_status};
 
 mod disk;
 
-use disk::{kind_of_named, list, open};
+use disk::{list, open};
 use std::alloc::{AllocError, Global};
 use std::env::Env;
-use std::io::{BufWriter, Write};
+use std::io::{BufWriter, ErrorKind, Write};
 use std::process::ExitCode;
 use yaml_check::{
     Call, CheckFault, Entry, FileName, HELP, Kind, Options, Verdict, Walk, WrongCall, check_source,
@@ -98,7 +98,7 @@ fn check_named(rt: &HostRuntime, options: Options, names: &[&FileName]) -> ExitC
     }
 }
 
-// The files and folders that the call names, or standard input.
+// What the call names, or standard input. That a file is a folder is known once it can't be read.
 fn named(rt: &HostRuntime, names: &[&FileName]) -> Result<Vec<Entry>, AllocError> {
     let mut entries = Vec::new(rt.alloc());
     for name in names {
@@ -116,10 +116,12 @@ fn push_named(
     text: &str,
     is_utf8: bool,
 ) -> Result<(), AllocError> {
-    let kind = kind_of_named(rt, text);
     let text = String::from_str(rt.alloc(), text)?;
-    let name = FileName { text, is_utf8 };
-    match entries.push(Entry { name, kind }) {
+    let entry = Entry {
+        name: FileName { text, is_utf8 },
+        kind: Kind::File,
+    };
+    match entries.push(entry) {
         Ok(()) => Ok(()),
         Err(_) => Err(AllocError),
     }
@@ -128,11 +130,14 @@ fn push_named(
 // Checks each file and the files below each folder. Once something can't be written, no more is checked.
 fn check_all(rt: &HostRuntime, options: Options, mut walk: Walk) -> ExitCode {
     let mut answers = Vec::new(rt.alloc());
+    let Ok(mut out) = BufWriter::new(rt.alloc(), rt.stdout()) else {
+        return refuse(rt, "out of memory");
+    };
     for _ in 0..u64::MAX {
         let Some(entry) = walk.next() else {
             break;
         };
-        let answer = check_entry(rt, options, &mut walk, &entry);
+        let answer = check_entry(rt, options, &mut walk, &entry, &mut out);
         drop(entry);
         if answers.push(answer).is_err() {
             return refuse(rt, "out of memory");
@@ -145,19 +150,15 @@ fn check_all(rt: &HostRuntime, options: Options, mut walk: Walk) -> ExitCode {
 }
 
 // Checks a file or enters a folder. What is printed is gathered, since each event is a line of its own.
-fn check_entry(
+fn check_entry<W: Write>(
     rt: &HostRuntime,
     options: Options,
     walk: &mut Walk,
     entry: &Entry,
+    out: &mut W,
 ) -> Result<Verdict, CheckFault> {
-    let Ok(mut out) = BufWriter::new(rt.alloc(), rt.stdout()) else {
-        return say_unchecked(rt, &entry.name, CheckFault::OutOfMemory);
-    };
-    let answer = visit(rt, options, walk, entry, &mut out);
-    let flushed = out.flush();
-    drop(out);
-    match (answer, flushed) {
+    let answer = visit(rt, options, walk, entry, out);
+    match (answer, out.flush()) {
         (_, Err(_)) => say_unchecked(rt, &entry.name, CheckFault::CantWrite),
         (Err(CheckFault::CantRead(error)), Ok(())) => Err(CheckFault::CantRead(error)),
         (Err(fault), Ok(())) => say_unchecked(rt, &entry.name, fault),
@@ -190,15 +191,30 @@ fn visit<W: Write>(
     entry: &Entry,
     out: &mut W,
 ) -> Result<Verdict, CheckFault> {
-    let name = entry.name.text.as_str();
     let answer = match entry.kind {
         Kind::Folder => enter(rt, walk, &entry.name),
-        Kind::File | Kind::Other => check_file(rt, options, &entry.name, out),
+        Kind::File | Kind::Other => check_file_or_enter(rt, options, walk, &entry.name, out),
     };
     if let Err(CheckFault::CantRead(error)) = answer {
-        tell_unread(rt.alloc(), name, error, options, out)?;
+        tell_unread(rt.alloc(), entry.name.text.as_str(), error, options, out)?;
     }
     answer
+}
+
+// Checks a file, or enters what turns out to be a folder.
+fn check_file_or_enter<W: Write>(
+    rt: &HostRuntime,
+    options: Options,
+    walk: &mut Walk,
+    name: &FileName,
+    out: &mut W,
+) -> Result<Verdict, CheckFault> {
+    match check_file(rt, options, name, out) {
+        Err(CheckFault::CantRead(error)) if error.kind() == ErrorKind::IsADirectory => {
+            enter(rt, walk, name)
+        }
+        answer => answer,
+    }
 }
 
 // Puts what is checked of a folder's entries before what is still to come.

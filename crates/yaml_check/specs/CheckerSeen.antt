@@ -6,7 +6,7 @@ use Rattle.yaml_check.specs.Warned.{Seen}
 
 abbrev pub seen_of : Checker → Seen
 seen_of c = record {
-  on = c.rules;
+  on = c.warnings.rules;
   limits = record { depth = c.depth; nodes = c.count.most };
   begun = c.content.begun;
   left = c.count.left;

@@ -1,5 +1,5 @@
 -- The keys of the mappings that are open, and which of them are twice.
-use Rattle.std.specs.Prelude.{ℕ, List, [], ◌∷◌, ◌++◌, Option, Some, None, option_map, string_bytes, String}
+use Rattle.std.specs.Prelude.{ℕ, List, [], ◌∷◌, ◌++◌, Option, Some, None, option_map}
 use Rattle.std.specs.Ordering.{ordering_then, nat_cmp}
 use Rattle.std.specs.declared.cmp.Ordering.{Ordering}
 use Rattle.std.specs.Cmp.Lexicographic.{slice_cmp}
@@ -24,12 +24,21 @@ tag_name (Some tag) = tag.handle ++ tag.suffix
 abbrev pub key_of : List ℕ → Option ResolvedTag → Key
 key_of text tag = (text, tag_name tag)
 
-abbrev pub key_bytes : {Y : Type 0} → String Y × String Y → Key
-key_bytes key = (string_bytes key.0, string_bytes key.1)
-
 -- keys by their texts, and equal texts by their tags
 abbrev pub key_cmp : Key → Key → Ordering
 key_cmp k q = ordering_then (slice_cmp nat_cmp k.0 q.0) (slice_cmp nat_cmp k.1 q.1)
+
+-- where an equal key comes first among others, if one does
+abbrev pub first_among : Key → List (Key × Marker) → Option Marker
+first_among key places = lookup (is_at (key_cmp key)) places
+
+abbrev pub keep_first : Option Marker → Key → Marker → List (Key × Marker) → List (Key × Marker)
+keep_first (Some first) key place places = places
+keep_first None key place places = insert_entry key_cmp places key place
+
+-- a key with its place among others, unless an equal one is there
+abbrev pub with_first_among : Key → Marker → List (Key × Marker) → List (Key × Marker)
+with_first_among key place places = keep_first (first_among key places) key place places
 
 -- What the next node is in a collection, and where each key comes first that it has so far.
 pub record KeyLevel : Type 0 where
@@ -47,20 +56,12 @@ next_behind next.Value = next.Key
 abbrev pub behind_node : KeyLevel → KeyLevel
 behind_node l = record { next = next_behind l.next; places = l.places }
 
--- where an equal key comes first, if one does
-abbrev pub first_place : Key → KeyLevel → Option Marker
-first_place key l = lookup (is_at (key_cmp key)) l.places
-
-abbrev pub keep_first : Option Marker → Key → Marker → KeyLevel → KeyLevel
-keep_first (Some first) key place l = l
-keep_first None key place l = record { next = l.next; places = insert_entry key_cmp l.places key place }
-
 abbrev pub with_first_place : Key → Marker → KeyLevel → KeyLevel
-with_first_place key place l = keep_first (first_place key l) key place l
+with_first_place key place l = record { next = l.next; places = with_first_among key place l.places }
 
 -- of a scalar that is a key: where an equal key comes first in its mapping, if one does
 abbrev pub first_if : Next → Key → KeyLevel → Option Marker
-first_if next.Key key l = first_place key l
+first_if next.Key key l = first_among key l.places
 first_if _ key l = None
 
 abbrev pub equal_key_place : Key → KeyLevel → Option Marker

@@ -15,6 +15,7 @@ pub mod Mended
 pub mod OpenSeen
 pub mod Opened
 pub mod Places
+pub mod PlacesSeen
 pub mod Remarks
 pub mod Reports
 pub mod Rules

@@ -69,17 +69,8 @@ remarks_on_nodes m = if is_on_first_character m
     then remark.OtherComment ∷ remark.AllowedColon ∷ remark.Template ∷ remark.MissingComma ∷ []
     else (remarks_on_signs m)))))
 
-abbrev pub remarks_on_lines : List ℕ → List Remark
-remarks_on_lines m = if bytes_eq m (words fault.KeyWithoutColon)
-    then remark.NoBreakSpace ∷ remark.IdeographicSpace ∷ remark.OtherSpace ∷ remark.ZeroWidth
-    ∷ remark.OtherComment ∷ remark.WideColon ∷ remark.NoBlankBehindDash ∷ remark.NoBlankBehindColon
-    ∷ remark.BlockScalarColumn ∷ remark.ValueColumn ∷ remark.NoColon ∷ []
-    else (if bytes_eq m (words fault.ValueNotAllowed)
-    then remark.TypographersQuote ∷ remark.NoBreakSpace ∷ remark.IdeographicSpace ∷ remark.OtherSpace ∷ remark.ZeroWidth
-    ∷ remark.OtherComment ∷ remark.ColonInText ∷ remark.WideColon ∷ remark.NoBlankBehindDash ∷ remark.OtherColumn
-    ∷ remark.TooFarRight ∷ remark.NoBlankBehindColon ∷ remark.BlockScalarColumn ∷ remark.ValueColumn
-    ∷ remark.NoColon ∷ []
-    else (if bytes_eq m (words fault.BlockMappingKeyExpected)
+abbrev pub remarks_on_columns : List ℕ → List Remark
+remarks_on_columns m = if bytes_eq m (words fault.BlockMappingKeyExpected)
     then remark.Template ∷ remark.NoBreakSpace ∷ remark.IdeographicSpace ∷ remark.OtherSpace ∷ remark.ZeroWidth
     ∷ remark.KeyBeginsWithDash ∷ remark.BlockScalarColumn ∷ remark.NoDash ∷ remark.Mixed ∷ remark.OtherColumn
     ∷ remark.MappingColumn ∷ []
@@ -91,7 +82,19 @@ remarks_on_lines m = if bytes_eq m (words fault.KeyWithoutColon)
     then remark.OtherColumn ∷ []
     else (if bytes_eq m (words fault.SequenceEntryNotAllowed)
     then remark.SequenceLine ∷ []
-    else (remarks_on_nodes m))))))
+    else (remarks_on_nodes m))))
+
+abbrev pub remarks_on_lines : List ℕ → List Remark
+remarks_on_lines m = if bytes_eq m (words fault.KeyWithoutColon)
+    then remark.NoBreakSpace ∷ remark.IdeographicSpace ∷ remark.OtherSpace ∷ remark.ZeroWidth
+    ∷ remark.OtherComment ∷ remark.WideColon ∷ remark.NoBlankBehindDash ∷ remark.NoBlankBehindColon
+    ∷ remark.BlockScalarColumn ∷ remark.ValueColumn ∷ remark.NoColon ∷ []
+    else (if bytes_eq m (words fault.ValueNotAllowed)
+    then remark.TypographersQuote ∷ remark.NoBreakSpace ∷ remark.IdeographicSpace ∷ remark.OtherSpace ∷ remark.ZeroWidth
+    ∷ remark.OtherComment ∷ remark.ColonInText ∷ remark.WideColon ∷ remark.NoBlankBehindDash ∷ remark.OtherColumn
+    ∷ remark.TooFarRight ∷ remark.NoBlankBehindColon ∷ remark.BlockScalarColumn ∷ remark.ValueColumn
+    ∷ remark.NoColon ∷ []
+    else (remarks_on_columns m))
 
 abbrev pub remarks_on : List ℕ → List Remark
 remarks_on m = if is_on_quotes m

@@ -56,6 +56,9 @@ with_more_nodes n s = record { here = more_nodes n s.here; outer = s.outer; know
 abbrev pub with_known : ℕ → ℕ → List (ℕ × ℕ) → List (ℕ × ℕ)
 with_known id n known = if nat_eq id 0 then known else insert_entry nat_cmp known id n
 
+abbrev pub with_known_size : ℕ → ℕ → SizesOpen → SizesOpen
+with_known_size id n s = record { here = s.here; outer = s.outer; known = insert_entry nat_cmp s.known id n }
+
 abbrev pub with_ended_node : ℕ → ℕ → SizesOpen → SizesOpen
 with_ended_node id n s = record { here = more_nodes n s.here; outer = s.outer; known = with_known id n s.known }
 

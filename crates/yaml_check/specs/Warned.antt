@@ -1,10 +1,11 @@
 -- The warnings on events.
-use Rattle.std.specs.Prelude.{ℕ, ◌==◌, ◌&&◌, List, [], ◌∷◌, ◌++◌, Bool, true, false, Option, Some, None, if◌then◌else◌}
+use Rattle.std.specs.Prelude.{◌≡◌, ℕ, ◌==◌, ◌&&◌, List, [], ◌∷◌, ◌++◌, Bool, true, false, Option, Some, None, if◌then◌else◌}
 use Rattle.saphyr_parser.specs.Words.Span.{Span}
 use Rattle.saphyr_parser.specs.Events.{Happening}
 use Rattle.yaml_check.specs.declared.checking.Limits.{Limits}
 use Rattle.yaml_check.specs.declared.warning.PlacedWarning.{PlacedWarning}
 use Rattle.yaml_check.specs.declared.warning.Warning.{Warning}
+use Rattle.yaml_check.specs.declared.warning.Warnings.{Warnings}
 use Rattle.yaml_check.specs.declared.warning.Warning.TheVariants as warning
 use Rattle.yaml_check.specs.declared.rules.Rule.{Rule}
 use Rattle.yaml_check.specs.declared.rules.Rule.TheVariants as rule
@@ -32,6 +33,11 @@ told_if false f = []
 abbrev pub told_by : RuleSet → Option PlacedWarning → List PlacedWarning
 told_by on None = []
 told_by on (Some f) = told_if (is_on on (rule_of f.warning)) f
+
+-- a warning was told after others, if there is one and its rule is on
+pub record AreTold (told : Option PlacedWarning) (old new : Warnings) : Type 0 where
+  pub list : new.list.items ≡ old.list.items ++ told_by old.rules told
+  pub rules : new.rules ≡ old.rules
 
 -- what was seen of the events so far, and which rules are on
 pub record Seen : Type 0 where
@@ -62,8 +68,12 @@ seen_behind what span s = record {
   sizes = sizes_behind what s.sizes;
 }
 
+-- a collection begins where as many as allowed are open
+abbrev pub is_too_deep : Seen → Happening → Bool
+is_too_deep s what = is_collection what && (open_collections s.sizes == s.limits.depth)
+
 abbrev pub depth_warning : Seen → Happening → Span → Option PlacedWarning
-depth_warning s what span = if is_collection what && (open_collections s.sizes == s.limits.depth)
+depth_warning s what span = if is_too_deep s what
     then Some (record { span = span; warning = warning.TooDeep s.limits.depth }) else None
 
 -- what is told of an event

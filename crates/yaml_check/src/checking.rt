@@ -25,7 +25,7 @@ use crate::rules::RuleSet;
 use crate::sizes::Sizes;
 use crate::standard::departures;
 use crate::view::characters;
-use crate::warning::{PlacedWarning, Warning};
+use crate::warning::{PlacedWarning, Warning, Warnings};
 use saphyr_parser::{Event, Fault, Input, Parser, Progress, ScanError, Span, no_event};
 use std::alloc::{AllocError, Global};
 use std::mem::replace;
@@ -41,14 +41,13 @@ pub struct Limits {
 /// The rules, and the warnings so far.
 #[derive(Drop)]
 struct Checker {
-    rules: RuleSet,
     depth: usize,
     content: Content,
     count: Count,
     keys: Keys,
     sizes: Sizes,
     open: Open,
-    warnings: Vec<PlacedWarning>,
+    warnings: Warnings,
 }
 
 /// What is found in a text: the warnings of the rules that are on, the parser's fault if it refuses the text, and
@@ -262,7 +261,7 @@ fn check_events<T: Input + Drop>(
 {
     let mut checker = Checker::new(alloc, options.rules, options.limits);
     let ended = checker.take_all(parser);
-    let warnings = replace(&mut checker.warnings, Vec::new(alloc));
+    let warnings = replace(&mut checker.warnings.list, Vec::new(alloc));
     let open = replace(&mut checker.open, Open::new(alloc));
     drop(checker);
     match ended {
@@ -289,25 +288,24 @@ impl Checker {
     /// Nothing was met yet.
     fn new(alloc: Global, rules: RuleSet, limits: Limits) -> Checker
         ensures seen { seen_of result ≡ warned.nothing_seen rules limits }
-        ensures warnings { result.warnings.items ≡ [] }
+        ensures warnings { result.warnings.list.items ≡ [] }
         ensures open { open_of result.open ≡ opened.nothing_open }
     {
         Checker {
-            rules,
             depth: limits.depth,
             content: Content::new(),
             count: Count::new(limits.nodes),
             keys: Keys::new(alloc),
             sizes: Sizes::new(alloc),
             open: Open::new(alloc),
-            warnings: Vec::new(alloc),
+            warnings: Warnings::new(alloc, rules),
         }
     }
 
     /// Takes all events, up to a fault.
     fn take_all<T: Input + Drop>(&mut self, parser: Parser<'_, T>) -> Result<(), Fault>
         ensures ended { EndsAs result (to_come parser.entry) }
-        ensures warned { OnceEnded result (self.new.warnings.items ≡ self.old.warnings.items
+        ensures warned { OnceEnded result (self.new.warnings.list.items ≡ self.old.warnings.list.items
             ++ warned.warnings_on (to_come parser.entry).events (seen_of self.old)) }
         ensures open { OnceEnded result (open_of self.new.open
             ≡ opened.open_on (to_come parser.entry).events (open_of self.old.open)) }
@@ -326,7 +324,7 @@ impl Checker {
         next: &mut (Event<'input>, Span),
     ) -> Result<(), Fault>
         ensures ended { EndsAs result (to_come parser.old) }
-        ensures warned { OnceEnded result (self.new.warnings.items ≡ self.old.warnings.items
+        ensures warned { OnceEnded result (self.new.warnings.list.items ≡ self.old.warnings.list.items
             ++ warned.warnings_on (to_come parser.old).events (seen_of self.old)) }
         ensures open { OnceEnded result (open_of self.new.open
             ≡ opened.open_on (to_come parser.old).events (open_of self.old.open)) }
@@ -334,7 +332,7 @@ impl Checker {
         let mut fault = Fault::OutOfMemory;
         loop {
             match parser.next_event_into(next, &mut fault) {
-                Progress::Event => self.take(&next.0, next.1)?,
+                Progress::Event => self.take(&next.0, &next.1)?,
                 Progress::Fault => return Err(fault),
                 Progress::Over => return Ok(()),
             }
@@ -342,53 +340,30 @@ impl Checker {
     }
 
     /// Takes an event with its span.
-    fn take(&mut self, event: &Event, span: Span) -> Result<(), AllocError>
+    fn take(&mut self, event: &Event, span: &Span) -> Result<(), AllocError>
         ensures behind { OnOk result (seen_of self.new
-            ≡ warned.seen_behind (happening event.now) span (seen_of self.old)) }
-        ensures told { OnOk result (self.new.warnings.items ≡ self.old.warnings.items
-            ++ warned.warnings_at (happening event.now) span (seen_of self.old)) }
+            ≡ warned.seen_behind (happening event.now) span.now (seen_of self.old)) }
+        ensures told { OnOk result (self.new.warnings.list.items ≡ self.old.warnings.list.items
+            ++ warned.warnings_at (happening event.now) span.now (seen_of self.old)) }
         ensures open { OnOk result (open_of self.new.open
-            ≡ opened.opened_behind (happening event.now) span (open_of self.old.open)) }
+            ≡ opened.opened_behind (happening event.now) span.now (open_of self.old.open)) }
     {
-        let deep = self.too_deep(event, span);
-        let empty = self.content.take(event, span);
-        let many = self.count.take(event, span);
-        let same = self.keys.take(event, span)?;
-        let wide = self.sizes.take(event, span)?;
-        self.open.take(event, span)?;
-        self.warn(empty)?;
-        self.warn(same)?;
-        self.warn(wide)?;
-        self.warn(deep)?;
-        self.warn(many)
+        let is_deep = self.is_too_deep(event);
+        self.content.take(event, span, &mut self.warnings)?;
+        self.keys.take(event, span, &mut self.warnings)?;
+        self.sizes.take(event, span, &mut self.warnings)?;
+        if is_deep {
+            self.warnings.warn(*span, Warning::TooDeep(self.depth))?;
+        }
+        self.count.take(event, span, &mut self.warnings)?;
+        self.open.take(event, span)
     }
 
-    /// Warns of a collection if as many as allowed are already open around it.
-    fn too_deep(&self, event: &Event, span: Span) -> Option<PlacedWarning>
-        ensures { result ≡ warned.depth_warning (seen_of self.now) (happening event.now) span }
+    /// Whether a collection begins where as many as allowed are already open around it.
+    fn is_too_deep(&self, event: &Event) -> bool
+        ensures { result ≡ warned.is_too_deep (seen_of self.now) (happening event.now) }
     {
         let begins = matches!(event, Event::SequenceStart(..) | Event::MappingStart(..));
-        if !begins || self.sizes.depth() != self.depth {
-            return None;
-        }
-        Some(PlacedWarning {
-            span,
-            warning: Warning::TooDeep(self.depth),
-        })
-    }
-
-    /// Keeps a warning, if there is one and its rule is on.
-    fn warn(&mut self, told: Option<PlacedWarning>) -> Result<(), AllocError>
-        ensures told { OnOk result (self.new.warnings.items
-            ≡ self.old.warnings.items ++ warned.told_by self.old.rules told) }
-        ensures behind { seen_of self.new ≡ seen_of self.old }
-        ensures open { open_of self.new.open ≡ open_of self.old.open }
-    {
-        if let Some(finding) = told {
-            if self.rules.has(finding.warning.rule()) {
-                self.warnings.push(finding)?;
-            }
-        }
-        Ok(())
+        begins && self.sizes.depth() == self.depth
     }
 }

@@ -1,10 +1,12 @@
 //! Documents without content.
-ghost use Rattle.std.specs.Prelude.{◌≡◌};
+ghost use Rattle.std.specs.Prelude.{◌≡◌, OnOk};
 ghost use Rattle.saphyr_parser.specs.Views.Events.{happening};
 ghost use Rattle.yaml_check.specs.Contents as spec;
+ghost use Rattle.yaml_check.specs.Warned.{AreTold};
 
-use crate::warning::{PlacedWarning, Warning};
+use crate::warning::{Warning, Warnings};
 use saphyr_parser::{Event, ScalarStyle, Span};
+use std::alloc::AllocError;
 
 /// Looks for documents without content.
 #[derive(Clone, Copy)]
@@ -21,22 +23,29 @@ impl Content {
     }
 
     /// Takes an event with its span, and warns of a root that is left out.
-    pub(crate) fn take(&mut self, event: &Event, span: Span) -> Option<PlacedWarning>
-        ensures told { result ≡ spec.content_warning self.old.begun (happening event.now) }
-        ensures behind { self.new.begun ≡ spec.begun_behind (happening event.now) span }
+    pub(crate) fn take(
+        &mut self,
+        event: &Event,
+        span: &Span,
+        warnings: &mut Warnings,
+    ) -> Result<(), AllocError>
+        ensures told { OnOk result (AreTold
+            (spec.content_warning self.old.begun (happening event.now)) warnings.old warnings.new) }
+        ensures behind { OnOk result
+            (self.new.begun ≡ spec.begun_behind (happening event.now) span.now) }
     {
-        let begun = self.begun;
-        self.begun = match event {
-            Event::DocumentStart(_) => Some(span),
-            _ => None,
-        };
-        if !is_empty_node(event) {
-            return None;
+        if let Event::DocumentStart(_) = event {
+            self.begun = Some(*span);
+            return Ok(());
         }
-        begun.map(|span| PlacedWarning {
-            span,
-            warning: Warning::EmptyDocument,
-        })
+        let Some(begun) = self.begun else {
+            return Ok(());
+        };
+        self.begun = None;
+        if is_empty_node(event) {
+            warnings.warn(begun, Warning::EmptyDocument)?;
+        }
+        Ok(())
     }
 }
 

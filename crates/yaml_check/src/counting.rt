@@ -1,10 +1,12 @@
 //! How many nodes a text has.
-ghost use Rattle.std.specs.Prelude.{◌≡◌};
+ghost use Rattle.std.specs.Prelude.{◌≡◌, OnOk};
 ghost use Rattle.saphyr_parser.specs.Views.Events.{happening};
 ghost use Rattle.yaml_check.specs.Counting as spec;
+ghost use Rattle.yaml_check.specs.Warned.{AreTold};
 
-use crate::warning::{PlacedWarning, Warning};
+use crate::warning::{Warning, Warnings};
 use saphyr_parser::{Event, Span};
+use std::alloc::AllocError;
 
 /// Looks for the first node over the limit.
 #[derive(Clone, Copy)]
@@ -27,24 +29,30 @@ impl Count {
     }
 
     /// Takes an event with its span, and warns of the first node over the limit.
-    pub(crate) fn take(&mut self, event: &Event, span: Span) -> Option<PlacedWarning>
-        ensures told { result
-            ≡ spec.node_warning self.old.most self.old.left (happening event.now) span }
-        ensures behind { self.new.left ≡ spec.left_behind (happening event.now) self.old.left }
+    pub(crate) fn take(
+        &mut self,
+        event: &Event,
+        span: &Span,
+        warnings: &mut Warnings,
+    ) -> Result<(), AllocError>
+        ensures told { OnOk result (AreTold
+            (spec.node_warning self.old.most self.old.left (happening event.now) span.now)
+            warnings.old warnings.new) }
+        ensures behind { OnOk result
+            (self.new.left ≡ spec.left_behind (happening event.now) self.old.left) }
         ensures most { self.new.most ≡ self.old.most }
     {
         if !is_node(event) {
-            return None;
+            return Ok(());
         }
-        let left = self.left?;
+        let Some(left) = self.left else {
+            return Ok(());
+        };
         self.left = left.checked_sub(1);
         if left > 0 {
-            return None;
+            return Ok(());
         }
-        Some(PlacedWarning {
-            span,
-            warning: Warning::TooManyNodes(self.most),
-        })
+        warnings.warn(*span, Warning::TooManyNodes(self.most))
     }
 }
 

@@ -11,6 +11,7 @@ mod counting;
 mod encoding;
 mod escapes;
 mod finding;
+mod first_places;
 mod folders;
 mod help;
 mod json;

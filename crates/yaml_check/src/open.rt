@@ -42,14 +42,14 @@ impl Open {
     }
 
     /// Takes an event with its span.
-    pub(crate) fn take(&mut self, event: &Event, span: Span) -> Result<(), AllocError>
+    pub(crate) fn take(&mut self, event: &Event, span: &Span) -> Result<(), AllocError>
         ensures { OnOk result (open_of self.new
-            ≡ spec.opened_behind (happening event.now) span (open_of self.old)) }
+            ≡ spec.opened_behind (happening event.now) span.now (open_of self.old)) }
     {
         self.behind = span.end;
         match event {
-            Event::SequenceStart(..) => self.open(Shape::Sequence, span),
-            Event::MappingStart(..) => self.open(Shape::Mapping, span),
+            Event::SequenceStart(..) => self.open(Shape::Sequence, *span),
+            Event::MappingStart(..) => self.open(Shape::Mapping, *span),
             Event::SequenceEnd | Event::MappingEnd => {
                 self.starts.pop();
                 Ok(())

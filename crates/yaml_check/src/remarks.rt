@@ -69,7 +69,16 @@ fn remarks_on_lines(message: &str) -> &'static [Remark]
             Remark::ValueColumn,
             Remark::NoColon,
         ]
-    } else if message == FaultText::BlockMappingKeyExpected.words() {
+    } else {
+        remarks_on_columns(message)
+    }
+}
+
+/// The same for faults of lines in collections without brackets, and of what is in no collection.
+fn remarks_on_columns(message: &str) -> &'static [Remark]
+    ensures { result.now ≡ spec.remarks_on_columns message.now }
+{
+    if message == FaultText::BlockMappingKeyExpected.words() {
         &[
             Remark::Template,
             Remark::NoBreakSpace,

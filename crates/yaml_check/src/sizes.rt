@@ -1,9 +1,10 @@
 //! Aliases that stand for many nodes.
-ghost use Rattle.std.specs.Prelude.{◌≡◌, None, IfOk, OnOk};
+ghost use Rattle.std.specs.Prelude.{◌≡◌, OnOk};
 ghost use Rattle.saphyr_parser.specs.Views.Events.{happening};
 ghost use Rattle.yaml_check.specs.Sizes as spec;
+ghost use Rattle.yaml_check.specs.Warned.{AreTold};
 
-use crate::warning::{PlacedWarning, Warning};
+use crate::warning::{Warning, Warnings};
 use saphyr_parser::{Event, Span};
 use std::alloc::{AllocError, Global};
 use std::collections::BTreeMap;
@@ -58,82 +59,90 @@ impl Sizes {
     pub(crate) fn take(
         &mut self,
         event: &Event,
-        span: Span,
-    ) -> Result<Option<PlacedWarning>, AllocError>
-        ensures told { IfOk result (λ told.
-            told ≡ spec.alias_warning (seen.sizes_of self.old) (happening event.now) span) }
+        span: &Span,
+        warnings: &mut Warnings,
+    ) -> Result<(), AllocError>
+        ensures told { OnOk result (AreTold (spec.alias_warning (seen.sizes_of self.old)
+            (happening event.now) span.now) warnings.old warnings.new) }
         ensures behind { OnOk result (seen.sizes_of self.new
             ≡ spec.sizes_behind (happening event.now) (seen.sizes_of self.old)) }
     {
         match event {
-            Event::Alias(id) => Ok(self.take_alias(*id, span)),
+            Event::Alias(id) => self.take_alias(*id, span, warnings),
             Event::Scalar(_, _, id, _) => self.end_node(*id, 1),
             Event::SequenceStart(id, _) | Event::MappingStart(id, _) => self.open(*id),
             Event::SequenceEnd | Event::MappingEnd => self.close(),
-            _ => Ok(None),
+            _ => Ok(()),
         }
     }
 
     /// Takes an alias. An alias inside the node that it stands for is infinite.
-    fn take_alias(&mut self, id: usize, span: Span) -> Option<PlacedWarning>
-        ensures told { result
-            ≡ spec.size_warning (spec.ended_size id (seen.sizes_of self.old)) span }
-        ensures behind { seen.sizes_of self.new ≡ spec.with_more_nodes
-            (spec.size_at id (seen.sizes_of self.old)) (seen.sizes_of self.old) }
+    fn take_alias(
+        &mut self,
+        id: usize,
+        span: &Span,
+        warnings: &mut Warnings,
+    ) -> Result<(), AllocError>
+        ensures told { OnOk result (AreTold
+            (spec.size_warning (spec.ended_size id (seen.sizes_of self.old)) span.now)
+            warnings.old warnings.new) }
+        ensures behind { OnOk result (seen.sizes_of self.new ≡ spec.with_more_nodes
+            (spec.size_at id (seen.sizes_of self.old)) (seen.sizes_of self.old)) }
     {
         let ended = self.known.get(&id).copied();
         let nodes = ended.unwrap_or(usize::MAX);
         self.here.nodes = self.here.nodes.saturating_add(nodes);
-        size_warning(ended, span)
+        match ended {
+            None => warnings.warn(*span, Warning::AliasInItself),
+            Some(nodes) if nodes > WIDE => warnings.warn(*span, Warning::WideAlias(WIDE)),
+            Some(_) => Ok(()),
+        }
     }
 
     /// Counts a node that has ended and stands for this many.
-    fn end_node(&mut self, id: usize, nodes: usize) -> Result<Option<PlacedWarning>, AllocError>
-        ensures none { IfOk result (λ told. told ≡ None) }
-        ensures behind { OnOk result (seen.sizes_of self.new
+    #[inline(always)]
+    fn end_node(&mut self, id: usize, nodes: usize) -> Result<(), AllocError>
+        ensures { OnOk result (seen.sizes_of self.new
             ≡ spec.with_ended_node id nodes (seen.sizes_of self.old)) }
     {
         if id > 0 {
-            self.known.insert(id, nodes)?;
+            self.keep(id, nodes)?;
         }
         self.here.nodes = self.here.nodes.saturating_add(nodes);
-        Ok(None)
+        Ok(())
+    }
+
+    /// Keeps for how many nodes the node of an anchor stands.
+    // Few nodes have one, so it is a call of its own.
+    #[inline(never)]
+    fn keep(&mut self, id: usize, nodes: usize) -> Result<(), AllocError>
+        ensures { OnOk result (seen.sizes_of self.new
+            ≡ spec.with_known_size id nodes (seen.sizes_of self.old)) }
+    {
+        self.known.insert(id, nodes)?;
+        Ok(())
     }
 
     /// A collection with this anchor begins.
-    fn open(&mut self, anchor: usize) -> Result<Option<PlacedWarning>, AllocError>
-        ensures none { IfOk result (λ told. told ≡ None) }
-        ensures behind { OnOk result (seen.sizes_of self.new
+    fn open(&mut self, anchor: usize) -> Result<(), AllocError>
+        ensures { OnOk result (seen.sizes_of self.new
             ≡ spec.sizes_inside anchor (seen.sizes_of self.old)) }
     {
         self.outer.push(self.here)?;
         self.here = Size { anchor, nodes: 0 };
-        Ok(None)
+        Ok(())
     }
 
     /// The innermost collection ends.
-    fn close(&mut self) -> Result<Option<PlacedWarning>, AllocError>
-        ensures none { IfOk result (λ told. told ≡ None) }
-        ensures behind { OnOk result (seen.sizes_of self.new
+    fn close(&mut self) -> Result<(), AllocError>
+        ensures { OnOk result (seen.sizes_of self.new
             ≡ spec.sizes_outside (seen.sizes_of self.old)) }
     {
         let Some(outer) = self.outer.pop() else {
-            return Ok(None);
+            return Ok(());
         };
         let ended = self.here;
         self.here = outer;
         self.end_node(ended.anchor, ended.nodes.saturating_add(1))
     }
-}
-
-/// Warns of an alias by the size of its node, which has none before it ends.
-fn size_warning(ended: Option<usize>, span: Span) -> Option<PlacedWarning>
-    ensures { result ≡ spec.size_warning ended span }
-{
-    let warning = match ended {
-        None => Warning::AliasInItself,
-        Some(nodes) if nodes > WIDE => Warning::WideAlias(WIDE),
-        Some(_) => return None,
-    };
-    Some(PlacedWarning { span, warning })
 }

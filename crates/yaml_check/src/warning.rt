@@ -1,9 +1,10 @@
 //! What may be wrong with a text that the parser accepts.
-ghost use Rattle.std.specs.Prelude.{◌≡◌};
-ghost use Rattle.yaml_check.specs.Warned.{rule_of};
+ghost use Rattle.std.specs.Prelude.{◌≡◌, [], Some, OnOk};
+ghost use Rattle.yaml_check.specs.Warned.{AreTold, rule_of};
 
-use crate::rules::Rule;
+use crate::rules::{Rule, RuleSet};
 use saphyr_parser::{Marker, Span};
+use std::alloc::{AllocError, Global};
 use std::fmt;
 
 /// What may be wrong with a text that the parser accepts.
@@ -43,6 +44,36 @@ impl Warning {
 pub struct PlacedWarning {
     pub span: Span,
     pub warning: Warning,
+}
+
+/// The warnings so far, of the rules that are on.
+#[derive(Drop)]
+pub(crate) struct Warnings {
+    pub(crate) rules: RuleSet,
+    pub(crate) list: Vec<PlacedWarning>,
+}
+
+impl Warnings {
+    pub(crate) fn new(alloc: Global, rules: RuleSet) -> Warnings
+        ensures rules { result.rules ≡ rules }
+        ensures none { result.list.items ≡ [] }
+    {
+        Warnings {
+            rules,
+            list: Vec::new(alloc),
+        }
+    }
+
+    /// Keeps a warning, if its rule is on.
+    pub(crate) fn warn(&mut self, span: Span, warning: Warning) -> Result<(), AllocError>
+        ensures { OnOk result
+            (AreTold (Some (record { span = span; warning = warning })) self.old self.new) }
+    {
+        if self.rules.has(warning.rule()) {
+            self.list.push(PlacedWarning { span, warning })?;
+        }
+        Ok(())
+    }
 }
 
 impl fmt::Display for Warning {

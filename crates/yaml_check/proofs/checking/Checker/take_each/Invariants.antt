@@ -9,8 +9,8 @@ use Rattle.yaml_check.proofs.checking.Checker.take_each.Given as goal
 abbrev pub invariant-loop-self : goal.invariant-loop-self
 invariant-loop-self g l = record {
   fault : (to_come l.parser).fault ≡ (to_come l.fn.parser).fault;
-  warned : l.self.warnings.items ++ warnings_on (to_come l.parser).events (seen_of l.self)
-      ≡ l.fn.self.warnings.items ++ warnings_on (to_come l.fn.parser).events (seen_of l.fn.self);
+  warned : l.self.warnings.list.items ++ warnings_on (to_come l.parser).events (seen_of l.self)
+      ≡ l.fn.self.warnings.list.items ++ warnings_on (to_come l.fn.parser).events (seen_of l.fn.self);
   opened : open_on (to_come l.parser).events (open_of l.self.open)
       ≡ open_on (to_come l.fn.parser).events (open_of l.fn.self.open);
 }
