@@ -9,8 +9,8 @@
  *     faults
  *
  * A text comes behind a line with `1` or `0`, for `keep_tags`, and how many bytes it has. If its fault comes late, the
- * answer is a letter, how many bytes tell the fault, and the fault. The letter is `m` if the fault is not there with the
- * line of a marker either, and otherwise `l`. An answer ends in the byte FF.
+ * answer is a letter, how many bytes tell the fault, and the fault. The letter is `m` if the fault does not come with
+ * the line of a marker either, and otherwise `l`. An answer ends in the byte FF.
  */
 #include "printing.h"
 
