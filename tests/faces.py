@@ -5,10 +5,10 @@
 
 Builds the C programs of tests/faces and the crate of rust/, and runs each case of crates/test_cases/data through
 both: their events and places are to be the case's, and its lines those that `dump_events` prints. Cut at lines, before
-their ends or at bytes, each event has to be there when the rule of tests/prompt.py says. In the texts of
-tests/findings.py both find what `check_yaml` finds. The C face is misused, each request for memory over the worked
-texts and those is refused in turn, and where valgrind is there, it looks for leaks. Where
-there is no compiler of C or no cargo, it says so, tests nothing and fails, unless the variable SKIP_MISSING is set.
+their ends or at bytes, each event has to be there when the rule of tests/prompt.py says, and line by line each fault.
+In the texts of tests/findings.py both find what `check_yaml` finds. The C face is misused, each request for memory over
+the worked texts and those is refused in turn, and where valgrind is there, it looks for leaks. Where there is no
+compiler of C or no cargo, it says so, tests nothing and fails, unless the variable SKIP_MISSING is set.
 SAPHYR_PARSER_LIB may name another folder with the library, as an absolute path.
 """
 import concurrent.futures
@@ -25,7 +25,7 @@ import prompt
 from refused_memory import DATA, ROOT, cases_of, judge_lines, program, refuser, sweep, unescaped
 
 CRATE = f"{ROOT}/crates/saphyr_parser_c"
-PROGRAMS = ("cases", "dump_events", "findings", "misuse", "pieces", "refusals", "trees")
+PROGRAMS = ("cases", "dump_events", "faults", "findings", "misuse", "pieces", "refusals", "trees")
 PIECES = (1, 2, 3, 4096, "cuts")  # bytes, or two pieces, cut at each place
 CUTS = ("lines", "ends", "odd", "even", "bytes")  # the pieces with which an event has to be there in time
 REFUSED_PIECES = (0, 2, 4096)  # 0: the whole text
@@ -156,10 +156,14 @@ def check_prompt(made, how, cases):
             fail(f"{case.name}, in C by {how}: event {found[0]} is not there behind {found[1]} bytes")
 
 
+def page():
+    with open(f"{ROOT}/docs/FACES.md", encoding="utf-8") as it:
+        return it.read()
+
+
 def check_table(made):
     """The table of docs/FACES.md holds line by line and byte by byte."""
-    with open(f"{ROOT}/docs/FACES.md", encoding="utf-8") as it:
-        rows = list(prompt.table(it.read()))
+    rows = list(prompt.table(page()))
     text = prompt.table_text(rows)
     for how in ("lines", "bytes"):
         framed_text = b"0 %d\n" % len(text) + text
@@ -167,6 +171,33 @@ def check_table(made):
         for (line, wanted), brought in zip(rows, prompt.table_answers(rows, said.split("\n"))):
             if wanted != brought:
                 fail(f"the table of FACES.md by {how}: {line!r} brings {brought}")
+
+
+def late_kinds(made, texts):
+    """Of each text with its `keep_tags` of which kind its late fault is, or None."""
+    frames = b"".join(b"%d %d\n" % (keeps_tags, len(text)) + text for keeps_tags, text in texts)
+    answers = subprocess.run([made["faults"]], input=frames, capture_output=True).stdout.split(b"\xff")[:-1]
+    if len(answers) != len(texts):
+        fail(f"faults stopped behind {len(answers)} of {len(texts)} texts")
+    return [prompt.late_kind(text, answer.decode()) for (_, text), answer in zip(texts, answers)]
+
+
+def check_faults(made, cases, worked):
+    """The fault of each refused case, and of each worked text that is cut at a line, comes in time, but for the kinds
+    that docs/FACES.md lists. The text of each kind there is late, and no shorter one is."""
+    texts = [(case.keeps_tags, case.text.encode()) for case in cases if case.fault]
+    for case in worked:
+        lines = case.text.encode().splitlines(keepends=True)
+        texts += [(case.keeps_tags, b"".join(lines[:count])) for count in range(1, len(lines))]
+    listed_texts = dict(prompt.late_texts(page()))
+    for (_, text), kind in zip(texts, late_kinds(made, texts)):
+        if kind and kind not in listed_texts:
+            fail(f"line by line the fault of {text!r} comes late, and FACES.md lists no such text")
+    for kind, text in listed_texts.items():
+        shorter = [(False, it) for it in prompt.shorter_texts(text)]
+        *others, own = late_kinds(made, [*shorter, (False, text)])
+        if own != kind or kind in others:
+            fail(f"FACES.md: {text!r} is not the smallest text of which the fault comes late: {kind}")
 
 
 def check_trees(made, cases):
@@ -271,6 +302,7 @@ def main():
         list(pool.map(lambda count: check_pieces(made, count, cases), PIECES))
         list(pool.map(lambda how: check_prompt(made, how, cases), CUTS))
         check_table(made)
+        check_faults(made, cases, worked)
         list(pool.map(check_lines, (case for case in cases if not case.name.startswith("cut "))))
         cargo("test")
         said = subprocess.run([made["misuse"]], capture_output=True).stdout.decode()

@@ -1,5 +1,5 @@
-"""When an event has to be there, if a text is added in pieces that end with a line or before its end, or byte by byte:
-the rule of docs/FACES.md, "From a pipe".
+"""When an event and a fault have to be there, if a text is added in pieces that end with a line or before its end, or
+byte by byte: the rules of docs/FACES.md, "From a pipe".
 
 1. The line of a `---` or a `...` brings its own event, and all before it.
 2. An event that has characters of its own comes at the latest with the line in which the next such event begins. One
@@ -11,8 +11,12 @@ the rule of docs/FACES.md, "From a pipe".
 Behind a NUL, which a text may not have, nothing has to be there.
 
 The page's table says which events come with which line of a text.
+
+A fault comes with the line that tells it or with the next that has content, as tests/faces/faults.c has it. Its letter
+and the lines say which of the page's kinds a late one is of. Each kind has its smallest text.
 """
 import collections
+import itertools
 import re
 
 LITTLE = 256
@@ -20,6 +24,10 @@ PLACES = re.compile(r"> (.*) @ (\d+),\d+,\d+ (\d+),\d+,\d+")
 BRACKET = re.compile(rb"[][{}]")
 NO_KEY = re.compile(rb"(^---|[^\s,?:[{-]:)[ \t]*$")
 ROW = re.compile(r"  \| (none|`.*`|no more) \| (.*) \|")
+LATE_ROW = re.compile(r"  \| .*\b(scalar|key|NUL)\b.* \| (`.*) \| .* \|")
+LATE = re.compile("([lm]) ([0-9]+) (.*)")
+CONTROLS = {"LF": "\n", "NUL": "\0"}
+CHARACTERS = "a \n\0-?:,[]{}#&*!|>'\"%"  # of which texts shorter than the page's are made
 
 Event = collections.namedtuple("Event", "name start end")
 
@@ -136,3 +144,27 @@ def table_answers(rows, lines):
             at = next((at for at, end in enumerate(ends) if came <= end), len(ends))
             brought[at].append(line[2:].partition(" @ ")[0].removesuffix(" ---"))
     return brought
+
+
+def late_texts(page):
+    """The smallest text of each kind of late fault, as the page's list has them."""
+    for row in filter(None, map(LATE_ROW.fullmatch, page.split("\n"))):
+        words = re.findall("`([^`]*)`|([A-Z]+)", row[2])
+        yield row[1], "".join(said or CONTROLS[control] for said, control in words).encode()
+
+
+def shorter_texts(text):
+    """Texts that have fewer characters before the end of their line."""
+    for count in range(len(text) - 1):
+        yield from ("".join(it).encode() + b"\n" for it in itertools.product(CHARACTERS, repeat=count))
+
+
+def late_kind(text, answer):
+    """Of which kind a late fault is, if its answer says that it is late. The answer is what `faults` printed."""
+    late = LATE.fullmatch(answer)
+    if not late:
+        return None
+    told = text[: int(late[2])]
+    if late[1] == "l":
+        return "scalar"
+    return "NUL" if b"\0" in told else "key" if re.search(rb"[{\[]", told) else "no kind"

@@ -64,8 +64,8 @@
  *  - Use each structure in one call at a time. Between calls a saphyr_parser and a saphyr_findings may go from one
  *    thread to another, if a lock or the thread's start or end orders the calls.
  *  - Keep the text where it is, unchanged, until every parser over it is freed: that of saphyr_new or saphyr_new_utf8,
- *    and its clones. The bytes that saphyr_add was given are copied.
- *  - Give saphyr_new_utf8 only a text in UTF-8.
+ *    and its clones. The bytes that saphyr_add and saphyr_add_utf8 were given are copied.
+ *  - Give saphyr_new_utf8 only a text in UTF-8, and saphyr_add_utf8 only whole characters of one.
  *  - malloc, realloc and free belong to one allocator. Make no call from a signal handler, or from the forked
  *    child of a process with threads.
  *
@@ -90,16 +90,16 @@ extern "C" {
 
 /* The version of these declarations, which saphyr_version returns: 1,000,000 times the major number, plus 1,000 times
    the minor one, plus that of the patch. The shared library's name ends with it. */
-#define SAPHYR_VERSION 3000u
+#define SAPHYR_VERSION 3001u
 
 /* The release that this header came with. Before the `+` is the version of the Rust crate whose events these are. */
 #define SAPHYR_PARSER_VERSION "0.3.3+rattle.4"
 
 /* What a call returns. Below 0, the call failed. */
 enum saphyr_status {
-    /* saphyr_new, saphyr_new_utf8, saphyr_new_pieces, saphyr_add, saphyr_clone, saphyr_keep_tags, saphyr_load: done.
-       saphyr_check_standard: the text is YAML 1.2.2. saphyr_check: it has no error and, if the options are strict, no
-       warning. */
+    /* saphyr_new, saphyr_new_utf8, saphyr_new_pieces, saphyr_add, saphyr_add_utf8, saphyr_clone, saphyr_keep_tags,
+       saphyr_load: done. saphyr_check_standard: the text is YAML 1.2.2. saphyr_check: it has no error and, if the
+       options are strict, no warning. */
     SAPHYR_OK = 0,
     /* saphyr_next, saphyr_peek: no event is left. The end of the stream or a fault was handed out before.
        saphyr_load_next: no document is left. saphyr_describe: there is no node with this number.
@@ -108,7 +108,7 @@ enum saphyr_status {
     /* saphyr_next, saphyr_peek, saphyr_describe: the event is written. */
     SAPHYR_EVENT = 1,
     /* saphyr_next, saphyr_peek, of a text that comes in pieces: as far as the parser has looked, bytes that did not
-       come may change the next event. No event is written. */
+       come may change the next event. No event is written, but `start` says where the last one ends. */
     SAPHYR_MORE = 2,
     /* saphyr_load_next: the next document is loaded. */
     SAPHYR_LOADED = 3,
@@ -140,7 +140,8 @@ enum saphyr_status {
        told; or saphyr_add ran out of memory before. Nothing is added. */
     SAPHYR_WHOLE = -6,
     /* saphyr_next, saphyr_peek: as SAPHYR_MORE, but more bytes wait for the next event than saphyr_new_pieces was told
-       that may. The parser stays where it was, and gives the rest of the events if the end of the text is told. */
+       that may. What waits is behind `start`. The parser stays where it was, and gives the rest of the events if the
+       end of the text is told. Only tested: that it comes only where no event can be told. */
     SAPHYR_TOO_MUCH = -7,
     /* saphyr_load, saphyr_load_next: the trees would have more nodes than allowed, or be deeper. `start` says where. */
     SAPHYR_TOO_LARGE = -8,
@@ -148,7 +149,11 @@ enum saphyr_status {
        comes in pieces. */
     SAPHYR_LATE = -9,
     /* saphyr_next_finding, saphyr_next_note: the handle is empty, as no text was checked or it was freed. */
-    SAPHYR_NOT_CHECKED = -10
+    SAPHYR_NOT_CHECKED = -10,
+    /* saphyr_next, saphyr_peek, saphyr_load, saphyr_load_next: in place of SAPHYR_REFUSED, if the text has more
+       characters than saphyr_new_pieces was told that it may, or more than 4,294,967,295. `value` names these, whatever
+       the limit. */
+    SAPHYR_TOO_LONG = -11
 };
 
 /* How bad a finding is. */
@@ -236,10 +241,10 @@ typedef struct saphyr_event {
     int32_t has_tag;
     /* The id of the node's anchor, or 0 if it has none. Of an alias, the id of the anchor that it names. */
     size_t anchor;
-    /* Where it begins. Of a fault, where it is. */
+    /* Where it begins. Of a fault, where it is. Where an event waits for more of the text, where the last one ends. */
     saphyr_marker start;
     /* Where its span ends. The span of a quoted scalar or a bracket includes the blanks and the comment after it: the
-       page SPANS.md says what the span of each event covers. Of a fault, the start again. */
+       page SPANS.md says what the span of each event covers. If there is no event, the start again. */
     saphyr_marker end;
     /* The value of a scalar: folded and unescaped. Of a fault, why the text is refused. */
     saphyr_text value;
@@ -324,10 +329,10 @@ int32_t saphyr_new_utf8(const uint8_t *text, size_t len, bool keep_tags, saphyr_
  * Makes a parser of a text that comes in pieces, of which nothing came yet, and puts it into `parser`. Frees what
  * `parser` held, whatever it returns. saphyr_add takes the next bytes. `keep_tags` is as for saphyr_new.
  *
- * The limits are for texts that you don't trust, and 0 sets none. A text of more than `most_characters` characters is
- * refused, and so is one of more than 4,294,967,295: once the token that passes the limit has ended, or with the text's
- * end. That fault names 4,294,967,295 characters, whatever the limit. If more than `most_waiting` bytes came of which
- * no event can be told, as of a quote that is not closed, saphyr_next returns SAPHYR_TOO_MUCH.
+ * The limits are for texts that you don't trust, and 0 sets none. Of a text of more than `most_characters` characters,
+ * or of more than 4,294,967,295, saphyr_next returns SAPHYR_TOO_LONG: once the token that passes the limit has ended,
+ * or with the text's end. If more than `most_waiting` bytes came of which no event can be told, as of a quote that is
+ * not closed, it returns SAPHYR_TOO_MUCH.
  *
  * Returns SAPHYR_OK; or SAPHYR_NO_MEMORY, and then `parser` is empty.
  */
@@ -352,6 +357,12 @@ int32_t saphyr_new_pieces(bool keep_tags, size_t most_characters, size_t most_wa
  * saphyr_add returns SAPHYR_WHOLE from then on. Only a text that is refused needs no more bytes, and loses nothing.
  */
 int32_t saphyr_add(saphyr_parser *parser, const uint8_t *bytes, size_t len);
+
+/*
+ * The same of bytes that you know to be whole characters in UTF-8, which are not tested here. Behind a character that
+ * saphyr_add was given a part of they are not UTF-8, and this is told as there.
+ */
+int32_t saphyr_add_utf8(saphyr_parser *parser, const uint8_t *bytes, size_t len);
 
 /*
  * Returns how many of the `len` bytes at `text` are UTF-8, from the front: `len` if all are, otherwise the index of
@@ -551,6 +562,7 @@ static inline const char *saphyr_status_text(int32_t status) {
     case SAPHYR_TOO_LARGE: return "the trees would be larger than allowed";
     case SAPHYR_LATE: return "no trees begin where the parser is, or its text comes in pieces";
     case SAPHYR_NOT_CHECKED: return "no text is checked";
+    case SAPHYR_TOO_LONG: return "the text has more characters than may";
     default: return "no status";
     }
 }
@@ -566,6 +578,7 @@ static inline const char *saphyr_status_text(int32_t status) {
 extern int32_t saphyr_new_at(const uint8_t *, size_t, bool, saphyr_parser *) __asm__("saphyr_new");
 extern int32_t saphyr_new_utf8_at(const uint8_t *, size_t, bool, saphyr_parser *) __asm__("saphyr_new_utf8");
 extern int32_t saphyr_add_at(saphyr_parser *, const uint8_t *, size_t) __asm__("saphyr_add");
+extern int32_t saphyr_add_utf8_at(saphyr_parser *, const uint8_t *, size_t) __asm__("saphyr_add_utf8");
 extern size_t saphyr_valid_up_to_at(const uint8_t *, size_t) __asm__("saphyr_valid_up_to");
 extern void saphyr_free_at(saphyr_parser *) __asm__("saphyr_free");
 extern saphyr_node saphyr_get_at(saphyr_parser *, saphyr_node, const char *, size_t) __asm__("saphyr_get");
@@ -584,6 +597,10 @@ SAPHYR_INLINE int32_t saphyr_new_utf8(const uint8_t *text, size_t len, bool keep
 
 SAPHYR_INLINE int32_t saphyr_add(saphyr_parser *parser, const uint8_t *bytes, size_t len) {
     return saphyr_add_at(parser, bytes ? bytes : (const uint8_t *)"", len);
+}
+
+SAPHYR_INLINE int32_t saphyr_add_utf8(saphyr_parser *parser, const uint8_t *bytes, size_t len) {
+    return saphyr_add_utf8_at(parser, bytes ? bytes : (const uint8_t *)"", len);
 }
 
 SAPHYR_INLINE size_t saphyr_valid_up_to(const uint8_t *text, size_t len) {

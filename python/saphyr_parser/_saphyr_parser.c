@@ -406,6 +406,8 @@ static void raise_it(PyObject *made) {
     }
 }
 
+static const char too_long[] = "the text has more than %zu characters";
+
 /* Raises TooLarge with the form of its reason and the limit, or Refused with that of the event if `form` is NULL. */
 static int refuse(reader *it, place at, const char *form, size_t most) {
     PyObject *why = form ? PyUnicode_FromFormat(form, most) : text_of(it->event.value), *line = line_in(it, at.index);
@@ -426,6 +428,7 @@ static PyObject *fail(reader *it, int32_t status) {
     switch (status) {
     case RAISED: break;
     case SAPHYR_REFUSED: refuse(it, place_of(it->event.start), NULL, 0); break;
+    case SAPHYR_TOO_LONG: refuse(it, place_of(it->event.start), too_long, UINT32_MAX); break;
     /* the library tells no place of this one */
     case SAPHYR_TOO_MUCH:
         refuse(it, it->behind, "more than %zu bytes wait for the next event", it->most_waiting);
@@ -441,8 +444,6 @@ static PyObject *fail(reader *it, int32_t status) {
 }
 
 /* ---- What is read. */
-
-static const char too_long[] = "the text has more than %zu characters";
 
 static int32_t begin(reader *it) {
     it->begun = true;

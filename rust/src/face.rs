@@ -3,11 +3,12 @@
 //! This file and those of `face` are the crate's only ones with `unsafe` in them. `saphyr_parser.h`, next to the
 //! library's sources, says what a caller must do: zero each structure first, pass no null pointer, use a parser
 //! in one call at a time, keep the text unchanged where it is until the parser over it is freed, and give
-//! `saphyr_new_utf8` only UTF-8. Of a text that comes in pieces the library has a copy. In return, the texts of an
-//! event are UTF-8, and may be read until the next call with the same parser. They are copied here right after the call
-//! that wrote them, so none is left when the next call comes. If the caller's text contains such a text as it is, it is
-//! borrowed from there instead. The texts of a rule stay where they are.
+//! `saphyr_new_utf8` and `saphyr_add_utf8` only UTF-8. Of a text that comes in pieces the library has a copy. In return,
+//! the texts of an event are UTF-8, and may be read until the next call with the same parser. They are copied here right
+//! after the call that wrote them, so none is left when the next call comes. If the caller's text contains such a text as
+//! it is, it is borrowed from there instead. The texts of a rule stay where they are.
 
+pub mod characters;
 pub mod check;
 pub mod trees;
 
@@ -23,7 +24,7 @@ use std::ptr::{null, null_mut};
 use std::{slice, str};
 
 /// The version of the header that the declarations below follow.
-const VERSION: u32 = 3000;
+const VERSION: u32 = 3001;
 
 // The statuses. Those that no call of a live parser gives have no name here.
 const OK: i32 = 0;
@@ -35,6 +36,7 @@ const REFUSED: i32 = -1;
 const NO_MEMORY: i32 = -2;
 const UTF16: i32 = -5;
 const TOO_MUCH: i32 = -7;
+const TOO_LONG: i32 = -11;
 
 /// `saphyr_parser`: null, or a parser on the heap.
 #[repr(C)]
@@ -94,7 +96,7 @@ extern "C" {
         most_waiting: usize,
         parser: *mut Handle,
     ) -> i32;
-    fn saphyr_add(parser: *mut Handle, bytes: *const u8, len: usize) -> i32;
+    fn saphyr_add_utf8(parser: *mut Handle, bytes: *const u8, len: usize) -> i32;
     fn saphyr_valid_up_to(text: *const u8, len: usize) -> usize;
     fn saphyr_check_standard(text: *const u8, len: usize, deviation: *mut Departure) -> i32;
     fn saphyr_next(parser: *mut Handle, event: *mut Record) -> i32;
@@ -144,14 +146,6 @@ pub fn check_standard(text: &str) -> Result<(), Option<Deviation>> {
         rule,
         sentence,
     }))
-}
-
-/// The text of bytes that are ASCII.
-#[inline]
-pub fn text_of_ascii(bytes: &[u8]) -> &str {
-    assert!(bytes.is_ascii());
-    // SAFETY: ASCII is UTF-8.
-    unsafe { str::from_utf8_unchecked(bytes) }
 }
 
 /// The limits of a text that comes in pieces.
@@ -259,8 +253,9 @@ impl<'input> Face<'input> {
 
     /// Adds the next characters of a text that comes in pieces. An empty piece says that no more come.
     pub fn add(&mut self, piece: &str) {
-        // SAFETY: the handle has a parser, which no other call uses. The bytes may be read for their length.
-        let status = unsafe { saphyr_add(self.handle.get_mut(), piece.as_ptr(), piece.len()) };
+        // SAFETY: the handle has a parser, which no other call uses. The bytes may be read for their length, and are
+        // UTF-8.
+        let status = unsafe { saphyr_add_utf8(self.handle.get_mut(), piece.as_ptr(), piece.len()) };
         expect(status, OK);
     }
 
@@ -313,7 +308,7 @@ impl<'input> Face<'input> {
     /// The same as of `item`.
     #[cold]
     unsafe fn ending(&self, status: i32) -> Option<ScanError> {
-        if status != REFUSED {
+        if status != REFUSED && status != TOO_LONG {
             expect(status, END);
             return None;
         }

@@ -208,6 +208,20 @@ fn reads_random_texts_alike() {
     }
 }
 
+/// Characters of each width stay as they are, wherever those end that are put together.
+#[test]
+fn reads_characters_of_each_width() {
+    let mixed = "a\u{e9}\u{4e2d}\u{1f600}".repeat(300);
+    for before in 0..10 {
+        let text = format!("- {}{mixed}\n- '{mixed}'\n", "x".repeat(before));
+        let whole: Vec<_> = Parser::new_from_str(&text).collect();
+        let parts: Vec<_> = Parser::new_from_iter(pipe(&text)).collect();
+        assert_eq!(parts, whole);
+        let at_once: Vec<_> = Parser::new_from_iter(text.chars()).collect();
+        assert_eq!(at_once, whole);
+    }
+}
+
 #[test]
 fn keeps_to_limits() {
     let fault = |characters, waiting| {

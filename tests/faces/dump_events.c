@@ -24,6 +24,7 @@ static int dump(const uint8_t *text, size_t len) {
     fflush(stdout);
     switch (status) {
     case SAPHYR_REFUSED:
+    case SAPHYR_TOO_LONG:
         print_fault(stderr, &event);
         putc('\n', stderr);
         break;

@@ -36,6 +36,7 @@ static void expect_empty(saphyr_parser *parser, const char *what) {
     expect(saphyr_keep_tags(parser, true), SAPHYR_NO_PARSER, what);
     expect(saphyr_add(parser, (const uint8_t *)"a", 1), SAPHYR_NO_PARSER, what);
     expect(saphyr_add(parser, (const uint8_t *)"", 0), SAPHYR_NO_PARSER, what);
+    expect(saphyr_add_utf8(parser, (const uint8_t *)"a", 1), SAPHYR_NO_PARSER, what);
     expect(saphyr_clone(parser, &copy), SAPHYR_NO_PARSER, what);
     expect(copy.at == NULL, true, what);
 }
@@ -221,7 +222,8 @@ static int documents(saphyr_parser *parser, int32_t *status) {
     while ((*status = saphyr_next(parser, &event)) == SAPHYR_EVENT) {
         ended += event.kind == SAPHYR_DOCUMENT_END;
     }
-    expect(event.kind == SAPHYR_NOTHING && is_bare(&event), *status != SAPHYR_REFUSED, "no event without old fields");
+    bool is_refused = *status == SAPHYR_REFUSED || *status == SAPHYR_TOO_LONG;
+    expect(event.kind == SAPHYR_NOTHING && is_bare(&event), !is_refused, "no event without old fields");
     return ended;
 }
 
@@ -284,6 +286,42 @@ static void refuses_pieces(void) {
     saphyr_free(&parser);
 }
 
+/* Bytes that are known to be UTF-8 are added as others are. Behind a part of a character they are not. */
+static void adds_known_characters(void) {
+    static const struct {
+        const char *piece;
+        bool is_known;
+        int32_t status;
+    } pieces[] = {{"- \xc3\xa9", true, SAPHYR_OK},
+                  {"\xe2\x82", false, SAPHYR_OK},
+                  {"a", true, SAPHYR_NOT_UTF8},
+                  {"", true, SAPHYR_NOT_UTF8},
+                  {"\xac", false, SAPHYR_OK},
+                  {"\xf0\x9f\x98\x80\n", true, SAPHYR_OK},
+                  {"", true, SAPHYR_OK},
+                  {"a", true, SAPHYR_WHOLE},
+                  {"", true, SAPHYR_WHOLE}};
+    saphyr_parser parser = {0};
+    saphyr_event event = {0};
+    int32_t status;
+    expect(saphyr_new_pieces(false, 0, 0, &parser), SAPHYR_OK, "a text in pieces");
+    for (size_t at = 0; at < sizeof pieces / sizeof *pieces; at++) {
+        const uint8_t *bytes = (const uint8_t *)pieces[at].piece;
+        size_t len = strlen(pieces[at].piece);
+        status = pieces[at].is_known ? saphyr_add_utf8(&parser, bytes, len) : saphyr_add(&parser, bytes, len);
+        expect(status, pieces[at].status, pieces[at].piece);
+    }
+    while ((status = saphyr_next(&parser, &event)) == SAPHYR_EVENT) {
+        bool is_scalar = event.kind == SAPHYR_SCALAR;
+        expect(is_scalar && memcmp(event.value.at, "\xc3\xa9\xe2\x82\xac\xf0\x9f\x98\x80", 9), 0, "known characters");
+        expect((int32_t)event.value.len, is_scalar ? 9 : 0, "how many bytes of known characters came");
+    }
+    expect(status, SAPHYR_END, "behind known characters");
+    expect(make("a", &parser), SAPHYR_OK, "a text");
+    expect(saphyr_add_utf8(&parser, (const uint8_t *)"a", 1), SAPHYR_WHOLE, "characters behind a whole text");
+    saphyr_free(&parser);
+}
+
 /* NULL stands for no bytes, and for no parser to free. */
 static void takes_null(void) {
     saphyr_parser parser = {0};
@@ -298,7 +336,8 @@ static void takes_null(void) {
     expect(documents(&parser, &status), 0, "documents of no bytes in UTF-8");
     expect(saphyr_new_pieces(false, 0, 0, &parser), SAPHYR_OK, "a text in pieces");
     expect(add(&parser, "a"), SAPHYR_OK, "a piece");
-    expect(saphyr_add(&parser, NULL, 0), SAPHYR_OK, "the end of a text, as no bytes");
+    expect(saphyr_add_utf8(&parser, NULL, 0), SAPHYR_OK, "the end of a text, as no characters");
+    expect(saphyr_add(&parser, NULL, 0), SAPHYR_WHOLE, "the end of a text, as no bytes");
     expect(documents(&parser, &status), 1, "documents behind the end");
     expect(status, SAPHYR_END, "behind the end");
     expect(saphyr_next(&parser, &event), SAPHYR_END, "behind the end");
@@ -309,7 +348,7 @@ static void takes_null(void) {
 static void says_what_a_status_means(void) {
     const int32_t statuses[] = {SAPHYR_OK, SAPHYR_EVENT, SAPHYR_MORE, SAPHYR_REFUSED, SAPHYR_NO_MEMORY,
                                 SAPHYR_NOT_UTF8, SAPHYR_NO_PARSER, SAPHYR_UTF16, SAPHYR_WHOLE, SAPHYR_TOO_MUCH,
-                                SAPHYR_DEVIATES, 99};
+                                SAPHYR_DEVIATES, SAPHYR_TOO_LONG, 99};
     for (size_t one = 0; one < sizeof statuses / sizeof *statuses; one++) {
         for (size_t other = 0; other < one; other++) {
             bool is_same = !strcmp(saphyr_status_text(statuses[one]), saphyr_status_text(statuses[other]));
@@ -420,6 +459,43 @@ static void keeps_to_what_may_wait(void) {
     saphyr_free(&parser);
 }
 
+static void expect_waiting(saphyr_parser *parser, int32_t wanted, size_t index, size_t line, size_t col) {
+    saphyr_event event = {0};
+    saphyr_parser copy = {0};
+    expect(saphyr_clone(parser, &copy), SAPHYR_OK, "a clone of what waits");
+    for (int way = 0; way < 3; way++) {
+        int32_t status = way == 0 ? saphyr_peek(parser, &event) : saphyr_next(way == 1 ? parser : &copy, &event);
+        expect(status, wanted, "an event that waits");
+        bool is_there = event.start.index == index && event.start.line == line && event.start.col == col;
+        expect(is_there, true, "where it waits");
+        expect(!memcmp(&event.start, &event.end, sizeof event.start), true, "where it waits, again");
+    }
+    saphyr_free(&copy);
+}
+
+/* Where an event waits, the place is told at which the last one ends. */
+static void tells_behind_what_it_waits(void) {
+    saphyr_parser parser = {0};
+    saphyr_event event = {0};
+    int32_t status;
+    expect(saphyr_new_pieces(false, 0, 9, &parser), SAPHYR_OK, "a text of which little may wait");
+    expect(documents(&parser, &status), 0, "documents before the first bytes");
+    expect_waiting(&parser, SAPHYR_MORE, 0, 1, 0);
+    expect(add(&parser, "- \xc3\xa9"), SAPHYR_OK, "a scalar that may go on");
+    expect(documents(&parser, &status), 0, "documents before a scalar that may go on");
+    expect_waiting(&parser, SAPHYR_MORE, 0, 1, 0);
+    expect(add(&parser, "b\n- "), SAPHYR_OK, "the end of a scalar");
+    expect(saphyr_next(&parser, &event), SAPHYR_EVENT, "the document of a scalar that has ended");
+    expect(saphyr_next(&parser, &event), SAPHYR_EVENT, "the sequence of a scalar that has ended");
+    expect(saphyr_peek(&parser, &event), SAPHYR_EVENT, "a scalar that has ended");
+    expect(saphyr_next(&parser, &event), SAPHYR_EVENT, "a scalar that has ended");
+    expect(event.kind, SAPHYR_SCALAR, "a scalar that has ended");
+    expect_waiting(&parser, SAPHYR_MORE, 4, 1, 4);
+    expect(add(&parser, "'and so on"), SAPHYR_OK, "more than may wait");
+    expect_waiting(&parser, SAPHYR_TOO_MUCH, 4, 1, 4);
+    saphyr_free(&parser);
+}
+
 /* What is behind a bracket that is not closed is not kept without an end. */
 static void tells_an_unclosed_bracket(void) {
     saphyr_parser parser = {0};
@@ -499,12 +575,12 @@ static void keeps_to_how_many_characters_may_come(void) {
         expect(add(&parser, ""), SAPHYR_OK, "the end of a text of nine characters");
         while ((status = saphyr_next(&parser, &event)) == SAPHYR_EVENT) {
         }
-        expect(status, limit < 9 ? SAPHYR_REFUSED : SAPHYR_END, "a text of nine characters");
+        expect(status, limit < 9 ? SAPHYR_TOO_LONG : SAPHYR_END, "a text of nine characters");
     }
     for (size_t limit = 1; limit < 100; limit++) {
         expect(saphyr_new_pieces(false, limit, 0, &parser), SAPHYR_OK, "a text of few characters");
         size_t came = add_again(&parser, "- a\n", 2000, &status);
-        expect(status, SAPHYR_REFUSED, "a text without an end, of few characters");
+        expect(status, SAPHYR_TOO_LONG, "a text without an end, of few characters");
         expect(limit < came && came < limit + 12, true, "a text without an end, of few characters");
     }
     saphyr_free(&parser);
@@ -523,10 +599,12 @@ int main(void) {
     keeps_tags();
     comes_at_once();
     refuses_pieces();
+    adds_known_characters();
     takes_null();
     says_what_a_status_means();
     keeps_to_what_may_wait();
     keeps_to_how_many_characters_may_come();
+    tells_behind_what_it_waits();
     tells_an_unclosed_bracket();
     clones_where_much_waits();
     reads_long_texts();

@@ -1,14 +1,13 @@
 -- Bytes of a text that comes in pieces: the whole characters at their front, and the rest.
-use Rattle.std.proofs.Common.{◌≡◌, ◌∙◌, ◌≤◌, ℕ, List, ◌++◌, ap, length, subst, sym}
+use Rattle.std.proofs.Common.{◌≡◌, ◌∙◌, ◌≤◌, ℕ, List, [], ◌++◌, ap, append-nil, length, subst, sym}
 use Rattle.std.specs.Prelude.{IsUtf8, drop, take}
 use Rattle.std.specs.Str.{chars}
 use Rattle.std.proofs.lemmas.Str.{IsUtf8-append, IsUtf8-encode, chars-append}
 use Rattle.std.proofs.lemmas.List.{append_assoc, take-append-drop}
-use Rattle.saphyr_pieces.specs.Pieces.{Pieces, at}
 use Rattle.saphyr_parser_c.specs.Encoding.{IsCutCharacter, IsUtf8SoFar}
 
 -- what comes after the front comes after all of the bytes, where the rest waits
-rest_waits : {A : Type 0} (old new : List ℕ → A) (front rest bytes : List ℕ) → front ++ rest ≡ bytes
+pub rest_waits : {A : Type 0} (old new : List ℕ → A) (front rest bytes : List ℕ) → front ++ rest ≡ bytes
     → IsUtf8 front → ((later : List ℕ) → new later ≡ old (chars front ++ later))
     → (later : List ℕ) → new (chars (rest ++ later)) ≡ old (chars (bytes ++ later))
 rest_waits old new front rest bytes e utf8 added later =
@@ -17,17 +16,13 @@ rest_waits old new front rest bytes e utf8 added later =
     ∙ ap (λ (bs : List ℕ). old (chars bs)) (sym (append_assoc front rest later))
     ∙ ap (λ (bs : List ℕ). old (chars (bs ++ later))) e
 
--- the parser has the characters of the first n bytes, and the other bytes wait
-pub front_taken : (old new : Pieces) (n : ℕ) (front back rest bytes : List ℕ) → front ≡ take n bytes
-    → back ≡ drop n bytes → rest ≡ back → IsUtf8 (take n bytes)
-    → ((later : List ℕ) → at new later ≡ at old (chars front ++ later))
-    → (later : List ℕ) → at new (chars (rest ++ later)) ≡ at old (chars (bytes ++ later))
-front_taken old new n front back rest bytes is_front is_back is_rest utf8 added =
-    rest_waits (at old) (at new) front rest bytes
-    (ap (λ (bs : List ℕ). bs ++ rest) is_front
+-- the first n bytes and the other bytes are all of them
+pub halves_join : (n : ℕ) (front back rest bytes : List ℕ) → front ≡ take n bytes → back ≡ drop n bytes → rest ≡ back
+    → front ++ rest ≡ bytes
+halves_join n front back rest bytes is_front is_back is_rest =
+    ap (λ (bs : List ℕ). bs ++ rest) is_front
     ∙ ap (λ (bs : List ℕ). take n bytes ++ bs) (is_rest ∙ is_back)
-    ∙ take-append-drop n bytes)
-    (subst IsUtf8 (sym is_front) utf8) added
+    ∙ take-append-drop n bytes
 
 -- what comes after the front waits
 pub rest_is_cut : (n : ℕ) (back rest bytes : List ℕ) → back ≡ drop n bytes → rest ≡ back
@@ -46,3 +41,7 @@ is_utf8_so_far n bytes front (c, rest, scalar, some, is) =
       subst IsUtf8 same
           (IsUtf8-append (take n bytes) (drop n bytes ++ rest) front (subst IsUtf8 (sym is) (IsUtf8-encode c scalar))),
     )
+
+-- so is a text
+pub text_is_utf8_so_far : (text : List ℕ) → IsUtf8 text → IsUtf8SoFar text
+text_is_utf8_so_far text utf8 = ([], subst IsUtf8 (sym (append-nil text)) utf8)

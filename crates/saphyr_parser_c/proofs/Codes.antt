@@ -23,6 +23,7 @@ fits status.Deviates = refl
 fits status.Finding = refl
 fits status.Wrong = refl
 fits status.NotChecked = refl
+fits status.TooLong = refl
 
 pub code_kept : (s : Status) (z : ℤ) → z ≡ code_of s → to_z w32 (of_z w32 z) ≡ code_of s
 code_kept s z e = ap (λ (y : ℤ). to_z w32 (of_z w32 y)) e ∙ fits s

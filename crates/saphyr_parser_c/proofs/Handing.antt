@@ -23,10 +23,11 @@ use Rattle.saphyr_parser_c.specs.declared.source.Source.{Source}
 use Rattle.saphyr_parser_c.specs.declared.source.Source.TheVariants as source
 use Rattle.saphyr_parser_c.specs.declared.status.Status.{Status}
 use Rattle.saphyr_parser_c.specs.declared.status.Status.TheVariants as status
-use Rattle.saphyr_parser_c.specs.Coming.{KeepsRest, WritesWaiting, at_bytes}
-use Rattle.saphyr_parser_c.specs.Inner.{EndsAtFault, HandsFrom, HandsOfComing, HandsOfPieces, HandsToC, IsAt, IsAtFrom, IsSameItem, ShowsFrom, ShowsOfComing, ShowsOfPieces, ShowsToC, WritesKept, Waits, WaitsForMore, handed}
+use Rattle.saphyr_parser_c.specs.Coming.{GoesBehind, KeepsRest, WritesWaiting, at_bytes, end_of_last}
+use Rattle.saphyr_parser_c.specs.Inner.{EndsAtFault, HandsFrom, HandsOfComing, HandsOfPieces, HandsToC, IsAt, IsAtFrom, IsSameItem, Passes, PassesFrom, ShowsFrom, ShowsOfComing, ShowsOfPieces, ShowsToC, WritesKept, Waits, WaitsForMore, handed}
 use Rattle.saphyr_parser_c.specs.Same.{IsSameFault}
-use Rattle.saphyr_parser_c.specs.Shown.{WritesC}
+use Rattle.saphyr_parser_c.specs.Shown.{HasFields, WritesC, no_fields}
+use Rattle.saphyr_parser_c.specs.Status.{TellsRefusal}
 
 abbrev Item : Type 0
 Item = Option (Result (Event × Span) Fault)
@@ -90,15 +91,31 @@ gives_same (Some (Ok e)) y old new (f, is, same) gives =
 gives_same (Some (Err f)) y old new (g, is, same) gives =
     subst (λ (z : Item). GivesNext z old new) (sym is) (fails_same old.current old.kept f g old new same gives)
 
+-- it ends at the same place
+ends_same : (x y : Item) (last : Marker) → IsSameItem x y → end_of_last y last ≡ end_of_last x last
+ends_same None y last same = ap (λ (z : Item). end_of_last z last) same
+ends_same (Some (Ok e)) y last (f, is, same) =
+    ap (λ (z : Item). end_of_last z last) is ∙ ap (λ (h : Happening × Span). h.1.end) same
+ends_same (Some (Err f)) y last (g, is, same) = ap (λ (z : Item). end_of_last z last) is
+
+-- what is told of a refusal
+refused_so : (Q : Status → Type 0) → Q status.Refused → Q status.TooLong → (info : List ℕ) (s : Status)
+    → TellsRefusal info s → Q s
+refused_so Q refused long info status.Refused tells = refused
+refused_so Q refused long info status.TooLong tells = long
+refused_so Q refused long info _ tells = absurd tells
+
 -- what is told of an item is no want of more
-written_so : (Q : Status → Type 0) → Q status.End → Q status.Event → Q status.Refused → Q status.NoMemory
-    → (item : Item) (s : Status) (c : CEvent) → WritesC item s c → Q s
-written_so Q end event refused memory None s c written = subst Q (sym written.0) end
-written_so Q end event refused memory (Some (Ok e)) s c written = subst Q (sym written.0) event
-written_so Q end event refused memory (Some (Err (fault.Scan e))) s c written = subst Q (sym written.0) refused
-written_so Q end event refused memory (Some (Err fault.OutOfMemory)) s c written = subst Q (sym written.0) memory
-written_so Q end event refused memory (Some (Err fault.Receiver)) s c written = subst Q (sym written.0) memory
-written_so Q end event refused memory (Some (Err fault.InsideDocument)) s c written = subst Q (sym written.0) memory
+written_so : (Q : Status → Type 0) → Q status.End → Q status.Event → Q status.Refused → Q status.TooLong
+    → Q status.NoMemory → (item : Item) (s : Status) (c : CEvent) → WritesC item s c → Q s
+written_so Q end event refused long memory None s c written = subst Q (sym written.0) end
+written_so Q end event refused long memory (Some (Ok e)) s c written = subst Q (sym written.0) event
+written_so Q end event refused long memory (Some (Err (fault.Scan e))) s c written =
+    refused_so Q refused long (string_bytes e.info) s written.0
+written_so Q end event refused long memory (Some (Err fault.OutOfMemory)) s c written = subst Q (sym written.0) memory
+written_so Q end event refused long memory (Some (Err fault.Receiver)) s c written = subst Q (sym written.0) memory
+written_so Q end event refused long memory (Some (Err fault.InsideDocument)) s c written =
+    subst Q (sym written.0) memory
 
 -- ## A text that comes in pieces
 
@@ -130,17 +147,21 @@ pub hands_lent : (p : Option Progress) (next : Event × Span) (f : Fault) (lent 
 hands_lent p next f lent old new is hands =
     subst (λ (m : Coming). HandsOutOrWaits p next f m.parser new.parser) is hands
 
+pub behind_lent : (p : Option Progress) (next : Event × Span) (f : Fault) (lent old new : Coming) → lent ≡ old
+    → GoesBehind p next f lent new → GoesBehind p next f old new
+behind_lent p next f lent old new is goes = subst (λ (m : Coming). GoesBehind p next f m new) is goes
+
 as_hands : (before after : Inner) (s : Status) (c : CEvent) (old new : Coming) → WritesC (handed after) s c
     → HandsOfPieces old before s c new after → HandsOfComing s c old before new after
 as_hands before after s c old new written =
     written_so (λ (s : Status). HandsOfPieces old before s c new after → HandsOfComing s c old before new after)
-    (λ h. h) (λ h. h) (λ h. h) (λ h. h) (handed after) s c written
+    (λ h. h) (λ h. h) (λ h. h) (λ h. h) (λ h. h) (handed after) s c written
 
 as_shows : (before after : Inner) (s : Status) (c : CEvent) (old new : Coming) → WritesC (handed after) s c
     → ShowsOfPieces old before s c new after → ShowsOfComing s c old before new after
 as_shows before after s c old new written =
     written_so (λ (s : Status). ShowsOfPieces old before s c new after → ShowsOfComing s c old before new after)
-    (λ h. h) (λ h. h) (λ h. h) (λ h. h) (handed after) s c written
+    (λ h. h) (λ h. h) (λ h. h) (λ h. h) (λ h. h) (handed after) s c written
 
 -- where nothing comes, nothing is handed out or shown
 waits_to_hand : (why : Status) (old new : Coming) (before after : Inner) (c : CEvent) → WritesWaiting why new
@@ -165,6 +186,7 @@ hands_shown before after s c box from shown written =
         box,
         written.others.0,
         (refl, λ enough. enough),
+        subst (λ (b : Bool). PassesFrom b old old after) (sym shown) refl,
         as_hands before after s c old old written.writes (record {
           gives = λ later here is. gives_same (handed before) (handed after) here (at_bytes old later) written.same
               (subst (λ (b : Bool). IsAtFrom b old before later here) shown is);
@@ -187,6 +209,7 @@ shows_shown before after s c box from shown written =
         box,
         written.others.0,
         (refl, λ enough. enough),
+        subst (λ (b : Bool). PassesFrom b old old after) (sym shown) refl,
         as_shows before after s c old old written.writes (record {
           place = λ later here is. subst (λ (b : Bool). IsAtFrom b old after later here)
               (sym (written.others.1 ∙ shown))
@@ -222,15 +245,23 @@ module _ (before : Inner) (s : Status) (c : CEvent) (from_box to_box : Box Comin
       (subst (λ (b : Bool). IsAtFrom b old before later here) shown is)
       (gives_place (item_at next f p) old new same hands later))
 
+  passed : (p : Progress) (b : Bool) (after : Inner) → GoesBehind (Some p) next f old new
+      → WritesKept (read p b) s c after → PassesFrom before.shown old new after
+  passed p b after goes written =
+      subst (λ (x : Bool). PassesFrom x old new after) (sym shown)
+      (goes ∙ sym (ends_same (item_at next f p) (handed after) old.last_end written.same))
+
   -- what is read is handed out
   pub hands_next : (p : Progress) (after : Inner) → HandsOutOrWaits (Some p) next f old.parser new.parser
-      → EndsWithFault (Some p) new.parser → WritesKept (read p before.shown) s c after → HandsToC before s c after
-  hands_next p after hands ended kept =
+      → EndsWithFault (Some p) new.parser → GoesBehind (Some p) next f old new
+      → WritesKept (read p before.shown) s c after → HandsToC before s c after
+  hands_next p after hands ended goes kept =
       let written = subst (λ (b : Bool). WritesKept (read p b) s c after) shown kept in (
         subst (λ (x : Source). HandsFrom x before s c after) (sym from) (
           to_box,
           written.others.0,
           same,
+          passed p false after goes written,
           as_hands before after s c old new written.writes (record {
             gives = behind p false after hands written;
             again = λ was. absurd (true≢false (sym was ∙ shown));
@@ -244,12 +275,14 @@ module _ (before : Inner) (s : Status) (c : CEvent) (from_box to_box : Box Comin
 
   -- what is read is shown
   pub shows_next : (p : Progress) (after : Inner) → HandsOutOrWaits (Some p) next f old.parser new.parser
-      → EndsWithFault (Some p) new.parser → WritesKept (read p true) s c after → ShowsToC before s c after
-  shows_next p after hands ended written = (
+      → EndsWithFault (Some p) new.parser → GoesBehind (Some p) next f old new → WritesKept (read p true) s c after
+      → ShowsToC before s c after
+  shows_next p after hands ended goes written = (
     subst (λ (x : Source). ShowsFrom x before s c after) (sym from) (
       to_box,
       written.others.0,
       same,
+      passed p true after goes written,
       as_shows before after s c old new written.writes (record {
         place = λ later here is. subst (λ (b : Bool). IsAtFrom b new after later here) (sym written.others.1)
             (behind p true after hands written later here is);
@@ -263,13 +296,13 @@ module _ (before : Inner) (s : Status) (c : CEvent) (from_box to_box : Box Comin
   )
 
   waiting : (why : Status) (after : Inner) → WritesWaiting why new
-      → HandsOutOrWaits None next f old.parser new.parser
-      → Waits (read before.progress before.shown) why s c after
+      → HandsOutOrWaits None next f old.parser new.parser → GoesBehind None next f old new
+      → Waits (read before.progress before.shown) why new.last_end s c after
       → WaitsForMore old before why c new (read progress.Over before.shown)
-  waiting why after written hands waits = record {
+  waiting why after written hands goes waits = record {
     status = written;
     not_shown = shown;
-    blank = waits.1;
+    blank = subst (λ (m : Marker). HasFields no_fields m m c) goes waits.1;
     event = (refl, shown);
     wants = hands.0;
     place = λ later here is. subst
@@ -280,36 +313,43 @@ module _ (before : Inner) (s : Status) (c : CEvent) (from_box to_box : Box Comin
 
   -- it waits in place of handing out or showing
   none_comes : (Of : Status → CEvent → Coming → Inner → Coming → Inner → Type 0) (why : Status) (after : Inner)
-      → WritesWaiting why new → HandsOutOrWaits None next f old.parser new.parser
-      → Waits (read before.progress before.shown) why s c after
+      → WritesWaiting why new → HandsOutOrWaits None next f old.parser new.parser → GoesBehind None next f old new
+      → Waits (read before.progress before.shown) why new.last_end s c after
       → (WaitsForMore old before why c new (read progress.Over before.shown)
       → Of why c old before new (read progress.Over before.shown))
       → (n : Box Coming Global) × (after.source ≡ source.Pieces n) × KeepsRest old n.value
-      × Of s c old before n.value after
-  none_comes Of why after written hands waits is =
+      × Passes old before n.value after × Of s c old before n.value after
+  none_comes Of why after written hands goes waits is =
       subst (λ (a : Inner). (n : Box Coming Global) × (a.source ≡ source.Pieces n) × KeepsRest old n.value
-      × Of s c old before n.value a) (sym waits.2) (
+      × Passes old before n.value a × Of s c old before n.value a) (sym waits.2) (
         to_box,
         refl,
         same,
+        subst (λ (b : Bool). PassesFrom b old new (read progress.Over before.shown)) (sym shown) goes,
         subst (λ (s : Status). Of s c old before new (read progress.Over before.shown)) (sym waits.0)
-            (is (waiting why after written hands waits)),
+            (is (waiting why after written hands goes waits)),
       )
 
-  pub hands_none : (why : Status) (after : Inner) → WritesWaiting why new
-      → HandsOutOrWaits None next f old.parser new.parser
-      → Waits (read before.progress before.shown) why s c after → HandsToC before s c after
-  hands_none why after written hands waits = (
+  waits_at : (why : Status) (place : Marker) (after : Inner)
+      → Waits (read before.progress before.shown) why place s c after → place ≡ new.last_end
+      → Waits (read before.progress before.shown) why new.last_end s c after
+  waits_at why place after waits is =
+      subst (λ (m : Marker). Waits (read before.progress before.shown) why m s c after) is waits
+
+  pub hands_none : (why : Status) (place : Marker) (after : Inner) → WritesWaiting why new
+      → HandsOutOrWaits None next f old.parser new.parser → GoesBehind None next f old new
+      → Waits (read before.progress before.shown) why place s c after → place ≡ new.last_end → HandsToC before s c after
+  hands_none why place after written hands goes waits is = (
     subst (λ (x : Source). HandsFrom x before s c after) (sym from)
-        (none_comes HandsOfComing why after written hands waits (waits_to_hand why old new before _ c written)),
+        (none_comes HandsOfComing why after written hands goes (waits_at why place after waits is) (waits_to_hand why old new before _ c written)),
     ap (λ (a : Inner). a.table) waits.2,
   )
 
-  pub shows_none : (why : Status) (after : Inner) → WritesWaiting why new
-      → HandsOutOrWaits None next f old.parser new.parser
-      → Waits (read before.progress before.shown) why s c after → ShowsToC before s c after
-  shows_none why after written hands waits = (
+  pub shows_none : (why : Status) (place : Marker) (after : Inner) → WritesWaiting why new
+      → HandsOutOrWaits None next f old.parser new.parser → GoesBehind None next f old new
+      → Waits (read before.progress before.shown) why place s c after → place ≡ new.last_end → ShowsToC before s c after
+  shows_none why place after written hands goes waits is = (
     subst (λ (x : Source). ShowsFrom x before s c after) (sym from)
-        (none_comes ShowsOfComing why after written hands waits (waits_to_show why old new before _ c written)),
+        (none_comes ShowsOfComing why after written hands goes (waits_at why place after waits is) (waits_to_show why old new before _ c written)),
     ap (λ (a : Inner). a.table) waits.2,
   )

@@ -33,11 +33,11 @@ place_kept keep old new kept same later =
 
 pub keeps_from_pieces : (keep : Bool) (old : Source) (coming new : Box Coming Global) → old ≡ source.Pieces coming
     → ((later : List ℕ) → at new.value.parser later ≡ keeping_tags keep (at coming.value.parser later))
-    → KeepsRest coming.value new.value
+    → KeepsRest coming.value new.value → new.value.last_end ≡ coming.value.last_end
     → KeepsFrom old keep (source.Pieces new)
-keeps_from_pieces keep old coming new is kept same =
+keeps_from_pieces keep old coming new is kept same last =
     subst (λ (s : Source). KeepsFrom s keep (source.Pieces new)) (sym is)
-    (new, refl, same, place_kept keep coming.value new.value kept same)
+    (new, refl, same, place_kept keep coming.value new.value kept same, last)
 
 pub source_copied : (s copy : Source) (old : Box Coming Global) (new : Coming) → s ≡ source.Pieces old
     → IsCopyOfPieces old.value new → IsSourceOf new copy → IsSourceCopy s copy

@@ -1,9 +1,18 @@
 -- A parser of a text in UTF-8 that comes in pieces, and what the calls that add to it do.
-use Rattle.std.specs.Prelude.{◌≡◌, ◌≤◌, ◌<◌, ◌==◌, ◌-◌, ◌^◌, min, ℕ, Bool, false, List, [], ◌++◌, length, if◌then◌else◌}
+use Rattle.std.specs.Prelude.{◌≡◌, ◌≤◌, ◌<◌, ◌==◌, ◌-◌, ◌^◌, min, ℕ, Bool, false, List, [], ◌++◌, length, if◌then◌else◌, Option, Some, None, Result, Ok}
 use Rattle.std.specs.Str.{chars, encode_utf8_all}
+use Rattle.std.specs.Global.{Global}
+use Rattle.std.specs.declared.vec.Vec.{Vec}
+use Rattle.saphyr_scalar.specs.declared.scalar.position.Marker.{Marker}
+use Rattle.saphyr_scalar.specs.declared.scalar.position.Span.{Span}
 use Rattle.saphyr_scanner.specs.Steps.Remaining.{scan}
+use Rattle.saphyr_machine.specs.declared.progress.Progress.{Progress}
+use Rattle.saphyr_machine.specs.Steps.Machine.{text_start}
+use Rattle.saphyr_parser.specs.Calls.{item_at}
 use Rattle.saphyr_parser.specs.Cursor.{EventCursor, at_start, keeping_tags}
 use Rattle.saphyr_parser.specs.Limits.{most_characters}
+use Rattle.saphyr_parser.specs.Types.Event.{Event}
+use Rattle.saphyr_parser.specs.Types.Fault.{Fault}
 use Rattle.saphyr_pieces.specs.Pieces.{LosesText, NeedsNoMore, at, waiting, wants_more}
 use Rattle.saphyr_parser_c.specs.declared.coming.Coming.{Coming}
 use Rattle.saphyr_parser_c.specs.declared.coming.Extent.{Extent}
@@ -26,12 +35,26 @@ IsOfNothing keep characters bytes c =
     ((later : List ℕ) → at_bytes c later
     ≡ keeping_tags keep (at_start (scan (bounded characters most_characters) (chars later))))
     × (c.waiting.items ≡ []) × (c.extent ≡ extent.Nothing) × (c.most_waiting ≡ bounded bytes (2 ^ 64 - 1))
+    × (c.last_end ≡ text_start)
 
 -- no event comes: of what may wait no more bytes wait, or more do
 abbrev pub WritesWaiting : Status → Coming → Type 0
 WritesWaiting status.More c = length (encode_utf8_all (waiting c.parser)) ≤ c.most_waiting
 WritesWaiting status.TooMuch c = c.most_waiting < length (encode_utf8_all (waiting c.parser))
 WritesWaiting _ c = ⊥
+
+-- ## Where the last event ends
+
+-- where this item ends, if it is an event, and else where the one before did
+abbrev pub end_of_last : Option (Result (Event × Span) Fault) → Marker → Marker
+end_of_last (Some (Ok e)) before = e.1.end
+end_of_last _ before = before
+
+-- the place goes on behind what a call gave
+abbrev pub GoesBehind : Option Progress → Event × Span → Fault → Coming → Coming → Type 0
+GoesBehind None next fault old new = new.last_end ≡ old.last_end
+GoesBehind (Some progress) next fault old new =
+    new.last_end ≡ end_of_last (item_at next fault progress) old.last_end
 
 -- Why bytes are refused that come after those that came. The first of a text may be a mark of UTF-16.
 abbrev pub IsRefusalFrom : Extent → List ℕ → Status → Type 0
@@ -50,6 +73,14 @@ WaitsForRest c = (length c.waiting.items ≤ 3) × IsCutCharacter c.waiting.item
 -- Nothing is added any more.
 abbrev pub LosesRest : Coming → Coming → Type 0
 LosesRest old new = LosesText old.parser new.parser × (new.extent ≡ extent.All)
+
+-- These characters came, and these bytes wait behind them.
+abbrev pub Takes : List ℕ → Vec ℕ Global → Coming → Status → Coming → Type 0
+Takes front behind old status.Done new =
+    ((later : List ℕ) → at new.parser later ≡ at old.parser (chars front ++ later)) × (new.waiting ≡ behind)
+    × (new.extent ≡ extent.Part) × NeedsNoMore old.parser new.parser
+Takes front behind old status.NoMemory new = LosesRest old new
+Takes front behind old s new = ⊥
 
 -- These bytes came in place of those that waited: whole characters of them are the parser's, and a cut one waits. They
 -- are refused only if no bytes that may come later make them UTF-8, and taken in only if some do. If they are refused,
@@ -91,9 +122,10 @@ Adds bytes old s new = AddsBytes old.extent bytes old s new
 
 -- What waits and how much came stay, and where no more of the text was wanted, none is.
 abbrev pub KeepsRest : Coming → Coming → Type 0
-KeepsRest old new = (new ≡ record old { parser = new.parser }) × NeedsNoMore old.parser new.parser
+KeepsRest old new =
+    (new ≡ record old { parser = new.parser; last_end = new.last_end }) × NeedsNoMore old.parser new.parser
 
 abbrev pub IsCopyOfPieces : Coming → Coming → Type 0
 IsCopyOfPieces old copy =
     (copy.parser ≡ old.parser) × (copy.waiting.items ≡ old.waiting.items) × (copy.extent ≡ old.extent)
-    × (copy.most_waiting ≡ old.most_waiting)
+    × (copy.most_waiting ≡ old.most_waiting) × (copy.last_end ≡ old.last_end)

@@ -5,6 +5,7 @@ use Rattle.std.specs.Str.{chars}
 use Rattle.std.specs.declared.alloc.AllocError.{AllocError}
 use Rattle.std.specs.declared.boxed.Box.{Box}
 use Rattle.std.specs.Global.{Global}
+use Rattle.saphyr_scalar.specs.declared.scalar.position.Marker.{Marker}
 use Rattle.saphyr_scalar.specs.declared.scalar.position.Span.{Span}
 use Rattle.saphyr_parser.specs.Limits.{most_characters}
 use Rattle.saphyr_parser.specs.Types.Event.{Event}
@@ -23,7 +24,7 @@ use Rattle.saphyr_parser_c.specs.declared.source.Source.{Source}
 use Rattle.saphyr_parser_c.specs.declared.source.Source.TheVariants as source
 use Rattle.saphyr_parser_c.specs.declared.status.Status.{Status}
 use Rattle.saphyr_parser_c.specs.declared.status.Status.TheVariants as status
-use Rattle.saphyr_parser_c.specs.Coming.{Adds, IsOfNothing, at_bytes}
+use Rattle.saphyr_parser_c.specs.Coming.{Adds, IsOfNothing, at_bytes, end_of_last}
 use Rattle.saphyr_parser_c.specs.Coming.{IsCopyOfPieces, KeepsRest, WritesWaiting}
 use Rattle.saphyr_parser_c.specs.Encoding.{BeginsAsUtf16}
 use Rattle.saphyr_parser_c.specs.Same.{IsSameFault}
@@ -102,15 +103,23 @@ IsAtFrom true coming inner later c = GivesNext (handed inner) c (at_bytes coming
 abbrev pub IsAt : Coming → Inner → List ℕ → EventCursor → Type 0
 IsAt coming inner later c = IsAtFrom inner.shown coming inner later c
 
--- It depends on bytes that did not come. No event is written, and the place stays.
+-- It depends on bytes that did not come. No event is written, but where the last one ends, and the place stays.
 pub record WaitsForMore (old : Coming) (before : Inner) (s : Status) (c : CEvent) (new : Coming) (after : Inner)
     : Type 0 where
   pub status : WritesWaiting s new
   pub not_shown : before.shown ≡ false
-  pub blank : HasFields no_fields nowhere nowhere c
+  pub blank : HasFields no_fields old.last_end old.last_end c
   pub event : KeepsNone after
   pub wants : wants_more new.parser ≡ true
   pub place : (later : List ℕ) (at : EventCursor) → IsAt old before later at → IsAt new after later at
+
+-- The last event ends where that does which is read, if one is. What was shown was read before.
+abbrev pub PassesFrom : Bool → Coming → Coming → Inner → Type 0
+PassesFrom false old new after = new.last_end ≡ end_of_last (handed after) old.last_end
+PassesFrom true old new after = new.last_end ≡ old.last_end
+
+abbrev pub Passes : Coming → Inner → Coming → Inner → Type 0
+Passes old before new after = PassesFrom before.shown old new after
 
 -- the same item, wherever its texts are
 abbrev pub IsSameItem : Option (Result (Event × Span) Fault) → Option (Result (Event × Span) Fault) → Type 0
@@ -165,7 +174,7 @@ HandsFrom (source.Whole old) before s c after =
     × HandsOfWhole old new after s c
 HandsFrom (source.Pieces old) before s c after =
     (new : Box Coming Global) × (after.source ≡ source.Pieces new) × KeepsRest old.value new.value
-    × HandsOfComing s c old.value before new.value after
+    × Passes old.value before new.value after × HandsOfComing s c old.value before new.value after
 
 -- what comes next is handed out, or it waits for more of the text; the trees stay
 abbrev pub HandsToC : Inner → Status → CEvent → Inner → Type 0
@@ -177,7 +186,7 @@ ShowsFrom (source.Whole old) before s c after =
     × (handed after ≡ handed before)
 ShowsFrom (source.Pieces old) before s c after =
     (new : Box Coming Global) × (after.source ≡ source.Pieces new) × KeepsRest old.value new.value
-    × ShowsOfComing s c old.value before new.value after
+    × Passes old.value before new.value after × ShowsOfComing s c old.value before new.value after
 
 -- what comes next is shown, or it waits for more of the text; the trees stay
 abbrev pub ShowsToC : Inner → Status → CEvent → Inner → Type 0
@@ -212,6 +221,7 @@ KeepsFrom (source.Whole old) keep new = new ≡ source.Whole (keeping_tags keep 
 KeepsFrom (source.Pieces old) keep new =
     (coming : Box Coming Global) × (new ≡ source.Pieces coming) × KeepsRest old.value coming.value
     × ((later : List ℕ) → at_bytes coming.value later ≡ keeping_tags keep (at_bytes old.value later))
+    × (coming.value.last_end ≡ old.value.last_end)
 
 -- it has that setting, and nothing else changes
 abbrev pub SetsKeepTags : Bool → Inner → Inner → Type 0
@@ -220,9 +230,9 @@ SetsKeepTags keep before after =
 
 -- ## Inner steps
 
-abbrev pub Waits : Inner → Status → Status → CEvent → Inner → Type 0
-Waits before why s c after =
-    (s ≡ why) × HasFields no_fields nowhere nowhere c × (after ≡ record before { progress = progress.Over })
+abbrev pub Waits : Inner → Status → Marker → Status → CEvent → Inner → Type 0
+Waits before why place s c after =
+    (s ≡ why) × HasFields no_fields place place c × (after ≡ record before { progress = progress.Over })
 
 -- what is kept is written; its texts may move
 pub record WritesKept (before : Inner) (s : Status) (c : CEvent) (after : Inner) : Type 0 where

@@ -1,7 +1,9 @@
--- The numbers of statuses in C.
-use Rattle.std.specs.Prelude.{ℤ, pos, negsuc}
+-- The numbers of statuses in C, and that of a text that is refused.
+use Rattle.std.specs.Prelude.{◌≡◌, ℕ, ℤ, List, pos, negsuc}
+use Rattle.saphyr_scalar.specs.declared.scalar.fault.FaultText.TheVariants.{TextTooLong}
+use Rattle.saphyr_scalar.specs.Texts.{words}
 use Rattle.saphyr_parser_c.specs.declared.status.Status.{Status}
-use Rattle.saphyr_parser_c.specs.declared.status.Status.TheVariants.{Done, End, Event, Refused, NoMemory, NotUtf8, NoParser, Utf16, More, Loaded, Whole, TooMuch, TooLarge, Late, Deviates, Finding, Wrong, NotChecked}
+use Rattle.saphyr_parser_c.specs.declared.status.Status.TheVariants.{Done, End, Event, Refused, NoMemory, NotUtf8, NoParser, Utf16, More, Loaded, Whole, TooMuch, TooLarge, Late, Deviates, Finding, Wrong, NotChecked, TooLong}
 
 -- `negsuc n` is -(n + 1)
 abbrev pub code_of : Status → ℤ
@@ -23,3 +25,10 @@ code_of Deviates = pos 4
 code_of Finding = pos 5
 code_of Wrong = pos 6
 code_of NotChecked = negsuc 9
+code_of TooLong = negsuc 10
+
+-- what is told of a text that is refused, by what its fault says: one with more characters than may is told apart
+abbrev pub TellsRefusal : List ℕ → Status → Type 0
+TellsRefusal info TooLong = info ≡ words TextTooLong
+TellsRefusal info Refused = info ≡ words TextTooLong → ⊥
+TellsRefusal info _ = ⊥

@@ -94,7 +94,7 @@ pub fn write_fault(alloc: Global, fault: &mut Fault, out: &mut CEvent) -> Status
         Fault::Scan(error) => {
             *out = refused(error);
             out.value = kept(alloc, &mut error.info);
-            Status::Refused
+            Status::of_refusal(error.info.as_str())
         }
         Fault::OutOfMemory | Fault::Receiver | Fault::InsideDocument => {
             *out = blank();
@@ -111,7 +111,7 @@ fn write_lent_fault(fault: &Fault, out: &mut CEvent) -> Status
         Fault::Scan(error) => {
             *out = refused(error);
             out.value = lent(error.info.as_str());
-            Status::Refused
+            Status::of_refusal(error.info.as_str())
         }
         Fault::OutOfMemory | Fault::Receiver | Fault::InsideDocument => {
             *out = blank();

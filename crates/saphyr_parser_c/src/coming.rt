@@ -1,13 +1,13 @@
 //! A parser of a text in UTF-8 that comes in pieces, which may be cut inside a character.
 
-ghost use Rattle.std.specs.Prelude.{◌≡◌, ◌++◌, List, ℕ, IfOk};
+ghost use Rattle.std.specs.Prelude.{◌≡◌, ◌++◌, List, ℕ, IfOk, IsUtf8};
 ghost use Rattle.saphyr_parser.specs.Cursor.{keeping_tags};
 ghost use Rattle.saphyr_pieces.specs.Pieces.{EndsWithFault, HandsOutOrWaits, at};
 ghost use Rattle.saphyr_parser_c.specs.Coming as spec;
 
 use crate::encoding::{begins_as_utf16, whole_front};
 use crate::status::Status;
-use saphyr_parser::{Event, Fault, Progress, Span};
+use saphyr_parser::{Event, Fault, Marker, Progress, Span};
 use saphyr_pieces::PieceParser;
 use std::alloc::{AllocError, Global};
 
@@ -38,6 +38,8 @@ pub struct Coming {
     pub(super) extent: Extent,
     // How many bytes may wait for an event.
     pub(super) most_waiting: usize,
+    // Where the last event ends.
+    pub(super) last_end: Marker,
 }
 
 impl Coming {
@@ -61,6 +63,7 @@ impl Coming {
             waiting: Vec::new(alloc),
             extent: Extent::Nothing,
             most_waiting,
+            last_end: Marker::new(0, 1, 0),
         })
     }
 
@@ -73,6 +76,13 @@ impl Coming {
         } else {
             Status::More
         }
+    }
+
+    /// Where the last event ends: what is behind that place waits.
+    pub fn last_end(&self) -> Marker
+        ensures { result ≡ self.now.last_end }
+    {
+        self.last_end
     }
 
     /// Adds the next bytes. No bytes say that no more come.
@@ -93,6 +103,22 @@ impl Coming {
                     Status::NoMemory
                 }
             }
+        }
+    }
+
+    /// Adds the next bytes, which are a text. This isn't tested but where a character was cut, whose rest they lack.
+    pub fn add_text(&mut self, alloc: Global, text: &str) -> Status
+        requires { IsUtf8 text.now }
+        ensures { spec.Adds text.now self.old result self.new }
+    {
+        if self.extent == Extent::All {
+            Status::Whole
+        } else if text.is_empty() {
+            self.end()
+        } else if self.waiting.is_empty() {
+            self.take(text, Vec::new(alloc))
+        } else {
+            self.add(alloc, text.as_bytes())
         }
     }
 
@@ -118,6 +144,13 @@ impl Coming {
             return Status::NoMemory;
         };
         let front = unsafe { str::from_utf8_unchecked(front) };
+        self.take(front, waiting)
+    }
+
+    // Adds characters, behind which these bytes wait.
+    fn take(&mut self, front: &str, waiting: Vec<u8>) -> Status
+        ensures { spec.Takes front.now waiting self.old result self.new }
+    {
         let Ok(()) = self.parser.add(front) else {
             self.extent = Extent::All;
             return Status::NoMemory;
@@ -169,8 +202,17 @@ impl Coming {
         ensures next { HandsOutOrWaits result next.new fault.new self.old.parser self.new.parser }
         ensures ended { EndsWithFault result self.new.parser }
         ensures same { spec.KeepsRest self.old self.new }
+        ensures last { spec.GoesBehind result next.new fault.new self.old self.new }
     {
-        self.parser.next_event_into(next, fault)
+        match self.parser.next_event_into(next, fault) {
+            Some(Progress::Event) => {
+                self.last_end = next.1.end;
+                Some(Progress::Event)
+            }
+            Some(Progress::Fault) => Some(Progress::Fault),
+            Some(Progress::Over) => Some(Progress::Over),
+            None => None,
+        }
     }
 
     /// An independent parser at the same place.
@@ -183,6 +225,7 @@ impl Coming {
             waiting,
             extent: self.extent,
             most_waiting: self.most_waiting,
+            last_end: self.last_end,
         })
     }
 
@@ -191,6 +234,7 @@ impl Coming {
         ensures at { (later : List ℕ)
             → at self.new.parser later ≡ keeping_tags value (at self.old.parser later) }
         ensures same { spec.KeepsRest self.old self.new }
+        ensures last { self.new.last_end ≡ self.old.last_end }
     {
         self.parser.keep_tags(value);
     }

@@ -7,10 +7,10 @@ use crate::answer::{write_event, write_fault, write_lent};
 use crate::coming::Coming;
 use crate::encoding::begins_as_utf16;
 use crate::found::Found;
-use crate::shown::{CEvent, blank};
+use crate::shown::{CEvent, bare, blank};
 use crate::source::Source;
 use crate::status::Status;
-use saphyr_parser::{Event, Fault, Parser, Progress, Span, no_event};
+use saphyr_parser::{Event, Fault, Marker, Parser, Progress, Span, no_event};
 use std::alloc::{AllocError, Global};
 use std::mem;
 use yaml_tree::NodeTable;
@@ -124,6 +124,17 @@ impl Inner {
         }
     }
 
+    /// The same of bytes that are known to be a text.
+    pub fn add_text(&mut self, alloc: Global, text: &str) -> Status
+        requires { IsUtf8 text.now }
+        ensures { spec.AddsToC text.now self.old result self.new }
+    {
+        match &mut self.source {
+            Source::Whole(_) => Status::Whole,
+            Source::Pieces(coming) => coming.add_text(alloc, text),
+        }
+    }
+
     /// Hands out what comes next, and keeps it here until the next call.
     pub fn step(&mut self, alloc: Global, out: &mut CEvent) -> Status
         ensures { spec.HandsToC self.old result out.new self.new }
@@ -140,7 +151,8 @@ impl Inner {
             Source::Pieces(coming) => {
                 let Some(progress) = coming.next_into(&mut self.next, &mut self.fault) else {
                     let status = coming.waiting_status();
-                    return self.wait(status, out);
+                    let place = coming.last_end();
+                    return self.wait(status, place, out);
                 };
                 self.progress = progress;
                 self.write(alloc, out)
@@ -148,12 +160,12 @@ impl Inner {
         }
     }
 
-    // Says that no event comes, and why.
-    fn wait(&mut self, status: Status, out: &mut CEvent) -> Status
-        ensures { spec.Waits self.old status result out.new self.new }
+    // Says that no event comes, why, and behind which place.
+    fn wait(&mut self, status: Status, place: Marker, out: &mut CEvent) -> Status
+        ensures { spec.Waits self.old status place result out.new self.new }
     {
         self.progress = Progress::Over;
-        *out = blank();
+        *out = bare(0, place, place);
         status
     }
 
@@ -185,7 +197,8 @@ impl Inner {
             Source::Pieces(coming) => {
                 let Some(progress) = coming.next_into(&mut self.next, &mut self.fault) else {
                     let status = coming.waiting_status();
-                    return self.wait(status, out);
+                    let place = coming.last_end();
+                    return self.wait(status, place, out);
                 };
                 self.progress = progress;
                 self.shown = true;

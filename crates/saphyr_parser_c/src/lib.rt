@@ -157,6 +157,22 @@ pub extern "C" fn saphyr_add(alloc: Global, parser: &mut Handle, bytes: &[u8]) -
     status.code()
 }
 
+/// Adds the next characters of a text that comes in pieces. The caller knows that the bytes are some, so this isn't
+/// tested. No bytes say that no more come.
+#[unsafe(no_mangle)]
+pub extern "C" fn saphyr_add_utf8(alloc: Global, parser: &mut Handle, bytes: &[u8]) -> i32
+    requires { IsUtf8 bytes.now }
+    ensures { spec.AddsTo bytes.now parser.old.value result parser.new.value }
+{
+    let Some(mut inner) = take(alloc, parser) else {
+        return Status::NoParser.code();
+    };
+    let text = unsafe { str::from_utf8_unchecked(bytes) };
+    let status = inner.add_text(alloc, text);
+    put_back(parser, inner);
+    status.code()
+}
+
 /// How many bytes at the front of a text are UTF-8. If not all are, this is the place of the first that is not.
 #[unsafe(no_mangle)]
 pub extern "C" fn saphyr_valid_up_to(text: &'static [u8]) -> usize
@@ -255,7 +271,7 @@ pub extern "C" fn saphyr_free(alloc: Global, parser: &mut Handle)
 /// The version of the library, as the header counts it.
 #[unsafe(no_mangle)]
 pub extern "C" fn saphyr_version() -> u32
-    ensures { result ≡ 3000 }
+    ensures { result ≡ 3001 }
 {
-    3000
+    3001
 }

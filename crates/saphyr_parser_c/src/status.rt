@@ -1,7 +1,9 @@
 //! What a call returns, and its number in C.
 
 ghost use Rattle.std.specs.Prelude.{◌≡◌};
-ghost use Rattle.saphyr_parser_c.specs.Status.{code_of};
+ghost use Rattle.saphyr_parser_c.specs.Status.{TellsRefusal, code_of};
+
+use saphyr_scalar::FaultText;
 
 /// What a call returns.
 #[derive(Clone, Copy)]
@@ -42,6 +44,8 @@ pub enum Status {
     Wrong,
     /// No text is checked.
     NotChecked,
+    /// The text is refused, since it has more characters than may.
+    TooLong,
 }
 
 impl Status {
@@ -68,6 +72,18 @@ impl Status {
             Status::Finding => 5,
             Status::Wrong => 6,
             Status::NotChecked => -10,
+            Status::TooLong => -11,
+        }
+    }
+
+    /// What is returned of a text that is refused, by what its fault says.
+    pub fn of_refusal(info: &str) -> Status
+        ensures { TellsRefusal info.now result }
+    {
+        if info == FaultText::TextTooLong.words() {
+            Status::TooLong
+        } else {
+            Status::Refused
         }
     }
 }

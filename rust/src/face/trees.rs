@@ -6,7 +6,7 @@
 //! node is: each call takes a lock, since the library allows one call at a time.
 
 use super::{copy_of_tag, expect, marker, style};
-use super::{Face, Handle, Record, END, EVENT, OK, REFUSED};
+use super::{Face, Handle, Record, END, EVENT, OK, REFUSED, TOO_LONG};
 use crate::event::Tag;
 use crate::scanner::{Marker, ScalarStyle, ScanError, Span};
 use std::collections::HashSet;
@@ -316,7 +316,7 @@ impl Face<'_> {
         let start = marker(&self.record.start);
         match status {
             // SAFETY: this was the last call with the parser.
-            REFUSED => Err(LoadError::Refused(ScanError::new_str(start, unsafe {
+            REFUSED | TOO_LONG => Err(LoadError::Refused(ScanError::new_str(start, unsafe {
                 self.record.value.text()
             }))),
             TOO_LARGE => Err(LoadError::TooLarge(start)),

@@ -1,7 +1,7 @@
 //! An input over an iterator of characters.
 
 use crate::char_traits::is_yaml_non_break;
-use crate::face::text_of_ascii;
+use crate::face::characters::push_all;
 use crate::input::Input;
 use crate::parts::{is_behind, is_part};
 use std::collections::VecDeque;
@@ -11,9 +11,6 @@ const WINDOW: usize = 16;
 
 /// How many bytes are taken at a time of what the iterator says it has.
 const MOST_THERE: usize = 1 << 16;
-
-/// How many characters are put together before they go to the text.
-const AT_ONCE: usize = 256;
 
 /// The characters that an iterator gives up to its first `None`.
 #[derive(Clone)]
@@ -37,18 +34,17 @@ impl<T: Iterator<Item = char>> BufferedInput<T> {
     /// Takes characters as long as the source says that it has more, but not too many at a time. That of a text in
     /// memory says so, and that of a pipe does not: of that it takes a line.
     fn take_characters(&mut self, line: &mut String) {
-        let mut ascii = [0; AT_ONCE];
         while line.len() < MOST_THERE && !self.has_ended {
-            let count = self.source.size_hint().0.min(AT_ONCE);
+            let count = self.source.size_hint().0;
             if count == 0 {
                 break;
             }
-            self.has_ended = !push_all(line, &mut self.source, &mut ascii[..count], |_, _| true);
+            self.has_ended = !push_all(line, &mut self.source, count, |_, _| true);
         }
         while !is_part(line) && !line.ends_with('\r') && !self.has_ended {
             // What ends a line, or the first four characters of one that are a marker, ends what is put together.
             let goes_on = |before: &[u8], c| c > '\r' && (c != ' ' || before != b"---");
-            self.has_ended = !push_all(line, &mut self.source, &mut ascii, goes_on);
+            self.has_ended = !push_all(line, &mut self.source, usize::MAX, goes_on);
         }
     }
 
@@ -129,52 +125,5 @@ impl<T: Iterator<Item = char>> Input for BufferedInput<T> {
 
     fn peek_opt(&self) -> Option<char> {
         self.loaded[0]
-    }
-}
-
-/// Puts characters of a source behind a text, as many as there is room for, or up to the first of ASCII that does not
-/// go on behind those before it. Those of ASCII are put together first, which takes fewer instructions. Returns whether
-/// the source had not ended.
-fn push_all(
-    text: &mut String,
-    source: &mut impl Iterator<Item = char>,
-    mut ascii: &mut [u8],
-    goes_on: impl Fn(&[u8], char) -> bool,
-) -> bool {
-    while !ascii.is_empty() {
-        let (count, next) = take_ascii(source, ascii, &goes_on);
-        push_ascii(text, &ascii[..count]);
-        let Some(c) = next else {
-            return count == ascii.len();
-        };
-        text.push(c);
-        if c.is_ascii() {
-            return true;
-        }
-        ascii = &mut ascii[count + 1..];
-    }
-    true
-}
-
-/// Takes characters of a source up to the first that is not ASCII or does not go on. Returns how many came before that,
-/// and it, unless the source has ended.
-#[inline]
-fn take_ascii(
-    source: &mut impl Iterator<Item = char>,
-    ascii: &mut [u8],
-    goes_on: impl Fn(&[u8], char) -> bool,
-) -> (usize, Option<char>) {
-    for at in 0..ascii.len() {
-        match source.next() {
-            Some(c) if c.is_ascii() && goes_on(&ascii[..at], c) => ascii[at] = c as u8,
-            other => return (at, other),
-        }
-    }
-    (ascii.len(), None)
-}
-
-fn push_ascii(text: &mut String, ascii: &[u8]) {
-    if !ascii.is_empty() {
-        text.push_str(text_of_ascii(ascii));
     }
 }

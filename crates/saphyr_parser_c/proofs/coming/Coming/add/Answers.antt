@@ -1,15 +1,11 @@
 -- Where none wait, the bytes alone are taken in.
-use Rattle.std.proofs.Common.{◌≡◌, ◌∙◌, ℕ, List, [], ◌∷◌, arith, length, refl, sym}
+use Rattle.std.proofs.Common.{◌∙◌, arith, length, sym}
 use Rattle.std.proofs.lemmas.Bool.{eqb-false, eqb-true}
 use denote.Enum.Bare.{same_false}
 use Rattle.saphyr_parser_c.specs.contracts.coming.Extent.{the_type}
 use Rattle.saphyr_parser_c.specs.declared.coming.Extent.TheVariants as extent
-use Rattle.saphyr_parser_c.proofs.Adding.{first_are_added}
+use Rattle.saphyr_parser_c.proofs.Adding.{first_are_added, none_wait}
 use Rattle.saphyr_parser_c.proofs.coming.Coming.add.Goals as goal
-
-none_wait : (waiting : List ℕ) → length waiting ≡ 0 → waiting ≡ []
-none_wait [] none = refl
-none_wait (b ∷ bs) none = absurd (omega (arith, none))
 
 pub returns-then-is_empty-2 : goal.returns-then-is_empty-2
 returns-then-is_empty-2 c =

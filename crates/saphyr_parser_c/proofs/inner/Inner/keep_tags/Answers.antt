@@ -15,6 +15,7 @@ returns-in-Pieces c =
       keeps_from_pieces value _ c.in-Pieces.coming _ c.in-Pieces.is
           (subst (λ (m : Coming). (later : List ℕ) → at new.parser later ≡ keeping_tags value (at m.parser later)) is
           kept.at)
-          (subst (λ (m : Coming). KeepsRest m new) is kept.same),
+          (subst (λ (m : Coming). KeepsRest m new) is kept.same)
+          (subst (λ (m : Coming). new.last_end ≡ m.last_end) is kept.last),
       refl,
     )

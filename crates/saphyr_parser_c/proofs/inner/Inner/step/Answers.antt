@@ -1,7 +1,8 @@
 -- What is read, or was shown, is handed out.
-use Rattle.std.proofs.Common.{None, Some, subst}
+use Rattle.std.proofs.Common.{◌∙◌, None, Some, ap, subst}
+use Rattle.saphyr_parser_c.specs.declared.coming.Coming.{Coming}
 use Rattle.saphyr_parser_c.specs.Coming.{WritesWaiting}
-use Rattle.saphyr_parser_c.proofs.Handing.{hands_lent, hands_next, hands_none, hands_shown, same_lent}
+use Rattle.saphyr_parser_c.proofs.Handing.{behind_lent, hands_lent, hands_next, hands_none, hands_shown, same_lent}
 use Rattle.saphyr_parser_c.proofs.inner.Inner.step.Goals as goal
 
 pub returns-in_default : goal.returns-in_default
@@ -12,10 +13,11 @@ returns-in_default c =
     let is = c.deref_mut.ensures.value in
     hands_none c.args.self.now c.wait.result c.wait.new.out c.in-Pieces.field-0 _ c.next_into.new.next
     c.next_into.new.fault c.in-Pieces.is c.if-self.false (same_lent lent old new is c.next_into.ensures.same)
-    c.waiting_status-status.result c.wait.new.self
+    c.waiting_status-status.result c.last_end-place.result c.wait.new.self
     (subst (WritesWaiting c.waiting_status-status.result) c.deref.ensures c.waiting_status-status.ensures)
     (hands_lent None c.next_into.new.next c.next_into.new.fault lent old new is c.in_default.ensures.next)
-    c.wait.ensures
+    (behind_lent None c.next_into.new.next c.next_into.new.fault lent old new is c.in_default.ensures.last)
+    c.wait.ensures (c.last_end-place.ensures ∙ ap (λ (m : Coming). m.last_end) c.deref-in_default.ensures)
 
 pub returns-in-Pieces : goal.returns-in-Pieces
 returns-in-Pieces c =
@@ -34,4 +36,5 @@ returns-in-Some c =
     (same_lent lent old new is c.next_into.ensures.same) p c.write-in-Pieces-2.new.self
     (hands_lent (Some p) c.next_into.new.next c.next_into.new.fault lent old new is c.in-Some.ensures.next)
     c.in-Some.ensures.ended
+    (behind_lent (Some p) c.next_into.new.next c.next_into.new.fault lent old new is c.in-Some.ensures.last)
     c.write-in-Pieces-2.ensures
