@@ -28,7 +28,7 @@ use Rattle.yaml_check.specs.Checked.{IsFound, NamesFindings}
 use Rattle.yaml_check.specs.Found.{AreFindings, verdict_of}
 use Rattle.yaml_check.specs.Opened.{OpenStarts}
 use Rattle.yaml_check.specs.Reports.{IsReport, name_in}
-use Rattle.yaml_check.specs.Checks.{Checks, IsCutShort, IsReported, IsRight, Judges, JudgesBytes, TellsUnread, WritesLines, WritesTold, events_asked, told_unless_quiet}
+use Rattle.yaml_check.specs.Checks.{Checks, IsCutShort, IsReportOfOther, IsReported, IsRight, Judges, JudgesBytes, JudgesOther, TellsUnread, WritesLines, WritesTold, events_asked, told_unless_quiet}
 use Rattle.yaml_standard.specs.Verdicts.{IsStandard}
 
 pub judges_text : (r : Result Verdict CheckFault) (name : List ℕ) (options : Options) (text bytes : List ℕ)
@@ -45,6 +45,26 @@ checks_read (Err (fault.CantRead e)) name options bytes unread left old new read
 checks_read (Err (fault.CantRead e)) name options bytes unread left old new read (inr h) = absurd h.1
 checks_read (Err fault.CantWrite) name options bytes unread left old new read h = (bytes, read, h)
 checks_read (Err fault.OutOfMemory) name options bytes unread left old new read h = (bytes, read, h)
+
+-- ## Bytes that are no text
+
+pub other_want : (r : Result Verdict CheckFault) (name : List ℕ) (options : Options) (bytes : List ℕ) (old :
+    Option (List ℕ)) → IsErrAnd r (λ f. f ≡ fault.OutOfMemory) → JudgesOther r name options bytes old old
+other_want (Ok v) name options bytes old h = absurd h
+other_want (Err f) name options bytes old h = rw h refl
+
+pub other_fault : (r : Result Verdict CheckFault) (f : CheckFault) (name : List ℕ) (options : Options) (bytes : List ℕ)
+    (old new : Option (List ℕ)) → IsErrAnd r (λ e. e ≡ f) → JudgesOther (Err f) name options bytes old new
+    → JudgesOther r name options bytes old new
+other_fault (Ok v) f name options bytes old new h judged = absurd h
+other_fault (Err e) f name options bytes old new h judged = rw h judged
+
+pub other_cut : (f : CheckFault) (name : List ℕ) (options : Options) (bytes told : List ℕ) (old new : Option (List ℕ))
+    → IsReportOfOther name options bytes told → WritesTold (Err f) (told_unless_quiet options told) old new
+    → JudgesOther (Err f) name options bytes old new
+other_cut (fault.CantRead e) name options bytes told old new report h = absurd h
+other_cut fault.CantWrite name options bytes told old new report h = (told, report, h)
+other_cut fault.OutOfMemory name options bytes told old new report h = absurd h
 
 -- ## Up to a failure
 

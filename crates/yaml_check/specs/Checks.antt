@@ -1,6 +1,7 @@
 -- What the check of a source reads and writes, and what its verdict means.
-use Rattle.std.specs.Prelude.{◌≡◌, ℕ, ◌⊎◌, true, if◌then◌else◌, List, [], ◌++◌, Option, None, Result, Ok, Err}
+use Rattle.std.specs.Prelude.{◌≡◌, ℕ, ◌⊎◌, true, if◌then◌else◌, List, [], ◌++◌, take, Option, None, Result, Ok, Err}
 use Rattle.std.specs.Str.{chars, IsUtf8}
+use Rattle.std.specs.Str.Lossy.{utf8_valid_len}
 use Rattle.std.specs.Io.KnownBytes.{Appends}
 use Rattle.saphyr_parser.specs.Answer.{Answer}
 use Rattle.saphyr_parser.specs.Printed.{printed_lines}
@@ -12,6 +13,7 @@ use Rattle.yaml_check.specs.declared.run.CheckFault.TheVariants as fault
 use Rattle.yaml_check.specs.declared.finding.Verdict.{Verdict}
 use Rattle.yaml_check.specs.declared.finding.Verdict.TheVariants as verdict
 use Rattle.yaml_check.specs.Checked.{IsFound}
+use Rattle.yaml_check.specs.Encoding.{IsFoundInOther}
 use Rattle.yaml_check.specs.Warned.{nothing_seen, warnings_on}
 use Rattle.yaml_check.specs.Reports.{IsReport, name_in, unread}
 use Rattle.yaml_standard.specs.Verdicts.{IsStandard}
@@ -62,17 +64,27 @@ Judges (Err fault.CantWrite) name options bytes old new = IsCutShort name option
 Judges (Err fault.OutOfMemory) name options bytes old new =
     TakesBeginning old new (events_asked options (answer_of_text bytes))
 
--- bytes that are no text are wrong
-abbrev pub IsWrong : Result Verdict CheckFault → Type 0
-IsWrong (Ok v) = v ≡ verdict.Wrong
-IsWrong (Err (fault.CantRead e)) = ⊥
-IsWrong (Err _) = Unit {0}
+-- What is told of bytes that are no text: one error, at the first that begins no character, in the text before that.
+pub record IsReportOfOther (name : List ℕ) (options : Options) (bytes told : List ℕ) : Type 0 where
+  pub found : Findings
+  pub is_found : IsFoundInOther bytes found
+  pub report : IsReport options.format (name_in options.format name) (chars (take (utf8_valid_len bytes) bytes)) found told
+
+-- Bytes that are no text are wrong, and that is told.
+abbrev pub JudgesOther : Result Verdict CheckFault → List ℕ → Options → List ℕ → Option (List ℕ) → Option (List ℕ)
+    → Type 0
+JudgesOther (Ok v) name options bytes old new = (v ≡ verdict.Wrong)
+    × ((told : List ℕ) × IsReportOfOther name options bytes told × Appends old new (told_unless_quiet options told))
+JudgesOther (Err (fault.CantRead e)) name options bytes old new = ⊥
+JudgesOther (Err fault.CantWrite) name options bytes old new =
+    (told : List ℕ) × IsReportOfOther name options bytes told × TakesBeginning old new (told_unless_quiet options told)
+JudgesOther (Err fault.OutOfMemory) name options bytes old new = new ≡ old
 
 -- What the verdict says of bytes.
 abbrev pub JudgesBytes : Result Verdict CheckFault → List ℕ → Options → List ℕ → Option (List ℕ) → Option (List ℕ)
     → Type 0
 JudgesBytes r name options bytes old new =
-    (IsUtf8 bytes × Judges r name options bytes old new) ⊎ ((¬ IsUtf8 bytes) × IsWrong r)
+    (IsUtf8 bytes × Judges r name options bytes old new) ⊎ ((¬ IsUtf8 bytes) × JudgesOther r name options bytes old new)
 
 -- What a check of a source answers: the bytes that it has left, and those that the writer holds, before and after.
 -- Where the source can't be read, nothing is written.

@@ -3,7 +3,7 @@ ghost use Rattle.std.specs.Prelude.{◌≡◌, ◌≤◌, ◌↔◌, IfOk};
 ghost use Rattle.saphyr_parser.specs.Runs.{answer_of_text, ReadsAll};
 ghost use Rattle.yaml_check.specs.Statuses as status;
 ghost use Rattle.yaml_check.specs.Statuses.{AllPass, OneUnchecked};
-ghost use Rattle.yaml_check.specs.Checks.{Checks, IsWrong, Judges, JudgesBytes, TellsUnread, WritesLines, WritesTold, events_asked, told_unless_quiet};
+ghost use Rattle.yaml_check.specs.Checks.{Checks, Judges, JudgesBytes, JudgesOther, TellsUnread, WritesLines, WritesTold, events_asked, told_unless_quiet};
 
 use crate::arguments::Options;
 use crate::checking::check_text;
@@ -140,7 +140,8 @@ fn tell_not_utf8<W: Write>(
     options: Options,
     out: &mut W,
 ) -> Result<Verdict, CheckFault>
-    ensures { IsWrong result }
+    ensures { JudgesOther result name.now options bytes.now (W.contents out.old)
+        (W.contents out.new) }
 {
     let found = not_utf8(alloc, bytes)?;
     let reported = report(alloc, name, text_before(bytes), &found, options.format);
