@@ -19,6 +19,7 @@ pub mod LineDirectives
 pub mod LineFeeds
 pub mod NodeProperties
 pub mod Pieces
+pub mod Places
 pub mod PlainScalars
 pub mod PlainValues
 pub mod PlainWords

@@ -9,8 +9,10 @@ pub mod Leads
 pub mod Leaves
 pub mod NodeProperties
 pub mod Percent
+pub mod Places
 pub mod PlainParts
 pub mod Quotes
+pub mod Rules
 pub mod Strict
 pub mod Takes
 pub mod Verdicts

@@ -3,6 +3,7 @@
 
 use crate::front::front_before;
 use crate::goal::{Goal, Kind};
+use crate::refused::last_fault;
 use crate::strict::{Part, first_unprintable};
 use saphyr_parser::{
     Event, Fault, Marker, Parser, Progress, ScalarStyle, Span, StrInput, no_event,
@@ -174,16 +175,10 @@ impl<'a> Guide<'a> {
     }
 
     /// Goes on to the end: the fault that ends the events, if one does.
-    pub(crate) fn into_fault(mut self) -> Option<Fault> {
-        for _ in 0..usize::MAX {
-            if matches!(self.hint.kind, HintKind::Fault) {
-                break;
-            }
-            self.pass();
-        }
+    pub(crate) fn into_fault(self) -> Option<Fault> {
         let Guide {
-            parser,
-            next,
+            mut parser,
+            mut next,
             fault,
             is_refused,
             hint: _hint,
@@ -192,13 +187,14 @@ impl<'a> Guide<'a> {
             is_printable: _is_printable,
             parts,
         } = self;
-        drop((parser, next, open, parts));
-        if is_refused {
+        let last = if is_refused {
             Some(fault)
         } else {
             drop(fault);
-            None
-        }
+            last_fault(&mut parser, &mut next)
+        };
+        drop((parser, next, open, parts));
+        last
     }
 }
 

@@ -26,6 +26,7 @@ mod percent;
 mod place;
 mod plain;
 mod quoted;
+mod refused;
 mod resume;
 mod rule;
 mod spaces;

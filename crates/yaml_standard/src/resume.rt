@@ -1,5 +1,6 @@
 //! All that a text breaks. Where it can't be read on, it is read on from the next entry of a block collection that is
 //! open there, or from the next document. Nothing is promised of this: it names what a reader would see.
+ghost use Rattle.std.specs.Prelude.{◌≤◌, length, IfOk};
 
 use crate::block_lines::split_spaces;
 use crate::broken::broken_rule;
@@ -186,7 +187,9 @@ pub(crate) fn broken_rules(
     alloc: Global,
     text: &str,
     most: usize,
-) -> Result<Vec<(Rule, usize)>, AllocError> {
+) -> Result<Vec<(Rule, usize)>, AllocError>
+    ensures { IfOk result (λ found. length found.items ≤ most) }
+{
     let mut guide = Guide::new(alloc, text);
     let mut found = Vec::new(alloc);
     let mut here = Here::new(text);

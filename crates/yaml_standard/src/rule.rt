@@ -1,4 +1,6 @@
 //! The rules of YAML 1.2.2 that the parser does not keep.
+ghost use Rattle.std.specs.Prelude.{◌≡◌};
+ghost use Rattle.yaml_standard.specs.Rules as spec;
 
 /// What a text breaks, and the parser reads all the same.
 #[derive(Clone, Copy, Debug, PartialEq, Eq)]
@@ -29,7 +31,9 @@ pub enum Rule {
 
 impl Rule {
     /// Its name.
-    pub fn name(self) -> &'static str {
+    pub fn name(self) -> &'static str
+        ensures { result.now ≡ spec.rule_name self }
+    {
         match self {
             Rule::CollectionAtColon => "collection-at-colon",
             Rule::TabIndentation => "tab-indentation",
@@ -55,7 +59,9 @@ impl Rule {
     }
 
     /// The production, and what it asks.
-    pub fn sentence(self) -> &'static str {
+    pub fn sentence(self) -> &'static str
+        ensures { result.now ≡ spec.rule_sentence self }
+    {
         match self {
             Rule::CollectionAtColon =>
                 "[194] c-l-block-map-implicit-value: after a key's colon a block collection begins on a later line",
