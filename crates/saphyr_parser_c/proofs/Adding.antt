@@ -14,7 +14,7 @@ use Rattle.saphyr_parser_c.specs.declared.source.Source.{Source}
 use Rattle.saphyr_parser_c.specs.declared.source.Source.TheVariants as source
 use Rattle.saphyr_parser_c.specs.declared.status.Status.{Status}
 use Rattle.saphyr_parser_c.specs.declared.status.Status.TheVariants as status
-use Rattle.saphyr_parser_c.specs.Coming.{Adds, AddsBytes, AddsSome, Takes, TakesIn, at_bytes}
+use Rattle.saphyr_parser_c.specs.Coming.{Adds, AddsBytes, AddsSome, Takes, TakesIn}
 use Rattle.saphyr_parser_c.specs.Encoding.{IsCutCharacter, IsUtf8SoFar}
 use Rattle.saphyr_parser_c.specs.Inner.{AddsFrom, AddsToC}
 use Rattle.saphyr_parser_c.proofs.Bytes.{rest_waits, text_is_utf8_so_far}

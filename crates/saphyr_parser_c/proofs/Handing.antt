@@ -341,7 +341,8 @@ module _ (before : Inner) (s : Status) (c : CEvent) (from_box to_box : Box Comin
       → Waits (read before.progress before.shown) why place s c after → place ≡ new.last_end → HandsToC before s c after
   hands_none why place after written hands goes waits is = (
     subst (λ (x : Source). HandsFrom x before s c after) (sym from)
-        (none_comes HandsOfComing why after written hands goes (waits_at why place after waits is) (waits_to_hand why old new before _ c written)),
+        (none_comes HandsOfComing why after written hands goes (waits_at why place after waits is)
+        (waits_to_hand why old new before _ c written)),
     ap (λ (a : Inner). a.table) waits.2,
   )
 
@@ -350,6 +351,7 @@ module _ (before : Inner) (s : Status) (c : CEvent) (from_box to_box : Box Comin
       → Waits (read before.progress before.shown) why place s c after → place ≡ new.last_end → ShowsToC before s c after
   shows_none why place after written hands goes waits is = (
     subst (λ (x : Source). ShowsFrom x before s c after) (sym from)
-        (none_comes ShowsOfComing why after written hands goes (waits_at why place after waits is) (waits_to_show why old new before _ c written)),
+        (none_comes ShowsOfComing why after written hands goes (waits_at why place after waits is)
+        (waits_to_show why old new before _ c written)),
     ap (λ (a : Inner). a.table) waits.2,
   )

@@ -28,7 +28,7 @@ use Rattle.saphyr_parser_c.specs.Coming.{Adds, IsOfNothing, at_bytes, end_of_las
 use Rattle.saphyr_parser_c.specs.Coming.{IsCopyOfPieces, KeepsRest, WritesWaiting}
 use Rattle.saphyr_parser_c.specs.Encoding.{BeginsAsUtf16}
 use Rattle.saphyr_parser_c.specs.Same.{IsSameFault}
-use Rattle.saphyr_parser_c.specs.Shown.{HasFields, WritesC, WritesLent, no_fields, nowhere}
+use Rattle.saphyr_parser_c.specs.Shown.{HasFields, WritesC, WritesLent, no_fields}
 
 -- what was handed out last, which is in the places for an event and for a fault
 abbrev pub handed : Inner → Option (Result (Event × Span) Fault)

@@ -1,8 +1,7 @@
 -- Where no bytes wait, the characters are taken as they are, and else with those.
-use Rattle.std.proofs.Common.{◌∙◌, List, ℕ, [], arith, length, subst, sym}
+use Rattle.std.proofs.Common.{◌∙◌, [], arith, length, sym}
 use Rattle.std.proofs.lemmas.Bool.{eqb-false, eqb-true}
 use denote.Enum.Bare.{same_false}
-use Rattle.saphyr_parser_c.specs.Coming.{Adds}
 use Rattle.saphyr_parser_c.specs.contracts.coming.Extent.{the_type}
 use Rattle.saphyr_parser_c.specs.declared.coming.Extent.TheVariants as extent
 use Rattle.saphyr_parser_c.proofs.Adding.{first_are_added, none_wait, text_taken}
