@@ -9,8 +9,9 @@
     for port in config["ports"]:
         print(int(port), port.start.line)
 
-A text is a `str`, or bytes in UTF-8, or a `pathlib.Path`, or a file. The last two are read in pieces. Scalars are not
-resolved: `80`, `true` and `"80"` are texts, whose `style` and `tag` tell how they are written.
+A text is a `str`, or bytes in UTF-8, or a `pathlib.Path`, or a file, or an iterable of its pieces. The last three are
+read piece by piece. Scalars are not resolved: `80`, `true` and `"80"` are texts, whose `style` and `tag` tell how they
+are written.
 
 The library is proved. This package and its extension, which calls the library, are tested.
 """
@@ -24,7 +25,7 @@ from . import _saphyr_parser
 from ._saphyr_parser import Mapping, Scalar, Sequence
 
 __all__ = ["Deviation", "Event", "File", "Finding", "Findings", "Kind", "Mapping", "Marker", "Node", "NotUtf8",
-           "Reader", "Refused", "Scalar", "Sequence", "Severity", "Style", "Text", "TooLarge", "check",
+           "Piece", "Reader", "Refused", "Scalar", "Sequence", "Severity", "Style", "Text", "TooLarge", "check",
            "check_standard", "events", "load", "load_all", "merged"]
 __version__: str = _saphyr_parser.VERSION
 
@@ -38,7 +39,17 @@ T = TypeVar("T", covariant=True)
 class File(Protocol):
     """What is read in pieces: each call returns the next part of the text, and an empty one at its end."""
 
-    def read(self, size: int, /) -> Union[str, bytes, bytearray, memoryview]: ...
+    def read(self, size: int, /) -> "Piece": ...
+
+
+class _Pieces:
+    """An iterable of pieces, as a file."""
+
+    def __init__(self, pieces: "Iterable[Piece]") -> None:
+        self._left = filter(len, pieces)  # an empty one would end the text
+
+    def read(self, size: int) -> "Piece":
+        return next(self._left, b"")
 
 
 class Reader(Iterator[T], Protocol[T]):
@@ -49,7 +60,8 @@ class Reader(Iterator[T], Protocol[T]):
 
 
 Node = Union[Scalar, Sequence, Mapping]
-Text = Union[str, bytes, bytearray, memoryview, "os.PathLike[str]", File]
+Piece = Union[str, bytes, bytearray, memoryview]
+Text = Union[Piece, "os.PathLike[str]", File, Iterable[Piece]]
 
 
 class Kind(enum.IntEnum):
@@ -217,6 +229,17 @@ def _fault(is_too_large: bool, reason: str, start: Marker, name: Optional[str], 
 _saphyr_parser.use(Kind, Style, Marker, Event, _fault, NotUtf8)
 
 
+def _has_pieces(text: Text) -> bool:
+    """Whether it is an iterable of pieces, and neither a text nor a file."""
+    if isinstance(text, str) or hasattr(text, "read") or not hasattr(text, "__iter__"):
+        return False
+    try:
+        memoryview(text)  # type: ignore[arg-type]
+    except TypeError:
+        return True
+    return False
+
+
 def _read(text: Text, name: Optional[str], *how: Any) -> Any:
     """A reader of the text. A file that is opened here is closed by the reader."""
     close: Optional[Callable[[], None]] = None
@@ -224,6 +247,8 @@ def _read(text: Text, name: Optional[str], *how: Any) -> Any:
         name = name or os.fspath(text)
         text = open(text, "rb", buffering=0)
         close = text.close
+    elif _has_pieces(text):
+        text = _Pieces(text)
     elif name is None:
         name = getattr(text, "name", None)
     return _saphyr_parser.read(text, name if isinstance(name, str) else None, close, *how)
@@ -235,7 +260,7 @@ def events(text: Text, *, keep_tags: bool = False, name: Optional[str] = None, m
 
     With `keep_tags` the prefixes of tags that a document declares hold for later documents too; in YAML they don't.
     `name` is what faults call the text; of a file it is the file's. `most_characters` is how many the text may have,
-    and `most_waiting` how many bytes of a file may wait for an event.
+    and `most_waiting` how many bytes of a file or of pieces may wait for an event.
     """
     return _read(text, name, False, keep_tags, None, None, most_characters, most_waiting)
 
@@ -244,6 +269,8 @@ def load_all(text: Text, *, keep_tags: bool = False, name: Optional[str] = None,
              depth: Optional[int] = None, most_characters: Optional[int] = None,
              most_waiting: Optional[int] = None) -> Reader[Node]:
     """Yields the root of each document: a `Scalar`, a `Sequence` or a `Mapping`.
+
+    Of a file or of pieces each comes once its document's end was read: a pipe's come one by one, in the memory of one.
 
     An alias is the node that it names, the same object. So a collection may be an entry of itself. A document may have
     `nodes` nodes, of which an alias is one, and `depth` collections open at once. The rest is as for `events`.
@@ -269,6 +296,8 @@ def _whole(text: Text, name: Optional[str]) -> Tuple[Union[str, bytes, bytearray
             return file.read(), name or os.fspath(text)
     if hasattr(text, "read"):
         return text.read(-1), name or getattr(text, "name", None)
+    if _has_pieces(text):
+        return b"".join(it.encode() if isinstance(it, str) else it for it in text), name
     return text, name
 
 

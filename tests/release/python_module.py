@@ -7,6 +7,7 @@ found in the texts of tests/findings.py is what `check_yaml` finds, as it is in 
 caller may do: copies, files, limits, faults, threads, and readers that are closed half way, 1,000 times or ROUNDS,
 after which no memory may be lost. With ROUNDS cases and findings are left out, so that valgrind can watch.
 """
+import array
 import copy
 import gc
 import io
@@ -16,6 +17,7 @@ import pickle
 import sys
 import tempfile
 import threading
+import tracemalloc
 import typing
 
 sys.path.insert(0, os.path.dirname(os.path.dirname(os.path.abspath(__file__))))
@@ -102,6 +104,7 @@ def check_case(case):
     if not case.fault:
         nodes = [it for it in case.events if it[1:4] not in ("STR", "DOC")]
         expect(tree_lines(case.text, case.keeps_tags), nodes, f"{case.name}, as trees")
+        expect(tree_lines(case.text.splitlines(True), case.keeps_tags), nodes, f"{case.name}, as trees of its lines")
 
 
 def raised(call):
@@ -128,7 +131,8 @@ def check_values():
     expect(load(""), None, "no document")
     expect(load(b"!!int 1").tag, "tag:yaml.org,2002:int", "a tag")
     expect(copy.deepcopy(load("[a, {b: c}]")), ["a", {"b": "c"}], "a copy")
-    for text in (b"[a]", bytearray(b"[a]"), memoryview(b"[a]"), io.BytesIO(b"[a]"), io.StringIO("[a]")):
+    for text in (b"[a]", bytearray(b"[a]"), memoryview(b"[a]"), array.array("B", b"[a]"), io.BytesIO(b"[a]"),
+                 io.StringIO("[a]"), ["[", b"", "a", b"]"], iter("[a]")):
         expect(load(text), ["a"], type(text).__name__)
     expect(raised(lambda: load(3))[:9], "TypeError", "a number in place of a text")
     expect(raised(lambda: load("a\n---\nb")), "ValueError: the text has 2 documents: load_all gives them", "documents")
@@ -143,6 +147,33 @@ def check_values():
     open_events.close()
     deepest = load("- " * 50_000 + "a")
     expect(len(deepest), 1, "a very deep tree")
+
+
+def check_documents():
+    """A document is handed out before the next one is read, and only what is kept stays in memory."""
+    came = 0
+
+    def pieces():
+        nonlocal came
+        for came in range(1, 2001):
+            yield f"---\n- {came}\n- [{'a, ' * 100}b]\n"
+
+    documents = saphyr_parser.load_all(pieces())
+    for number in range(1, 2001):
+        root = next(documents)
+        expect((root[0], came <= number + 1), (str(number), True), "a document of a pipe")
+        if number == 100:
+            tracemalloc.start()
+    expect(next(documents, None), None, "a document behind the last")
+    expect(tracemalloc.get_traced_memory()[1] < 1 << 20, True, "the memory of one document")
+    tracemalloc.stop()
+    half = saphyr_parser.load_all(pieces())
+    next(half)
+    half.close()
+    expect((list(half), came < 5), ([], True), "documents that are closed half way")
+    expect(raised(lambda: list(saphyr_parser.load_all(["a: [", "b\n", "c: d"])))[:12], "Refused: 2:2", "a fault of pieces")
+    expect(raised(lambda: saphyr_parser.load([3]))[:9], "TypeError", "numbers in place of pieces")
+    expect(saphyr_parser.check_standard(["a: ", b"b"]), None, "a text in pieces, by check_standard")
 
 
 def check_faults():
@@ -333,6 +364,7 @@ def main():
     for case in cases:
         check_case(case)
     check_values()
+    check_documents()
     check_faults()
     check_calls()
     if not rounds:

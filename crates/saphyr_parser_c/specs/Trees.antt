@@ -23,6 +23,7 @@ use Rattle.saphyr_parser_c.specs.declared.status.Status.{Status}
 use Rattle.saphyr_parser_c.specs.declared.status.Status.TheVariants as status
 use Rattle.saphyr_parser_c.specs.Exports.{WritesNone}
 use Rattle.saphyr_parser_c.specs.Followed.{FollowsAlias, GetsFollowed}
+use Rattle.saphyr_parser_c.specs.Inner.{handed}
 use Rattle.saphyr_parser_c.specs.Same.{IsSameFault}
 use Rattle.saphyr_parser_c.specs.Shown.{HasFields, WritesFault, no_fields, nowhere, fields_of_event}
 use Rattle.saphyr_parser_c.specs.Status.{code_of}
@@ -46,13 +47,14 @@ IsEmptyEvent c = HasFields no_fields nowhere nowhere c
 abbrev pub WritesPlace : Marker → Status → CEvent → Type 0
 WritesPlace place s c = (s ≡ status.TooLarge) × HasFields no_fields place place c
 
--- why nothing was loaded
-abbrev pub WritesUnloaded : TreeFault → Status → CEvent → Type 0
-WritesUnloaded (tree.Parse f) s c = (g : Fault) × IsSameFault f g × WritesFault g s c
-WritesUnloaded (tree.TooManyNodes place most) s c = WritesPlace place s c
-WritesUnloaded (tree.TooDeep place most) s c = WritesPlace place s c
-WritesUnloaded tree.OutOfMemory s c = (s ≡ status.NoMemory) × IsEmptyEvent c
-WritesUnloaded tree.NotFresh s c = (s ≡ status.Late) × IsEmptyEvent c
+-- Why nothing was loaded. A fault of the text is kept until the next call, so that its text may be read.
+abbrev pub WritesUnloaded : TreeFault → Status → CEvent → Inner → Type 0
+WritesUnloaded (tree.Parse f) s c after =
+    (g : Fault) × IsSameFault f g × WritesFault g s c × (handed after ≡ Some (Err g))
+WritesUnloaded (tree.TooManyNodes place most) s c after = WritesPlace place s c
+WritesUnloaded (tree.TooDeep place most) s c after = WritesPlace place s c
+WritesUnloaded tree.OutOfMemory s c after = (s ≡ status.NoMemory) × IsEmptyEvent c
+WritesUnloaded tree.NotFresh s c after = (s ≡ status.Late) × IsEmptyEvent c
 
 -- all but what was handed out last stays
 abbrev pub KeepsButItem : Inner → Inner → Type 0
@@ -62,7 +64,7 @@ KeepsButItem before after =
 -- the documents are those of `load_table`, or there are none
 abbrev pub WritesLoaded : Result NodeTable TreeFault → Status → CEvent → Inner → Type 0
 WritesLoaded (Ok table) s c after = (s ≡ status.Done) × IsEmptyEvent c × (after.table ≡ table)
-WritesLoaded (Err f) s c after = WritesUnloaded f s c × IsEmptyTable after.table
+WritesLoaded (Err f) s c after = WritesUnloaded f s c after × IsEmptyTable after.table
 
 -- Of a text in pieces no trees are loaded. What was shown stays to be handed out.
 abbrev pub DropsTrees : Inner → Status → CEvent → Inner → Type 0
@@ -87,7 +89,7 @@ LoadsTrees limits (some old) code c new =
 abbrev pub WritesNext : Result (std.Option NodeTable) TreeFault → Status → CEvent → Inner → Type 0
 WritesNext (Ok (Some table)) s c after = (s ≡ status.Loaded) × IsEmptyEvent c × (after.table ≡ table)
 WritesNext (Ok None) s c after = (s ≡ status.End) × IsEmptyEvent c × IsEmptyTable after.table
-WritesNext (Err f) s c after = WritesUnloaded f s c × IsEmptyTable after.table
+WritesNext (Err f) s c after = WritesUnloaded f s c after × IsEmptyTable after.table
 
 abbrev pub LoadsNextFrom : Limits → Source → Inner → Status → CEvent → Inner → Type 0
 LoadsNextFrom limits (source.Whole old) before s c after = (new : EventCursor)

@@ -125,7 +125,7 @@ impl Inner {
     // Tells why nothing was loaded. A fault of the text is kept here until the next call.
     fn write_unloaded(&mut self, alloc: Global, why: TreeFault, out: &mut CEvent) -> Status
         ensures same { spec.KeepsButItem self.old self.new }
-        ensures writes { spec.WritesUnloaded why result out.new }
+        ensures writes { spec.WritesUnloaded why result out.new self.new }
     {
         match why {
             TreeFault::Parse(fault) => {
