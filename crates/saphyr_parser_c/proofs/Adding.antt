@@ -14,7 +14,7 @@ use Rattle.saphyr_parser_c.specs.declared.source.Source.{Source}
 use Rattle.saphyr_parser_c.specs.declared.source.Source.TheVariants as source
 use Rattle.saphyr_parser_c.specs.declared.status.Status.{Status}
 use Rattle.saphyr_parser_c.specs.declared.status.Status.TheVariants as status
-use Rattle.saphyr_parser_c.specs.Coming.{Adds, AddsBytes, AddsSome, Takes, TakesIn}
+use Rattle.saphyr_parser_c.specs.Coming.{Adds, AddsBytes, AddsSome, TakesWhole, TakesIn}
 use Rattle.saphyr_parser_c.specs.Encoding.{IsCutCharacter, IsUtf8SoFar}
 use Rattle.saphyr_parser_c.specs.Inner.{AddsFrom, AddsToC}
 use Rattle.saphyr_parser_c.proofs.Bytes.{rest_waits, text_is_utf8_so_far}
@@ -29,7 +29,7 @@ adds_to_pieces bytes before after old new s is_old is_new adds stays =
 -- characters that are added are taken in with the bytes that wait behind them
 pub front_taken : (front bytes : List ℕ) (waiting : Vec ℕ Global) (old new : Coming) (s : Status)
     → front ++ waiting.items ≡ bytes → IsUtf8 front → IsUtf8SoFar bytes
-    → (length waiting.items ≤ 3) × IsCutCharacter waiting.items → Takes front waiting old s new
+    → (length waiting.items ≤ 3) × IsCutCharacter waiting.items → TakesWhole front waiting old s new
     → TakesIn bytes old s new
 front_taken front bytes waiting old new status.Done all utf8 so_far cut (added, waits, part, enough) = (
   λ later. subst
@@ -45,7 +45,7 @@ front_taken front bytes waiting old new _ all utf8 so_far cut taken = absurd tak
 
 -- a text is taken in where no bytes wait behind it
 pub text_taken : (text : List ℕ) (none : Vec ℕ Global) (old new : Coming) (s : Status) → none.items ≡ [] → IsUtf8 text
-    → IsCutCharacter [] → Takes text none old s new → TakesIn text old s new
+    → IsCutCharacter [] → TakesWhole text none old s new → TakesIn text old s new
 text_taken text none old new s is utf8 cut taken =
     front_taken text text none old new s (ap (λ (bs : List ℕ). text ++ bs) is ∙ append-nil text) utf8
     (text_is_utf8_so_far text utf8)

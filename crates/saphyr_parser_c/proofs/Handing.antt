@@ -15,7 +15,7 @@ use Rattle.saphyr_parser.specs.Answer.{Answer, Ending, Refused, fault_alone, rem
 use Rattle.saphyr_parser.specs.Events.{Happening}
 use Rattle.saphyr_parser.specs.Calls.{Advances, FailsFrom, GivesNext, IsReportedAs, given_fault, item_at}
 use Rattle.saphyr_parser.specs.Cursor.{EventCursor, Kept, Refuses, ending_of_fault}
-use Rattle.saphyr_pieces.specs.Pieces.{EndsWithFault, HandsOutOrWaits, at}
+use Rattle.saphyr_pieces.specs.Pieces.{FaultIsLast, HandsOutOrWaits, at}
 use Rattle.saphyr_parser_c.specs.declared.coming.Coming.{Coming}
 use Rattle.saphyr_parser_c.specs.declared.inner.Inner.{Inner}
 use Rattle.saphyr_parser_c.specs.declared.shown.CEvent.{CEvent}
@@ -24,10 +24,10 @@ use Rattle.saphyr_parser_c.specs.declared.source.Source.TheVariants as source
 use Rattle.saphyr_parser_c.specs.declared.status.Status.{Status}
 use Rattle.saphyr_parser_c.specs.declared.status.Status.TheVariants as status
 use Rattle.saphyr_parser_c.specs.Coming.{GoesBehind, KeepsRest, WritesWaiting, at_bytes, end_of_last}
-use Rattle.saphyr_parser_c.specs.Inner.{EndsAtFault, HandsFrom, HandsOfComing, HandsOfPieces, HandsToC, IsAt, IsAtFrom, IsSameItem, Passes, PassesFrom, ShowsFrom, ShowsOfComing, ShowsOfPieces, ShowsToC, WritesKept, Waits, WaitsForMore, handed}
+use Rattle.saphyr_parser_c.specs.Inner.{EndsAtFault, HandsFrom, HandsOfComing, HandsOfPieces, HandsToC, IsAt, IsAtFrom, IsSameItem, MovesLastEnd, MovesLastEndFrom, ShowsFrom, ShowsOfComing, ShowsOfPieces, ShowsToC, WritesKept, Waits, WaitsForMore, handed}
 use Rattle.saphyr_parser_c.specs.Same.{IsSameFault}
 use Rattle.saphyr_parser_c.specs.Shown.{HasFields, WritesC, no_fields}
-use Rattle.saphyr_parser_c.specs.Status.{TellsRefusal}
+use Rattle.saphyr_parser_c.specs.Status.{IsStatusOfRefusal}
 
 abbrev Item : Type 0
 Item = Option (Result (Event × Span) Fault)
@@ -100,7 +100,7 @@ ends_same (Some (Err f)) y last (g, is, same) = ap (λ (z : Item). end_of_last z
 
 -- what is told of a refusal
 refused_so : (Q : Status → Type 0) → Q status.Refused → Q status.TooLong → (info : List ℕ) (s : Status)
-    → TellsRefusal info s → Q s
+    → IsStatusOfRefusal info s → Q s
 refused_so Q refused long info status.Refused tells = refused
 refused_so Q refused long info status.TooLong tells = long
 refused_so Q refused long info _ tells = absurd tells
@@ -135,7 +135,7 @@ pub same_lent : (lent old new : Coming) → lent ≡ old → KeepsRest lent new 
 same_lent lent old new is same = subst (λ (m : Coming). KeepsRest m new) is same
 
 pub ends_at_fault : (p : Progress) (next : Event × Span) (f : Fault) (item : Item) (new : Coming)
-    → EndsWithFault (Some p) new.parser → IsSameItem (item_at next f p) item → EndsAtFault item new
+    → FaultIsLast (Some p) new.parser → IsSameItem (item_at next f p) item → EndsAtFault item new
 ends_at_fault progress.Event next f item new ended (e, is, same) =
     subst (λ (x : Item). EndsAtFault x new) (sym is) tt
 ends_at_fault progress.Fault next f item new ended (g, is, same) =
@@ -186,7 +186,7 @@ hands_shown before after s c box from shown written =
         box,
         written.others.0,
         (refl, λ enough. enough),
-        subst (λ (b : Bool). PassesFrom b old old after) (sym shown) refl,
+        subst (λ (b : Bool). MovesLastEndFrom b old old after) (sym shown) refl,
         as_hands before after s c old old written.writes (record {
           gives = λ later here is. gives_same (handed before) (handed after) here (at_bytes old later) written.same
               (subst (λ (b : Bool). IsAtFrom b old before later here) shown is);
@@ -209,7 +209,7 @@ shows_shown before after s c box from shown written =
         box,
         written.others.0,
         (refl, λ enough. enough),
-        subst (λ (b : Bool). PassesFrom b old old after) (sym shown) refl,
+        subst (λ (b : Bool). MovesLastEndFrom b old old after) (sym shown) refl,
         as_shows before after s c old old written.writes (record {
           place = λ later here is. subst (λ (b : Bool). IsAtFrom b old after later here)
               (sym (written.others.1 ∙ shown))
@@ -246,14 +246,14 @@ module _ (before : Inner) (s : Status) (c : CEvent) (from_box to_box : Box Comin
       (gives_place (item_at next f p) old new same hands later))
 
   passed : (p : Progress) (b : Bool) (after : Inner) → GoesBehind (Some p) next f old new
-      → WritesKept (read p b) s c after → PassesFrom before.shown old new after
+      → WritesKept (read p b) s c after → MovesLastEndFrom before.shown old new after
   passed p b after goes written =
-      subst (λ (x : Bool). PassesFrom x old new after) (sym shown)
+      subst (λ (x : Bool). MovesLastEndFrom x old new after) (sym shown)
       (goes ∙ sym (ends_same (item_at next f p) (handed after) old.last_end written.same))
 
   -- what is read is handed out
   pub hands_next : (p : Progress) (after : Inner) → HandsOutOrWaits (Some p) next f old.parser new.parser
-      → EndsWithFault (Some p) new.parser → GoesBehind (Some p) next f old new
+      → FaultIsLast (Some p) new.parser → GoesBehind (Some p) next f old new
       → WritesKept (read p before.shown) s c after → HandsToC before s c after
   hands_next p after hands ended goes kept =
       let written = subst (λ (b : Bool). WritesKept (read p b) s c after) shown kept in (
@@ -275,7 +275,7 @@ module _ (before : Inner) (s : Status) (c : CEvent) (from_box to_box : Box Comin
 
   -- what is read is shown
   pub shows_next : (p : Progress) (after : Inner) → HandsOutOrWaits (Some p) next f old.parser new.parser
-      → EndsWithFault (Some p) new.parser → GoesBehind (Some p) next f old new → WritesKept (read p true) s c after
+      → FaultIsLast (Some p) new.parser → GoesBehind (Some p) next f old new → WritesKept (read p true) s c after
       → ShowsToC before s c after
   shows_next p after hands ended goes written = (
     subst (λ (x : Source). ShowsFrom x before s c after) (sym from) (
@@ -318,14 +318,14 @@ module _ (before : Inner) (s : Status) (c : CEvent) (from_box to_box : Box Comin
       → (WaitsForMore old before why c new (read progress.Over before.shown)
       → Of why c old before new (read progress.Over before.shown))
       → (n : Box Coming Global) × (after.source ≡ source.Pieces n) × KeepsRest old n.value
-      × Passes old before n.value after × Of s c old before n.value after
+      × MovesLastEnd old before n.value after × Of s c old before n.value after
   none_comes Of why after written hands goes waits is =
       subst (λ (a : Inner). (n : Box Coming Global) × (a.source ≡ source.Pieces n) × KeepsRest old n.value
-      × Passes old before n.value a × Of s c old before n.value a) (sym waits.2) (
+      × MovesLastEnd old before n.value a × Of s c old before n.value a) (sym waits.2) (
         to_box,
         refl,
         same,
-        subst (λ (b : Bool). PassesFrom b old new (read progress.Over before.shown)) (sym shown) goes,
+        subst (λ (b : Bool). MovesLastEndFrom b old new (read progress.Over before.shown)) (sym shown) goes,
         subst (λ (s : Status). Of s c old before new (read progress.Over before.shown)) (sym waits.0)
             (is (waiting why after written hands goes waits)),
       )

@@ -75,12 +75,12 @@ abbrev pub LosesRest : Coming → Coming → Type 0
 LosesRest old new = LosesText old.parser new.parser × (new.extent ≡ extent.All)
 
 -- These characters came, and these bytes wait behind them.
-abbrev pub Takes : List ℕ → Vec ℕ Global → Coming → Status → Coming → Type 0
-Takes front behind old status.Done new =
+abbrev pub TakesWhole : List ℕ → Vec ℕ Global → Coming → Status → Coming → Type 0
+TakesWhole front behind old status.Done new =
     ((later : List ℕ) → at new.parser later ≡ at old.parser (chars front ++ later)) × (new.waiting ≡ behind)
     × (new.extent ≡ extent.Part) × NeedsNoMore old.parser new.parser
-Takes front behind old status.NoMemory new = LosesRest old new
-Takes front behind old s new = ⊥
+TakesWhole front behind old status.NoMemory new = LosesRest old new
+TakesWhole front behind old s new = ⊥
 
 -- These bytes came in place of those that waited: whole characters of them are the parser's, and a cut one waits. They
 -- are refused only if no bytes that may come later make them UTF-8, and taken in only if some do. If they are refused,

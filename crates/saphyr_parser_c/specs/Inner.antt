@@ -114,12 +114,12 @@ pub record WaitsForMore (old : Coming) (before : Inner) (s : Status) (c : CEvent
   pub place : (later : List ℕ) (at : EventCursor) → IsAt old before later at → IsAt new after later at
 
 -- The last event ends where that does which is read, if one is. What was shown was read before.
-abbrev pub PassesFrom : Bool → Coming → Coming → Inner → Type 0
-PassesFrom false old new after = new.last_end ≡ end_of_last (handed after) old.last_end
-PassesFrom true old new after = new.last_end ≡ old.last_end
+abbrev pub MovesLastEndFrom : Bool → Coming → Coming → Inner → Type 0
+MovesLastEndFrom false old new after = new.last_end ≡ end_of_last (handed after) old.last_end
+MovesLastEndFrom true old new after = new.last_end ≡ old.last_end
 
-abbrev pub Passes : Coming → Inner → Coming → Inner → Type 0
-Passes old before new after = PassesFrom before.shown old new after
+abbrev pub MovesLastEnd : Coming → Inner → Coming → Inner → Type 0
+MovesLastEnd old before new after = MovesLastEndFrom before.shown old new after
 
 -- the same item, wherever its texts are
 abbrev pub IsSameItem : Option (Result (Event × Span) Fault) → Option (Result (Event × Span) Fault) → Type 0
@@ -174,7 +174,7 @@ HandsFrom (source.Whole old) before s c after =
     × HandsOfWhole old new after s c
 HandsFrom (source.Pieces old) before s c after =
     (new : Box Coming Global) × (after.source ≡ source.Pieces new) × KeepsRest old.value new.value
-    × Passes old.value before new.value after × HandsOfComing s c old.value before new.value after
+    × MovesLastEnd old.value before new.value after × HandsOfComing s c old.value before new.value after
 
 -- what comes next is handed out, or it waits for more of the text; the trees stay
 abbrev pub HandsToC : Inner → Status → CEvent → Inner → Type 0
@@ -186,7 +186,7 @@ ShowsFrom (source.Whole old) before s c after =
     × (handed after ≡ handed before)
 ShowsFrom (source.Pieces old) before s c after =
     (new : Box Coming Global) × (after.source ≡ source.Pieces new) × KeepsRest old.value new.value
-    × Passes old.value before new.value after × ShowsOfComing s c old.value before new.value after
+    × MovesLastEnd old.value before new.value after × ShowsOfComing s c old.value before new.value after
 
 -- what comes next is shown, or it waits for more of the text; the trees stay
 abbrev pub ShowsToC : Inner → Status → CEvent → Inner → Type 0

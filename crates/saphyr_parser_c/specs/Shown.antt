@@ -24,7 +24,7 @@ use Rattle.saphyr_parser_c.specs.declared.shown.CMarker.{CMarker}
 use Rattle.saphyr_parser_c.specs.declared.shown.CEvent.{CEvent}
 use Rattle.saphyr_parser_c.specs.declared.status.Status.{Status}
 use Rattle.saphyr_parser_c.specs.declared.status.Status.TheVariants as status
-use Rattle.saphyr_parser_c.specs.Status.{TellsRefusal}
+use Rattle.saphyr_parser_c.specs.Status.{IsStatusOfRefusal}
 
 -- ## What is written of an event
 
@@ -177,7 +177,7 @@ WritesNumbers e c = HasNumbers (fields_of_event (happening e.0)) e.1.start e.1.e
 -- of a fault that is kept; reading gives no other than the first two
 abbrev pub WritesFault : Fault → Status → CEvent → Type 0
 WritesFault (fault.Scan error) s c =
-    TellsRefusal (string_bytes error.info) s × HasNumbers no_fields error.mark error.mark c
+    IsStatusOfRefusal (string_bytes error.info) s × HasNumbers no_fields error.mark error.mark c
     × BytesStand (string_vec error.info) c.value × HasTagTexts None c
 WritesFault _ s c = (s ≡ status.NoMemory) × HasFields no_fields nowhere nowhere c
 
@@ -190,7 +190,7 @@ WritesC (Some (Err f)) s c = WritesFault f s c
 -- of a fault that is lent
 abbrev pub WritesLentFault : Fault → Status → CEvent → Type 0
 WritesLentFault (fault.Scan error) s c =
-    TellsRefusal (string_bytes error.info) s
+    IsStatusOfRefusal (string_bytes error.info) s
     × HasFields (fields_of_refusal (string_bytes error.info)) error.mark error.mark c
 WritesLentFault _ s c = (s ≡ status.NoMemory) × HasFields no_fields nowhere nowhere c
 

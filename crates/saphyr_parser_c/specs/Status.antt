@@ -28,7 +28,7 @@ code_of NotChecked = negsuc 9
 code_of TooLong = negsuc 10
 
 -- what is told of a text that is refused, by what its fault says: one with more characters than may is told apart
-abbrev pub TellsRefusal : List ℕ → Status → Type 0
-TellsRefusal info TooLong = info ≡ words TextTooLong
-TellsRefusal info Refused = info ≡ words TextTooLong → ⊥
-TellsRefusal info _ = ⊥
+abbrev pub IsStatusOfRefusal : List ℕ → Status → Type 0
+IsStatusOfRefusal info TooLong = info ≡ words TextTooLong
+IsStatusOfRefusal info Refused = info ≡ words TextTooLong → ⊥
+IsStatusOfRefusal info _ = ⊥

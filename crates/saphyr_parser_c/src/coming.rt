@@ -2,7 +2,7 @@
 
 ghost use Rattle.std.specs.Prelude.{◌≡◌, ◌++◌, List, ℕ, IfOk, IsUtf8};
 ghost use Rattle.saphyr_parser.specs.Cursor.{keeping_tags};
-ghost use Rattle.saphyr_pieces.specs.Pieces.{EndsWithFault, HandsOutOrWaits, at};
+ghost use Rattle.saphyr_pieces.specs.Pieces.{FaultIsLast, HandsOutOrWaits, at};
 ghost use Rattle.saphyr_parser_c.specs.Coming as spec;
 
 use crate::encoding::{begins_as_utf16, whole_front};
@@ -149,7 +149,7 @@ impl Coming {
 
     // Adds characters, behind which these bytes wait.
     fn take(&mut self, front: &str, waiting: Vec<u8>) -> Status
-        ensures { spec.Takes front.now waiting self.old result self.new }
+        ensures { spec.TakesWhole front.now waiting self.old result self.new }
     {
         let Ok(()) = self.parser.add(front) else {
             self.extent = Extent::All;
@@ -200,7 +200,7 @@ impl Coming {
         fault: &mut Fault,
     ) -> Option<Progress>
         ensures next { HandsOutOrWaits result next.new fault.new self.old.parser self.new.parser }
-        ensures ended { EndsWithFault result self.new.parser }
+        ensures ended { FaultIsLast result self.new.parser }
         ensures same { spec.KeepsRest self.old self.new }
         ensures last { spec.GoesBehind result next.new fault.new self.old self.new }
     {

@@ -1,7 +1,7 @@
 //! What a call returns, and its number in C.
 
 ghost use Rattle.std.specs.Prelude.{◌≡◌};
-ghost use Rattle.saphyr_parser_c.specs.Status.{TellsRefusal, code_of};
+ghost use Rattle.saphyr_parser_c.specs.Status.{IsStatusOfRefusal, code_of};
 
 use saphyr_scalar::FaultText;
 
@@ -78,7 +78,7 @@ impl Status {
 
     /// What is returned of a text that is refused, by what its fault says.
     pub fn of_refusal(info: &str) -> Status
-        ensures { TellsRefusal info.now result }
+        ensures { IsStatusOfRefusal info.now result }
     {
         if info == FaultText::TextTooLong.words() {
             Status::TooLong

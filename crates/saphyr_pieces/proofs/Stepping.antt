@@ -27,7 +27,7 @@ use Rattle.saphyr_pieces.specs.declared.pieces.PieceReader.{PieceReader}
 use Rattle.saphyr_pieces.specs.declared.pieces.passed.Passed.{Passed}
 use Rattle.saphyr_pieces.specs.declared.pieces.Source.{Source}
 use Rattle.saphyr_pieces.specs.declared.pieces.Source.TheVariants as source
-use Rattle.saphyr_pieces.specs.Pieces.{EndsWithFault, HandsOutOrWaits, at, cursor_from, wants_more, wants_more_from}
+use Rattle.saphyr_pieces.specs.Pieces.{FaultIsLast, HandsOutOrWaits, at, cursor_from, wants_more, wants_more_from}
 use Rattle.saphyr_pieces.specs.Passed.{passed_tokens}
 use Rattle.saphyr_pieces.specs.Views.{AdvancesBy, AreIdleBefore, CountsOne, FailsOrWaits, GoesBack, GoesBackFrom, IsLack, IsReachedFrom, IsSoundFrom, IsSoundReader, LeadsCopyTo, PassesIdleOn, failed, pieces_of, place_in}
 use Rattle.saphyr_pieces.proofs.IdleTokens.{gives_there, idle_along, passed_none, passes_further, stays_on}
@@ -310,7 +310,7 @@ wants_no_more source.Given p c f sound kept = refl
 wants_no_more source.Lost p c f sound kept = refl
 
 pub fault_is_last : (o : Option Progress) (next : Event × Span) (f : Fault) (p q : PieceReader)
-    → HandsOutOrWaits o next f (pieces_of p) (pieces_of q) → IsSoundReader q → EndsWithFault o (pieces_of q)
+    → HandsOutOrWaits o next f (pieces_of p) (pieces_of q) → IsSoundReader q → FaultIsLast o (pieces_of q)
 fault_is_last (Some progress.Fault) next f p q hands sound =
     let old = at (pieces_of p) [] in
     wants_no_more q.source q old f sound.source

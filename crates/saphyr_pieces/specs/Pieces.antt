@@ -82,6 +82,6 @@ HandsOutOrWaits (Some progress) next fault old new =
     (later : List ℕ) → GivesNext (item_at next fault progress) (at old later) (at new later)
 
 -- A fault is the last that is handed out: no more of the text is wanted.
-abbrev pub EndsWithFault : Option Progress → Pieces → Type 0
-EndsWithFault (Some progress.Fault) p = wants_more p ≡ false
-EndsWithFault _ p = Unit {0}
+abbrev pub FaultIsLast : Option Progress → Pieces → Type 0
+FaultIsLast (Some progress.Fault) p = wants_more p ≡ false
+FaultIsLast _ p = Unit {0}

@@ -5,7 +5,7 @@ ghost use Rattle.std.specs.Str.{chars, encode_utf8_all};
 ghost use Rattle.saphyr_scanner.specs.Limits.{most_characters};
 ghost use Rattle.saphyr_scanner.specs.Steps.Remaining.{scan};
 ghost use Rattle.saphyr_machine.specs.Cursor.{at_start, keeping_tags};
-ghost use Rattle.saphyr_pieces.specs.Pieces.{EndsWithFault, HandsOutOrWaits, LosesText, NeedsNoMore, at, waiting, wants_more};
+ghost use Rattle.saphyr_pieces.specs.Pieces.{FaultIsLast, HandsOutOrWaits, LosesText, NeedsNoMore, at, waiting, wants_more};
 
 use crate::pieces::PieceReader;
 use saphyr_machine::{Event, Fault, Progress};
@@ -135,7 +135,7 @@ impl PieceParser {
         fault: &mut Fault,
     ) -> Option<Progress>
         ensures next { HandsOutOrWaits result next.new fault.new self.old self.new }
-        ensures ended { EndsWithFault result self.new }
+        ensures ended { FaultIsLast result self.new }
         ensures enough { NeedsNoMore self.old self.new }
     {
         self.reader.next_event_into(next, fault)

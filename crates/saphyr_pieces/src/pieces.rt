@@ -13,7 +13,7 @@ ghost use Rattle.saphyr_scanner.specs.Views.Scanning.{text_in};
 ghost use Rattle.saphyr_machine.specs.Answer.{OutOfMemory};
 ghost use Rattle.saphyr_machine.specs.Cursor.{at_start, keeping_tags};
 ghost use Rattle.saphyr_machine.specs.Views.Readers.{cursor, cursor_in};
-ghost use Rattle.saphyr_pieces.specs.Pieces.{EndsWithFault, HandsOutOrWaits, IsLost, LosesText, NeedsNoMore, at, wants_more};
+ghost use Rattle.saphyr_pieces.specs.Pieces.{FaultIsLast, HandsOutOrWaits, IsLost, LosesText, NeedsNoMore, at, wants_more};
 ghost use Rattle.saphyr_pieces.specs.Passed.{passed_tokens};
 ghost use Rattle.saphyr_pieces.specs.Views as spec;
 ghost use Rattle.saphyr_pieces.specs.declared.pieces.Source.TheVariants.{Given};
@@ -243,7 +243,7 @@ impl PieceReader {
         requires { spec.IsSoundReader self.old }
         ensures next { HandsOutOrWaits result next.new fault.new (spec.pieces_of self.old)
             (spec.pieces_of self.new) }
-        ensures ended { EndsWithFault result (spec.pieces_of self.new) }
+        ensures ended { FaultIsLast result (spec.pieces_of self.new) }
         ensures enough { NeedsNoMore (spec.pieces_of self.old) (spec.pieces_of self.new) }
         ensures sound { spec.IsSoundReader self.new }
     {

@@ -23,7 +23,7 @@ use Rattle.yaml_check.specs.declared.warning.PlacedWarning.{PlacedWarning}
 use Rattle.yaml_check.specs.Helps.{Helps}
 use Rattle.yaml_check.specs.Mended.{mends}
 use Rattle.yaml_check.specs.Opened.{OpenStarts, closer, is_closed_by, opened_note}
-use Rattle.yaml_check.specs.Rules.{rule_name}
+use Rattle.yaml_check.specs.Rules.{warning_name}
 use Rattle.yaml_check.specs.Shown.{place_index}
 use Rattle.yaml_check.specs.Texts.{remark_text, warning_text}
 use Rattle.yaml_check.specs.Warned.{rule_of}
@@ -39,7 +39,7 @@ severity_of _ = severity.Error
 
 -- the name of its rule; that of a rule of the standard is any
 abbrev pub rule_of_problem : Problem → Option (List ℕ)
-rule_of_problem (problem.Warning w) = Some (rule_name (rule_of w))
+rule_of_problem (problem.Warning w) = Some (warning_name (rule_of w))
 rule_of_problem (problem.More count) = Some (codes "max-findings")
 rule_of_problem (problem.Departure r) = None
 rule_of_problem problem.NotUtf8 = Some (codes "encoding")

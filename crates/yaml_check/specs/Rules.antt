@@ -4,13 +4,13 @@ use Rattle.yaml_check.specs.declared.rules.Rule.{Rule}
 use Rattle.yaml_check.specs.declared.rules.Rule.TheVariants as rule
 use Rattle.yaml_check.specs.declared.rules.RuleSet.{RuleSet}
 
-abbrev pub rule_name : Rule → List ℕ
-rule_name rule.AliasInItself = codes "alias-in-itself"
-rule_name rule.DuplicateKey = codes "duplicate-key"
-rule_name rule.EmptyDocument = codes "empty-document"
-rule_name rule.MaxDepth = codes "max-depth"
-rule_name rule.MaxNodes = codes "max-nodes"
-rule_name rule.WideAlias = codes "wide-alias"
+abbrev pub warning_name : Rule → List ℕ
+warning_name rule.AliasInItself = codes "alias-in-itself"
+warning_name rule.DuplicateKey = codes "duplicate-key"
+warning_name rule.EmptyDocument = codes "empty-document"
+warning_name rule.MaxDepth = codes "max-depth"
+warning_name rule.MaxNodes = codes "max-nodes"
+warning_name rule.WideAlias = codes "wide-alias"
 
 abbrev pub is_on : RuleSet → Rule → Bool
 is_on on rule.AliasInItself = on.alias_in_itself

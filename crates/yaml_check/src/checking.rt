@@ -305,7 +305,8 @@ impl Checker {
     /// Takes all events, up to a fault.
     fn take_all<T: Input + Drop>(&mut self, parser: Parser<'_, T>) -> Result<(), Fault>
         ensures ended { EndsAs result (to_come parser.entry) }
-        ensures warned { OnceEnded result (self.new.warnings.list.items ≡ self.old.warnings.list.items
+        ensures warned { OnceEnded result (self.new.warnings.list.items
+            ≡ self.old.warnings.list.items
             ++ warned.warnings_on (to_come parser.entry).events (seen_of self.old)) }
         ensures open { OnceEnded result (open_of self.new.open
             ≡ opened.open_on (to_come parser.entry).events (open_of self.old.open)) }
@@ -324,7 +325,8 @@ impl Checker {
         next: &mut (Event<'input>, Span),
     ) -> Result<(), Fault>
         ensures ended { EndsAs result (to_come parser.old) }
-        ensures warned { OnceEnded result (self.new.warnings.list.items ≡ self.old.warnings.list.items
+        ensures warned { OnceEnded result (self.new.warnings.list.items
+            ≡ self.old.warnings.list.items
             ++ warned.warnings_on (to_come parser.old).events (seen_of self.old)) }
         ensures open { OnceEnded result (open_of self.new.open
             ≡ opened.open_on (to_come parser.old).events (open_of self.old.open)) }

@@ -16,7 +16,7 @@ pub enum Rule {
 impl Rule {
     #[must_use]
     pub fn name(self) -> &'static str
-        ensures { result.now ≡ spec.rule_name self }
+        ensures { result.now ≡ spec.warning_name self }
     {
         match self {
             Rule::AliasInItself => "alias-in-itself",
@@ -31,7 +31,7 @@ impl Rule {
     /// The rule of this name.
     #[must_use]
     pub fn named(name: &str) -> Option<Rule>
-        ensures { IfSome result (λ rule. spec.rule_name rule ≡ name.now) }
+        ensures { IfSome result (λ rule. spec.warning_name rule ≡ name.now) }
     {
         match name {
             "alias-in-itself" => Some(Rule::AliasInItself),
