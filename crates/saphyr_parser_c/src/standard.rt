@@ -1,8 +1,8 @@
 //! Whether a text is YAML 1.2.2, for C.
 
-ghost use Rattle.std.specs.Prelude.{◌≡◌, ◌↔◌, IsUtf8, negsuc, pos};
+ghost use Rattle.std.specs.Prelude.{◌≡◌, ◌↔◌, ℕ, List, IsUtf8, negsuc, pos};
 ghost use Rattle.std.specs.Str.{chars};
-ghost use Rattle.yaml_standard.specs.Verdicts.{IsStandard};
+ghost use Rattle.yaml_standard.specs.Verdicts.{IsStandard, IsVerdictOn};
 ghost use Rattle.yaml_standard.specs.declared.verdict.Verdict.TheVariants.{Standard};
 ghost use Rattle.saphyr_parser_c.specs.declared.status.Status.TheVariants as status;
 ghost use Rattle.saphyr_parser_c.specs.Encoding.{BeginsAsUtf16};
@@ -46,7 +46,7 @@ fn no_deviation() -> CDeviation
 
 // A place where a rule is broken. The rule's texts are in the program for as long as it runs.
 fn deviation_of(deviation: Deviation) -> CDeviation
-    ensures { spec.HasRule result }
+    ensures { spec.HasRule deviation result }
 {
     CDeviation {
         place: marker_of(deviation.place),
@@ -58,7 +58,8 @@ fn deviation_of(deviation: Deviation) -> CDeviation
 // Writes a verdict.
 fn write_verdict(verdict: &Verdict, out: &mut CDeviation) -> Status
     ensures standard { result ≡ status.Done → verdict.now ≡ Standard }
-    ensures tells { spec.TellsOfText result out.new }
+    ensures tells { (text : List ℕ) → IsVerdictOn text verdict.now
+        → spec.TellsOfText text result out.new }
 {
     match verdict {
         Verdict::Standard => {
@@ -79,7 +80,7 @@ fn write_verdict(verdict: &Verdict, out: &mut CDeviation) -> Status
 // Says whether a text in UTF-8 is YAML 1.2.2.
 fn judge(alloc: Global, text: &str, out: &mut CDeviation) -> Status
     ensures standard { result ≡ status.Done → IsStandard (chars text.now) }
-    ensures tells { spec.TellsOfText result out.new }
+    ensures tells { spec.TellsOfText text.now result out.new }
 {
     match validate(alloc, text) {
         Ok(verdict) => {
@@ -106,7 +107,7 @@ pub extern "C" fn saphyr_check_standard(
     ensures not_utf8 { (result ≡ negsuc 2)
         ↔ ((IsUtf8 text.now → ⊥) × (BeginsAsUtf16 text.now → ⊥)) }
     ensures utf16 { (result ≡ negsuc 4) ↔ ((IsUtf8 text.now → ⊥) × BeginsAsUtf16 text.now) }
-    ensures tells { spec.Answers result deviation.new }
+    ensures tells { spec.Answers text.now result deviation.new }
 {
     match str::from_utf8(text) {
         Ok(text) => judge(alloc, text, deviation).code(),
