@@ -36,9 +36,9 @@ from release_pages import BLOCK, block, blocks, files_below, read, wrong_links, 
 TEXT = b"name: &it !!str 'parser'\nports: [80, \"443\", *it]\n"
 SCALARS = b"1:1 name\n1:7 parser\n2:1 ports\n2:9 80\n2:13 443\n"
 FIRST = b"1:1 ports\n1:9 80\n1:13 443\n"  # what the programs of the README print
-CALLS = ["add", "anchored", "check", "check_standard", "clone", "count", "describe", "expanded", "follow", "free",
-         "free_findings", "get", "item", "keep_tags", "key", "load", "load_next", "new", "new_pieces", "new_utf8", "next",
-         "next_finding", "next_note", "peek", "root", "valid_up_to", "value", "version"]
+CALLS = ["add", "add_utf8", "anchored", "check", "check_standard", "clone", "count", "describe", "expanded", "follow",
+         "free", "free_findings", "get", "item", "keep_tags", "key", "load", "load_next", "new", "new_pieces", "new_utf8",
+         "next", "next_finding", "next_note", "peek", "root", "valid_up_to", "value", "version"]
 # What the example `config` prints. The last item is an alias.
 PATHS = b".name = parser (1:7)\n.ports[0] = 80 (2:9)\n.ports[1] = 443 (2:13)\n.ports[2] = parser (1:7)\n"
 STRICT = ["-Wall", "-Wextra", "-pedantic", "-Werror"]
