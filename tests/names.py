@@ -17,7 +17,6 @@ It fails where
   E8 in PRODUCTIONS no case with a fault;
 - docs/DEPARTURES.md lacks words by which tests/reasons.py excuses a list that is not the Rust crate's.
 """
-import importlib.util
 import os
 import re
 import subprocess
@@ -25,6 +24,11 @@ import sys
 
 import reasons
 from refused_memory import DATA, cases_of
+
+try:
+    import yaml
+except ImportError:
+    yaml = None
 
 TOP = os.path.dirname(os.path.dirname(os.path.abspath(__file__)))
 PROMISES, PRODUCTIONS, DEPARTURES = "docs/PROMISES.md", "docs/PRODUCTIONS.md", "docs/DEPARTURES.md"
@@ -85,8 +89,8 @@ def wrong_calls():
     """What COMING_FROM.md names of a face or of another library, and that lacks."""
     chapters = dict(re.findall(r"^###? (.*)\n((?:(?!##).*\n)*)", read(COMING), re.M))
     theirs, ours = zip(*re.findall(r"^\| (`.*) \| (.*) \|$", chapters["From libyaml"], re.M))
-    python, yaml = chapters["From PyYAML, in Python"], importlib.util.find_spec("yaml")
-    folder = os.path.dirname(yaml.origin) if yaml else "none"
+    python = chapters["From PyYAML, in Python"]
+    folder = os.path.dirname(yaml.__file__) if yaml else "none"
     package = ["python/saphyr_parser/__init__.py", "python/saphyr_parser/_saphyr_parser.pyi"]
     crate = words_of(*(it for it in tracked() if it.startswith("rust/src/")))
     for name, names, known in (

@@ -19,7 +19,6 @@ Python's headers or a Python that can make an environment it fails, unless the v
 import fnmatch
 import glob
 import hashlib
-import importlib.util
 import json
 import os
 import re
@@ -32,6 +31,11 @@ import tempfile
 from faces import CRATE, libraries, without
 from refused_memory import ROOT, program
 from release_pages import BLOCK, block, blocks, files_below, read, wrong_links, wrong_manuals, wrong_words
+
+try:
+    import yaml
+except ImportError:
+    yaml = None
 
 TEXT = b"name: &it !!str 'parser'\nports: [80, \"443\", *it]\n"
 SCALARS = b"1:1 name\n1:7 parser\n2:1 ports\n2:9 80\n2:13 443\n"
@@ -495,9 +499,9 @@ def check_coming_from(release, compiler):
     else:
         release.call(words)
         release.check("libyaml and C", [made], b"")
-    yaml = importlib.util.find_spec("yaml")
     if yaml and release.python:
-        words = [release.python, f"{ROOT}/tests/release/coming_from.py", os.path.dirname(os.path.dirname(yaml.origin))]
+        above = os.path.dirname(os.path.dirname(yaml.__file__))
+        words = [release.python, f"{ROOT}/tests/release/coming_from.py", above]
         release.check("PyYAML and Python", words, b"")
     else:
         print("PyYAML: not compared, since it is not there")
