@@ -171,7 +171,8 @@ pub token_placed : {A X : Type 0} {start a end b : Marker} {old seen new : Texts
     {x : A} {k : Kind} {f : TokenRead A X} (kind : A → Kind) → a ≡ start → b ≡ end → k ≡ kind x → seen ≡ old
     → f ≡ Ok (x, end, known, s) → AddsBehind (spanning_piece a b k) p seen new
     → PlacesToken kind start old new s (Ok (p, known)) f
-token_placed {start = start} {a} {end} {b} {old} {seen} {new} {s} {p} {known} {x} {k} kind begins ends says same is adds =
+token_placed {start = start} {a} {end} {b} {old} {seen} {new} {s} {p} {known} {x} {k} kind begins ends says same is
+    adds =
     let here = subst (λ m. AddsBehind (spanning_piece m b k) p seen new) begins adds in
     let there = subst (λ m. AddsBehind (spanning_piece start m k) p seen new) ends here in
     let piece = subst (λ l. AddsBehind (spanning_piece start end l) p seen new) says there in

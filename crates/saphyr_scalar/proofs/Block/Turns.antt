@@ -274,8 +274,8 @@ cut st i more text end look c same read h ends = grind (arith, line_cut, append-
 
 -- no line begins
 pub last : {before after : EmptyLines} {s t here : Cursor} {b : Bool} (st : BlockStyle) (i : ℕ) (ab : Option Bool)
-    (text : List ℕ) → Skipped st i ab before after s t → here ≡ t → line_starts i t.mark.col t.rest ≡ false → b ≡ is_some ab
-    → with_lines text (between_at st i ab before.count s)
+    (text : List ℕ) → Skipped st i ab before after s t → here ≡ t → line_starts i t.mark.col t.rest ≡ false
+    → b ≡ is_some ab → with_lines text (between_at st i ab before.count s)
     ≡ (text, record { broken = b; empty_lines = after.count }, here)
 last {before} {after} {s} {t} {here} {b} st i ab text skip same h e = grind (arith, no_line, append-nil)
 

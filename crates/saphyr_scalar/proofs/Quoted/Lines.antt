@@ -99,8 +99,8 @@ behind_lines : (q : Quote) (indent : ℕ) (start m : Marker) (escaped : Bool) (n
     → is_break c ≡ false
     → inner_text q indent start (over_lines escaped n) 0 m (c ∷ cs)
     ≡ ((tests start (may_be_open (c ∷ cs)) ((m.col == 0) && is_document_indicator (c ∷ cs)) (is_z c)
-    (is_left indent m) (mid_line m (c ∷ cs)) >>= λ u. Ok (encode_utf8_all (folded_break escaped n))) >>= λ text. with_front text
-    (word_from q indent start m c cs))
+    (is_left indent m) (mid_line m (c ∷ cs)) >>= λ u. Ok (encode_utf8_all (folded_break escaped n)))
+    >>= λ text. with_front text (word_from q indent start m c cs))
 unfolding end_gap quoted_line
 behind_lines q indent start m escaped n c cs blank break =
     quoted_behind_gap q indent start (over_lines escaped n) m c cs blank break

@@ -179,7 +179,8 @@ question g x c d turned none first second column s a allowed follows =
     let behind : enclosures_of c ≡ enclosures_behind tokens.Key t.span within =
     cc (question_encloses x (outside_of c), marked (has_text t.span) some) in
     and_then (λ n. n) (encloses behind (quiet_within within 1 c t u c.level true refl none
-    (record { quiet = refl; brackets = λ y. refl; depth = λ y. refl; no_node = refl }) none (λ _. rw (follows t.span, some) refl) (λ i. absurd (cc)) refl
+    (record { quiet = refl; brackets = λ y. refl; depth = λ y. refl; no_node = refl }) none
+    (λ _. rw (follows t.span, some) refl) (λ i. absurd (cc)) refl
     (plain_fronts t c (freed (with_cursor u c)) refl) (λ _ _ f. absurd (cc))
     (indicated 63 c u t (record { some = refl; unbroken = refl; is = first }) a (omega arith)
     (omega (arith, later.index)) (omega arith)

@@ -183,7 +183,8 @@ bracket_read x kind c u b f o =
 -- What `[` and `{` do. A candidate is saved first (`saving`), then one level is entered, unless too many are open,
 -- and last the separation behind the bracket is passed. The two steps of the claim follow that: the token is put
 -- (`entered`), and the rest only moves the place (`further`).
-pub start_does : (i : ℕ) (kind : Kind) (x : Context) → Bracket i kind → EntersAll kind x → is_block x ≡ false → (n : ℕ) (c : Core) → slice_index c.cursor.rest 0 ≡ i
+pub start_does : (i : ℕ) (kind : Kind) (x : Context) → Bracket i kind → EntersAll kind x → is_block x ≡ false
+    → (n : ℕ) (c : Core) → slice_index c.cursor.rest 0 ≡ i
     → Walked (Premises c) (Doing (Some n) c) c.cursor (flow.opening_steps x kind n c)
 unfolding flow.opening_steps flow.open_collection
 start_does i kind x b enters flows n c f =
@@ -284,8 +285,8 @@ bracket_walked x kind bracket c d ends first free there silent may f alike put =
           brackets = λ y. ap (λ (z : Collections). z.brackets) (pair_ends c.cursor.mark y);
           depth = λ d. rw no refl;
           no_node = refl;
-        }) refl (λ _. rw no may) (λ i. absurd (cc)) (rw no refl) (plain_fronts t b (freed b) refl) (λ _ _ f. absurd (cc))
-        (empty_reading b tokens.FlowMappingEnd (λ _. inr (refl, inl refl, refl)))))
+        }) refl (λ _. rw no may) (λ i. absurd (cc)) (rw no refl) (plain_fronts t b (freed b) refl)
+        (λ _ _ f. absurd (cc)) (empty_reading b tokens.FlowMappingEnd (λ _. inr (refl, inl refl, refl)))))
         (still_within (place.turned_to place.Sequence (enclosures_of c)) (freed b) b (same b) refl
         (λ _. allows_right (freed b) b (λ _. refl) (λ e. absurd (let no = pair_flows c.level.context may in cc))
         (entry_other (freed b) b other)))
@@ -297,8 +298,9 @@ least_reached false i m l = omega (arith, l)
 -- A closing bracket ends its collection: the level outside becomes the innermost again, with its candidate key
 -- (`leaving`). A pair without braces that is open in the collection ends first (`ends`). Inside flow a value may be
 -- adjacent to the bracket, so its place is noted.
-pub end_does : (i : ℕ) (kind : Kind) → Bracket i kind → LeavesAll kind → (ends : Bool) (c : Core) → EndsPair ends c.level.context → MayClose kind ends c.level.context
-    → slice_index c.cursor.rest 0 ≡ i → Walked (Premises c) (Doing None c) c.cursor (flow.closing_steps ends kind c)
+pub end_does : (i : ℕ) (kind : Kind) → Bracket i kind → LeavesAll kind → (ends : Bool) (c : Core)
+    → EndsPair ends c.level.context → MayClose kind ends c.level.context → slice_index c.cursor.rest 0 ≡ i
+    → Walked (Premises c) (Doing None c) c.cursor (flow.closing_steps ends kind c)
 unfolding flow.closing_steps flow.close_collection
 end_does i kind b leaves ends c may close first =
     by_test (in_block c) _ _ (Walked (Premises c) (Doing None c) c.cursor) (λ _ _. at_here c.cursor)
@@ -364,7 +366,8 @@ entry_does c first =
     (λ u some _ r. encloses (entry_encloses x (outside_of c) (bracket_piece tokens.FlowEntry c u).span)
     (and_then (λ n. n) (quiet_within within 1 b (bracket_piece tokens.FlowEntry c u) u
     (record { context = behind_entry x; key = None }) true (entry_block x) refl
-    (record { quiet = refl; brackets = λ y. refl; depth = λ e. refl; no_node = refl }) refl (λ _. entry_fits x (outside_of c) (bracket_piece tokens.FlowEntry c u).span) (λ i. absurd (cc)) refl
+    (record { quiet = refl; brackets = λ y. refl; depth = λ e. refl; no_node = refl }) refl
+    (λ _. entry_fits x (outside_of c) (bracket_piece tokens.FlowEntry c u).span) (λ i. absurd (cc)) refl
     (entry_fronts tokens.FlowEntry (bracket_piece tokens.FlowEntry c u).span b (turned u) refl refl)
     (λ _ _ f. absurd (cc)) r)
     (lesser (enclosures_behind tokens.FlowEntry (bracket_piece tokens.FlowEntry c u).span within)

@@ -157,7 +157,8 @@ mapping_starts = grind arith
 -- a block collection begins, where no token may be a key any more, nor has to be
 pub block_begins : {A : Type 0} (e : Enclosure) (c : Core) (r : Bool) (kind : Kind) (g : Begun) → StartsBlock kind g
     → c.key_allowed ≡ true → (A → c.cursor.mark.line < top) → (c.required ≡ true → c.level.key ≡ None)
-    → (r ≡ true → c.required ≡ true) → in_block c ≡ true → c.indent ≤ c.cursor.mark.col → IsTrue (begins_text (slice_index c.cursor.rest 0))
+    → (r ≡ true → c.required ≡ true) → in_block c ≡ true → c.indent ≤ c.cursor.mark.col
+    → IsTrue (begins_text (slice_index c.cursor.rest 0))
     → DoesWithin A (free e (outside_of c))
     (with_begun g (free e (outside_of (enter_block c.cursor.mark.col c)))) None 0 3 c
     (record (with_key None (enter_block c.cursor.mark.col c)) { required = r }) (at_mark c.cursor.mark kind ∷ [])
@@ -167,8 +168,8 @@ block_begins e c r kind g starts allowed small unasked required b right first =
     let none : AreApart c.cursor c.cursor = taken.nothing c.cursor.mark c.cursor.rest in
     let t = empty_piece c.cursor.mark kind in
     let token : (b : Bool) → IsToken (surroundings b c) kind (record { start = c.cursor.mark; end = c.cursor.mark })
-    c.cursor c.cursor = λ b. starts.is (surroundings b c) (record { start = c.cursor.mark; end = c.cursor.mark }) c.cursor
-    c.cursor (refl, refl, refl, first, right) in
+    c.cursor c.cursor = λ b. starts.is (surroundings b c) (record { start = c.cursor.mark; end = c.cursor.mark })
+    c.cursor c.cursor (refl, refl, refl, first, right) in
     encloses (ap (λ x. with_begun x (free e (outside_of d))) (sym starts.calm)
     ∙ ap calm (sym (began_at g e c.cursor.mark.col c) ∙ sym (starts.encloses t.span within)))
     (putting within (calm (enclosures_behind kind t.span within)) None 0 2 c d t (empty_reading c kind token)

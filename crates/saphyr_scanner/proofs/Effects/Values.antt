@@ -94,7 +94,8 @@ colon_does within e d u first parted a s there none right fit =
     let t = empty_piece e.cursor.mark tokens.Value in
     let r : Core = record e { cursor = u; key_allowed = d.key_allowed } in
     and_then (λ n. n) (quiet_within within 1 e t u e.level d.key_allowed refl none
-    (record { quiet = refl; brackets = λ x. refl; depth = λ x. refl; no_node = refl }) none fit (λ i. absurd (cc)) refl (plain_fronts t e r refl) (λ p. right_before e d u s there (right p))
+    (record { quiet = refl; brackets = λ x. refl; depth = λ x. refl; no_node = refl }) none fit
+    (λ i. absurd (cc)) refl (plain_fronts t e r refl) (λ p. right_before e d u s there (right p))
     (indicated 58 e u t (record { some = refl; unbroken = refl; is = first }) a
     (omega arith) (omega arith) (omega (arith, later.index)) (λ t b given. (
       t,
@@ -284,7 +285,8 @@ alone_does b c d x t none =
     let allowed = sym g.2 ∙ allowed_in (in_block d) d.key_allowed w (further_block column d f) in
     encloses (turned_in_block b x c d (behind_pair_colon e) column t same) (and_then (λ n. n)
     (block_begins e c c.required tokens.BlockMappingStart place.BlockMapping mapping_starts allowed t.small
-    (λ _. free_key) (λ r. r) (block_same c d g.0 (further_block column d f)) (right_same column c d g.0 f) (ap taken.begins_text t.first))
+    (λ _. free_key) (λ r. r) (block_same c d g.0 (further_block column d f)) (right_same column c d g.0 f)
+    (ap taken.begins_text t.first))
     (colon_does (with_begun place.BlockMapping (free e (outside_of (enter_block column c))))
     (with_key None (enter_block column c)) (Into true) u t.first t.parted g.1 (
       no_key d.level none ∙ ap (λ (l : Level). record { context = l.context; key = None }) g.0.0,

@@ -99,9 +99,9 @@ abbrev pub Adjoins : Piece → Core → Core → Type 0
 Adjoins t c d = (d.adjacent ≡ c.adjacent) ⊎ ((d.adjacent ≡ d.cursor.mark.index) × EndsJson t)
 
 keeps_put : (i : Surroundings) (c d : Core) (t : Piece) (behind : Cursor) (opened : Collections)
-    → IsToken i t.kind t.span c.cursor behind → AreApart behind d.cursor → i.in_flow ≡ nat_lt 0 (length c.outer) → opened.brackets ≡ length c.outer
-    → (open_behind t.kind t.span opened).brackets ≡ length d.outer → Adjoins t c d → KeepsPlace opened.ends_json c
-    → KeepsPlace (open_behind t.kind t.span opened).ends_json d
+    → IsToken i t.kind t.span c.cursor behind → AreApart behind d.cursor → i.in_flow ≡ nat_lt 0 (length c.outer)
+    → opened.brackets ≡ length c.outer → (open_behind t.kind t.span opened).brackets ≡ length d.outer → Adjoins t c d
+    → KeepsPlace opened.ends_json c → KeepsPlace (open_behind t.kind t.span opened).ends_json d
 keeps_put i c d t behind opened is b flows before after adjoins k = grind
     (arith, apart_later, token_later, ltb-false, token_goes_on)
 

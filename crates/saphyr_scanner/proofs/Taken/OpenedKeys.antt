@@ -190,7 +190,8 @@ pub taken_open : {opened : Setting} {from : Cursor} {q : Queue} {b : ℕ} (e : E
     → (opens_block o ≡ true → (in_block c ≡ true) × EndsOnLine k.mark c.cursor × (c.indent ≤ k.mark.col))
     → (opens_block o ≡ false → in_block c ≡ true → k.mark.col < c.indent)
     → (o ≡ opening.FlowMappingAndKey → in_block c ≡ false) → (in_block c ≡ false → 0 < length c.outer)
-    → MayOpen o e → Unmoved c d → ((open_now : Collections) → Stands open_now c → Stands (column_of o k.mark.col open_now) d)
+    → MayOpen o e → Unmoved c d
+    → ((open_now : Collections) → Stands open_now c → Stands (column_of o k.mark.col open_now) d)
     → (IsRight c → IsRight d) → OpensKey c d k → TakenWithin (free e outside) opened from c q
     → TakenWithin (awaited o k.mark (free e outside)) opened from d (with_opening k.place o q)
 taken_open {opened} {from} {q} e outside c d k o x block left flow outer m unmoved s on opens h =

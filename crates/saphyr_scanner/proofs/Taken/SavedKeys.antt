@@ -228,7 +228,8 @@ open_quiet e outside opened from c q k o f flow m left is h =
     record {
       taken = taken_open e outside c (forget_key c) k o key (λ g. absurd (cc)) (λ _ g. left g) flow
           (λ g. some_outer c.outer (sym h.keys.0 ∙ g)) m
-          (record { cursor = refl; allowed = refl; levels = refl; adjacent = refl; block = refl }) (λ l s. rw (quiet_column o k.mark.col l f) s) (λ right. right)
+          (record { cursor = refl; allowed = refl; levels = refl; adjacent = refl; block = refl })
+          (λ l s. rw (quiet_column o k.mark.col l f) s) (λ right. right)
           (by (in_block c) refl known.1) h.taken;
       keys = (
         h.keys.0,

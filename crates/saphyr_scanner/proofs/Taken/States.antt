@@ -141,9 +141,10 @@ block_calm style value span all = grind arith
 -- scalar goes over a line's end (`far_of`), or else the text is at its end.
 pub block_fetched : TextLaws → (text : List ℕ) → length text < 2 ^ 63
     → {opened : Setting} {from : Cursor} {q : Queue} {c d : Core} (style : BlockStyle)
-    → LaterThan (start_cursor text) from → Saved (next q) c d → d.adjacent ≡ c.adjacent → d.key_allowed ≡ true → IsArrival c → HoldsTaken opened from c q
-    → in_block c ≡ true → in_block d ≡ true → slice_index c.cursor.rest 0 ≡ taken.block_indicator style
-    → (x : List ℕ × Span × Cursor) → blocks.block_scalar style c.indent c.cursor ≡ Ok x
+    → LaterThan (start_cursor text) from → Saved (next q) c d → d.adjacent ≡ c.adjacent → d.key_allowed ≡ true
+    → IsArrival c → HoldsTaken opened from c q → in_block c ≡ true → in_block d ≡ true
+    → slice_index c.cursor.rest 0 ≡ taken.block_indicator style → (x : List ℕ × Span × Cursor)
+    → blocks.block_scalar style c.indent c.cursor ≡ Ok x
     → Fetched opened from (with_cursor x.2 d) (with_piece (record {
       span = record { start = x.1.start; end = x.1.end };
       kind = tokens.Scalar (scalar.style_of style) x.0;

@@ -122,7 +122,8 @@ module _ (more : List ℕ) where
   pub flow_entry_came : (c : Core) → Stepped c (flow_entry_steps c) (flow_entry_steps (longer_core more c))
   unfolding flow_entry_steps next_flow_entry
   flow_entry_came c = and_then _ (remove_came more 0 c (some_of_four c.cursor.rest))
-      (λ d _. further (later_drop 1 _) (and_then _ (on separate (pass_came more 1 (with_context (behind_entry d.level.context) (record d { key_allowed = true })))
+      (λ d _. further (later_drop 1 _) (and_then _ (on separate
+      (pass_came more 1 (with_context (behind_entry d.level.context) (record d { key_allowed = true })))
       (separate_came more _)) (λ e _. stays)))
 
   -- ## The colon
