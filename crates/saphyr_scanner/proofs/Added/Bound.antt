@@ -1,7 +1,5 @@
 -- There are few tokens: each that is fetched passes a character, and no more are passed than the limit allows.
 use Rattle.std.proofs.Common.{◌≡◌, ℕ, zero, suc, ◌+◌, ◌*◌, ◌≤◌, ◌<◌, List, [], ◌∷◌, length, Result, Ok, arith}
-use Rattle.std.specs.Prelude.{nat_le}
-use Rattle.std.proofs.lemmas.Bool.Decides.{nat_tests}
 use Rattle.saphyr_scalar.specs.declared.scalar.fault.Refusal.{Refusal}
 use Rattle.saphyr_scalar.specs.Views.Cursor.{◌>>=◌}
 use Rattle.saphyr_scanner.specs.declared.queue.Opening.{Opening}
@@ -9,15 +7,15 @@ use Rattle.saphyr_scanner.specs.Views.Tokens.{Piece, Remaining}
 use Rattle.saphyr_scanner.specs.Steps.Queue.{Place}
 use Rattle.saphyr_scanner.specs.Steps.Core.{Core, drop_far_key}
 use Rattle.saphyr_scanner.specs.Steps.State.{State, start}
-use Rattle.saphyr_scanner.specs.Steps.Fetch.{size, without_far_key, needs_token, fetch, check_limit, fetch_within}
+use Rattle.saphyr_scanner.specs.Steps.Fetch.{size, without_far_key, needs_token, fetch_within}
 use Rattle.saphyr_scanner.specs.Steps.Remaining.{before_place, hand_out, remaining_after, run, remaining, scan}
 use Rattle.saphyr_scanner.proofs.Effects.Readers.{Readers, ReaderEnds}
 use Rattle.saphyr_scanner.proofs.Effects.Fetch.{Fetched, read_fetched}
 use Rattle.saphyr_scanner.proofs.Handing.Unroll.{behind}
-use Rattle.saphyr_scanner.proofs.Ordered.Queue.{GrowsInOrder}
+use Rattle.saphyr_scanner.proofs.Ordered.Run.{CountsWithin, IsWithinLimit, counts_on, read_stays}
 use Rattle.saphyr_scanner.proofs.Added.Queue.{tokens_at, tokens_in, open_blocks, due}
 use Rattle.saphyr_input.proofs.Basics.Booleans.{by_test}
-use Rattle.saphyr_scalar.proofs.Given.{Given, given_bind, given_of}
+use Rattle.saphyr_scalar.proofs.Given.{given_of}
 use Rattle.saphyr_scanner.proofs.Queues.{holding}
 
 -- ## What is handed out
@@ -37,31 +35,7 @@ handed_counted m n go c others k (p ∷ ps) =
     (λ _. others k (p ∷ ps))
     (λ _. let x = place_counted p.opening p.piece (hand_out ps go (holding c ps (k + 1))) in omega (arith, x, next))
 
--- ## What is read stays within the limit
-
-abbrev IsWithinLimit : ℕ → State → Type 0
-IsWithinLimit limit s = s.core.cursor.mark.index ≤ limit
-
-drop_stays : (limit : ℕ) (s : State) → IsWithinLimit limit s → Given (IsWithinLimit limit) (without_far_key s)
-unfolding drop_far_key
-drop_stays limit s h = grind arith
-
-within_stays : (limit : ℕ) (s : State) → Given (IsWithinLimit limit) (fetch_within limit s)
-unfolding fetch_within
-within_stays limit s = given_bind (IsWithinLimit limit) (fetch s) (check_limit limit) (λ t e.
-    by_test (nat_le t.core.cursor.mark.index limit) _ _ (Given (IsWithinLimit limit))
-    (λ i. let j : t.core.cursor.mark.index ≤ limit = grind (arith, nat_tests) in j) (λ _. tt))
-
-read_stays : (limit : ℕ) (s : State) → Given (IsWithinLimit limit) (fetch_within limit s >>= without_far_key)
-read_stays limit s = given_bind (IsWithinLimit limit) (fetch_within limit s) without_far_key
-    (λ t e. drop_stays limit t (given_of (IsWithinLimit limit) (fetch_within limit s) t (within_stays limit s) e))
-
 -- ## What comes
-
--- The index and what is left are n together, and the index is within the limit.
-record CountsWithin (n limit : ℕ) (s : State) : Type 0 where
-  counted : s.core.cursor.mark.index + length s.core.cursor.rest ≡ n
-  limited : IsWithinLimit limit s
 
 -- what comes, where so much is due and so much is to be read
 abbrev IsFew : ℕ → ℕ → State → Remaining → Type 0
@@ -74,11 +48,6 @@ none_few n limit s h = let a = h.counted in let b = h.limited in omega (arith, a
 read_few : (n limit : ℕ) (s t : State) (r : Remaining) → due t ≤ due s + 5 → size t.core < size s.core
     → IsFew n limit t r → IsFew n limit s r
 read_few n limit s t r a b h = omega (arith, a, b, h)
-
-counts_on : (n limit : ℕ) (s t : State) → GrowsInOrder s t → IsWithinLimit limit t → CountsWithin n limit s
-    → CountsWithin n limit t
-counts_on n limit s t g w h =
-    record { counted = let a = h.counted in let b = g.ahead.counted in omega (arith, a, b); limited = w }
 
 delivers_few : (n limit : ℕ) (s : State) (r : Result State Refusal) (go : State → Remaining) → CountsWithin n limit s
     → ((t : State) → r ≡ Ok t → IsFew n limit s (go t)) → IsFew n limit s (remaining_after r go)

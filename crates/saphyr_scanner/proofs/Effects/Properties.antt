@@ -56,11 +56,11 @@ pub an_anchor : Named tokens.Anchor 38
 an_anchor = grind arith
 
 -- a tag begins with `!`
-tag_begins : (text behind handle suffix : List ℕ) → IsTagText text handle suffix
+pub tag_first : (text behind handle suffix : List ℕ) → IsTagText text handle suffix
     → slice_index (text ++ behind) 0 ≡ exclamation_mark
-tag_begins text behind handle suffix (inl h) = ap (λ t. slice_index (t ++ behind) 0) h.0
-tag_begins text behind handle suffix (inr (inl h)) = ap (λ t. slice_index (t ++ behind) 0) h.3
-tag_begins text behind handle suffix (inr (inr h)) = ap (λ t. slice_index (t ++ behind) 0) h.4 ∙ by h.1
+tag_first text behind handle suffix (inl h) = ap (λ t. slice_index (t ++ behind) 0) h.0
+tag_first text behind handle suffix (inr (inl h)) = ap (λ t. slice_index (t ++ behind) 0) h.3
+tag_first text behind handle suffix (inr (inr h)) = ap (λ t. slice_index (t ++ behind) 0) h.4 ∙ by h.1
   where
     by : IsHandleText handle → slice_index ((handle ++ h.0) ++ behind) 0 ≡ exclamation_mark
     by h = grind arith
@@ -133,7 +133,7 @@ tag_does n c first =
     (ap (is_one_of (codes ":&!")) first))
     (λ i a b k. (
       k.6.start,
-      ap (λ t. begins_text (slice_index t 0)) k.6.is ∙ ap begins_text (tag_begins k.0 b.rest k.1 k.2 k.3),
+      ap (λ t. begins_text (slice_index t 0)) k.6.is ∙ ap begins_text (tag_first k.0 b.rest k.1 k.2 k.3),
     )) refl (other_than_colon 33 here.rest refl first) (λ a laws.
     let w = laws.tag f here y.2 y.0 y.1 first e in
     let place = ap (λ (u : Cursor). u.mark.col) w.6 in
