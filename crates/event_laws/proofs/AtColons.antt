@@ -1,16 +1,16 @@
 -- Where no collection is open, no token is at a colon on the line of the content or the properties before it.
-use Rattle.event_laws.proofs.Common.{◌≡◌, ◌<◌, ℕ, Bool, true, false, List, [], ◌∷◌, ◌++◌, refl, sym, ap, ◌∙◌, ◌⊎◌, inl, inr, arith, Marker, Span, Kind, Surroundings, IsScalarToken, IsToken}
+use Rattle.event_laws.proofs.Common.{◌≡◌, ◌<◌, ℕ, Bool, true, false, List, [], ◌∷◌, refl, sym, ap, ◌∙◌, ◌⊎◌, inl, inr, arith, Marker, Span, Kind, Surroundings, IsScalarToken, IsToken}
 use Rattle.std.specs.Prelude.{IsTrue, slice_index}
 use Rattle.std.proofs.lemmas.Bool.{and_parts}
 use Rattle.saphyr_input.specs.Classes.{is_blank_or_breakz}
-use Rattle.saphyr_input.specs.Indicators.{colon, exclamation_mark}
+use Rattle.saphyr_input.specs.Indicators.{colon}
 use Rattle.saphyr_scalar.specs.Views.Cursor.{Cursor}
 use Rattle.saphyr_scalar.specs.declared.scalar.style.ScalarStyle.{ScalarStyle}
 use Rattle.saphyr_scalar.specs.declared.scalar.style.ScalarStyle.TheVariants as style
-use Rattle.saphyr_scalar.specs.Spelling.Tag.{IsTagText}
 use Rattle.saphyr_scanner.specs.Grammar.Tokens as tokens
 use Rattle.saphyr_scanner.specs.TokensInPlace as place
 use Rattle.saphyr_scanner.specs.TokensInPlace.{Begun, with_begun, fits, may_follow, may_stand}
+use Rattle.saphyr_scanner.proofs.Effects.Properties.{tag_first}
 use Rattle.saphyr_scanner.proofs.Taken.KeysInPlace.{no_text}
 use Rattle.saphyr_scanner.proofs.Taken.JsonEnds.{empty}
 
@@ -24,10 +24,6 @@ in_no_collection ends_json = record { in_flow = false; indent = 0; ends_json = e
 -- another character than the colon
 other_first : (c : ℕ) (more t : List ℕ) → colon ∷ more ≡ c ∷ t → (colon ≡ c → ⊥) → ⊥
 other_first c more t e f = f (ap (λ l. slice_index l 0) e)
-
-tag_first : (text behind handle suffix : List ℕ) → IsTagText text handle suffix
-    → slice_index (text ++ behind) 0 ≡ exclamation_mark
-tag_first text behind handle suffix h = grind arith
 
 scalar_elsewhere : (k : ScalarStyle) (b : Bool) (value : List ℕ) (span : Span) (s t : Cursor) (more : List ℕ)
     → s.rest ≡ colon ∷ more → IsTrue (is_blank_or_breakz (slice_index more 0))

@@ -1,24 +1,16 @@
 -- A text that is longer than the limit is refused: its last token would be behind the limit.
-use Rattle.std.proofs.Common.{◌≡◌, ◌≢◌, ◌∙◌, ℕ, zero, suc, ◌+◌, ◌*◌, ◌≤◌, ◌<◌, inl, inr, List, [], ◌∷◌, ◌++◌, length, append-nil, append_assoc, None, Result, Ok, Err, refl, sym, ap, subst, arith}
-use Rattle.std.specs.Prelude.{Bool, false, true, nat_le}
-use Rattle.std.proofs.lemmas.Bool.Decides.{nat_tests}
-use Rattle.saphyr_input.proofs.Basics.Booleans.{by_test}
-use Rattle.saphyr_scalar.specs.declared.scalar.fault.Refusal.{Refusal}
+use Rattle.std.proofs.Common.{◌≡◌, ◌≢◌, ◌∙◌, ℕ, ◌+◌, ◌*◌, ◌≤◌, ◌<◌, inl, inr, List, [], ◌∷◌, ◌++◌, length, append-nil, append_assoc, None, sym, ap, subst, arith}
+use Rattle.std.specs.Prelude.{Bool, false, true}
+use Rattle.std.proofs.Math.Nat.{min-le_right}
 use Rattle.saphyr_scalar.specs.declared.scalar.position.Marker.{Marker}
-use Rattle.saphyr_scalar.specs.Views.Cursor.{◌>>=◌, Cursor, start_cursor}
-use Rattle.saphyr_scalar.proofs.Given.{Given, given_bind, given_of}
-use Rattle.saphyr_scanner.specs.declared.queue.Opening.{Opening}
+use Rattle.saphyr_scalar.specs.Views.Cursor.{Cursor, start_cursor}
 use Rattle.saphyr_scanner.specs.Ends.{EndsWithStream, HasNoEnd}
 use Rattle.saphyr_scanner.specs.Grammar.Tokens as tokens
 use Rattle.saphyr_scanner.specs.Grammar.Forest.{Forest}
 use Rattle.saphyr_scanner.specs.Grammar.TokenGrammar.{YieldDocuments, YieldsBehindDocument}
 use Rattle.saphyr_scanner.specs.Grammar.Tokens.{Kind}
 use Rattle.saphyr_scanner.specs.SpansInOrder.{AreInOrder}
-use Rattle.saphyr_scanner.specs.Steps.Core.{Core, drop_far_key}
-use Rattle.saphyr_scanner.specs.Steps.Fetch.{size, without_far_key, needs_token, fetch, check_limit, fetch_within}
-use Rattle.saphyr_scanner.specs.Steps.Queue.{Place}
-use Rattle.saphyr_scanner.specs.Steps.Remaining.{before_place, hand_out, remaining_after, run, remaining, scan}
-use Rattle.saphyr_scanner.specs.Steps.State.{State, start}
+use Rattle.saphyr_scanner.specs.Steps.Remaining.{scan}
 use Rattle.saphyr_scanner.specs.TokensTaken.{AreTakenFrom, AreTokens, Collections, IsPlaceOf, IsPlaceOrEnd, IsToken, no_collections, nothing, open_behind, surroundings_in}
 use Rattle.saphyr_scanner.specs.Views.Tokens.{Piece, Remaining}
 use Rattle.saphyr_machine.specs.Answer.{Answer}
@@ -29,90 +21,10 @@ use Rattle.event_laws.proofs.Promises.TakesEvents.{ended}
 use Rattle.event_laws.proofs.Refusing.{AreEnded}
 use Rattle.event_laws.proofs.Sound.{begins}
 use Rattle.event_laws.proofs.TokensForm.{tokens_form}
-use Rattle.saphyr_scanner.proofs.Effects.Fetch.{Fetched, read_fetched, settled_advances}
 use Rattle.saphyr_scanner.proofs.Effects.Readers.{ReaderEnds}
-use Rattle.saphyr_scanner.proofs.Effects.States.{FetchesTokens}
-use Rattle.saphyr_scanner.proofs.Ordered.Queue.{places_within, InOrder, GrowsInOrder}
-use Rattle.saphyr_scanner.proofs.Queues.{holding}
+use Rattle.saphyr_scanner.proofs.Ordered.Run.{scan_in_order}
 use Rattle.saphyr_scanner.proofs.Reached.{apart_reached, reached_counted}
 use Rattle.saphyr_scanner.proofs.Taken.Places.{Reaches, reaches_reaches, token_reached}
-
--- ## What is read is within the limit
-
-abbrev IsWithinLimit : ℕ → State → Type 0
-IsWithinLimit limit s = s.core.cursor.mark.index ≤ limit
-
-drop_stays : (limit : ℕ) (s : State) → IsWithinLimit limit s → Given (IsWithinLimit limit) (without_far_key s)
-unfolding drop_far_key
-drop_stays limit s h = grind arith
-
-fetch_stays : (limit : ℕ) (s : State) → Given (IsWithinLimit limit) (fetch_within limit s)
-unfolding fetch_within
-fetch_stays limit s = given_bind (IsWithinLimit limit) (fetch s) (check_limit limit) (λ t e.
-    by_test (nat_le t.core.cursor.mark.index limit) _ _ (Given (IsWithinLimit limit))
-    (λ i. let j : t.core.cursor.mark.index ≤ limit = grind (arith, nat_tests) in j) (λ _. tt))
-
-read_stays : (limit : ℕ) (s : State) → Given (IsWithinLimit limit) (fetch_within limit s >>= without_far_key)
-read_stays limit s = given_bind (IsWithinLimit limit) (fetch_within limit s) without_far_key
-    (λ t e. drop_stays limit t (given_of (IsWithinLimit limit) (fetch_within limit s) t (fetch_stays limit s) e))
-
--- what comes is in order from `low` on, within the limit
-abbrev FollowsWithin : ℕ → ℕ → Remaining → Type 0
-FollowsWithin limit low r = AreInOrder limit low r.pieces
-
-place_first : (limit low : ℕ) (o : Opening) (t : Piece) (r : Remaining) → low ≤ t.span.start.index
-    → t.span.start.index ≤ t.span.end.index → FollowsWithin limit t.span.end.index r
-    → FollowsWithin limit low (before_place o t r)
-place_first limit low u0 t r a b h = grind arith
-
-handed_within : (limit : ℕ) (go : State → Remaining) (c : Core)
-    → ((low k : ℕ) (ps : List Place) → InOrder low (holding c ps k) → FollowsWithin limit low (go (holding c ps k)))
-    → (low k : ℕ) (ps : List Place) → InOrder low (holding c ps k)
-    → FollowsWithin limit low (hand_out ps go (holding c ps k))
-handed_within limit go c others low k [] h = others low k [] h
-handed_within limit go c others low k (p ∷ ps) h =
-    let next = handed_within limit go c others p.piece.span.end.index (k + 1) ps h.2 in
-    by_test (needs_token (holding c (p ∷ ps) k)) _ _ (FollowsWithin limit low) (λ _. others low k (p ∷ ps) h)
-    (λ _. place_first limit low p.opening p.piece _ h.0 h.1 next)
-
-low_within : (limit low : ℕ) (s : State) → IsWithinLimit limit s → InOrder low s → low ≤ limit
-low_within limit low s w h = omega (arith, w, places_within s.core.cursor.mark.index low s.queue.places h)
-
-delivers_within : (limit low : ℕ) (s : State) (r : Result State Refusal) (go : State → Remaining)
-    → IsWithinLimit limit s → InOrder low s → ((t : State) → r ≡ Ok t → GrowsInOrder s t × IsWithinLimit limit t)
-    → ((t : State) → IsWithinLimit limit t → InOrder low t → FollowsWithin limit low (go t))
-    → FollowsWithin limit low (remaining_after r go)
-delivers_within limit low s (Ok t) go w h g others = let new = g t refl in others t new.1 (new.0.ordered low h)
-delivers_within limit low s (Err e) go w h g others = low_within limit low s w h
-
-run_within : ReaderEnds → (limit fuel low : ℕ) (s : State) → IsWithinLimit limit s → InOrder low s
-    → FollowsWithin limit low (run fuel limit s)
-run_within laws limit zero low s w h = low_within limit low s w h
-run_within laws limit (suc fuel) low s w h =
-    let others : (l : ℕ) (t : State) → IsWithinLimit limit t → InOrder l t → FollowsWithin limit l (run fuel limit t) =
-    λ l t. run_within laws limit fuel l t in
-    handed_within limit _ s.core
-    (λ l k ps i. let t : State = holding s.core ps k in
-    by_test t.core.ended _ _ (FollowsWithin limit l) (λ _. low_within limit l t w i)
-    (λ e. let r = fetch_within limit t >>= without_far_key in
-    delivers_within limit l t r (run fuel limit) w i
-    (λ u q. (
-      (given_of (Fetched t) r u (read_fetched limit t e) q).grows laws,
-      given_of (IsWithinLimit limit) r u (read_stays limit t) q,
-    )) (others l)))
-    low s.queue.handed s.queue.places h
-
-scan_within : ReaderEnds → (limit : ℕ) (text : List ℕ) → AreInOrder limit 0 (scan limit text).pieces
-unfolding remaining
-scan_within laws limit text =
-    let s : State = start text in
-    delivers_within limit 0 s (without_far_key s) (λ t. run (suc (size t.core)) limit t) (omega arith)
-    (omega arith)
-    (λ t e. (
-      (given_of (FetchesTokens 0 s) (without_far_key s) t (settled_advances s) e).grows laws,
-      given_of (IsWithinLimit limit) (without_far_key s) t (drop_stays limit s (omega arith)) e,
-    ))
-    (λ t w h. run_within laws limit (suc (size t.core)) 0 t w h)
 
 -- ## Where the last token is
 
@@ -152,8 +64,8 @@ long_refused : ReaderEnds → (limit : ℕ) (text : List ℕ) → limit < length
     → EndsWithStream (scan limit text) → HasNoEnd (scan limit text).pieces
 long_refused laws limit text long taken (inl refused) = refused.2
 long_refused laws limit text long taken (inr c) =
-    let within = last_within limit 0 c.0 c.1
-    (subst (λ ps. AreInOrder limit 0 ps) c.4 (scan_within laws limit text)) in
+    let ordered = scan_in_order laws limit limit text (min-le_right (length text) limit) in
+    let within = last_within limit 0 c.0 c.1 (subst (λ ps. AreInOrder limit 0 ps) c.4 ordered) in
     let behind = last_behind text no_collections c.0 c.1 (start_cursor text) taken.0
     (nothing (start_cursor text).mark text)
     (subst (λ ps. AreTokens no_collections ps (start_cursor text) taken.0) c.4 taken.1) c.3 in

@@ -14,9 +14,9 @@ use Rattle.yaml_standard.specs.PlainParts.{IsBeforeWord, AreMarkAndColons}
 use Rattle.yaml_standard.specs.Takes.{TakesOff}
 use Rattle.yaml_standard.specs.Words.{AreSomeSafe}
 use Rattle.yaml_standard.proofs.Pieces.{taken_so, then, known_then, then_known, many_more}
-use Rattle.yaml_standard.proofs.PlainWords.{first_is, more_left}
+use Rattle.yaml_standard.proofs.PlainWords.{first_is}
 use Rattle.yaml_standard.proofs.Separation.{shorter_by}
-use Rattle.yaml_laws.proofs.Flow.Words.{colon_is_safe}
+use Rattle.yaml_laws.proofs.Flow.Words.{both_some, colon_is_safe}
 
 -- ## First words
 
@@ -167,7 +167,7 @@ same_first (c ∷ cs) q h = refl
 -- a word and colons after it
 word_and_colons : (in_flow : Bool) (w q : List ℕ) → IsWordIn in_flow w → AreColons q → IsLastWord in_flow (w ++ q)
 word_and_colons in_flow w q h k = (
-  more_left w q h.some,
+  both_some w q h.some,
   both_in (is_plain_safe in_flow) w q (word_safe in_flow w h.safe) (colons_safe in_flow q k),
   λ e. h.no_comment (sym (same_first w q h.some) ∙ e),
 )

@@ -9,7 +9,7 @@ use Rattle.scalar_laws.proofs.Beginnings.{both_in, heads, tails}
 use Rattle.yaml_standard.specs.Takes.{TakesOff}
 use Rattle.yaml_standard.specs.Words.{IsSafePart, AreSomeSafe}
 use Rattle.yaml_standard.proofs.Pieces.{nothing_taken, then, known_then, then_known}
-use Rattle.yaml_laws.proofs.Flow.Words.{colon_is_safe}
+use Rattle.yaml_laws.proofs.Flow.Words.{both_some, colon_is_safe}
 
 pub no_colons : (a : List ℕ) → TakesOff (AreIn (λ x. x == 58)) a a
 no_colons a = nothing_taken _ a tt
@@ -26,10 +26,6 @@ dash_safe : (in_flow : Bool) → IsTrue (is_plain_safe in_flow 45)
 dash_safe true = refl
 dash_safe false = refl
 
-pub more_left : (t q : List ℕ) → t ≢ [] → t ++ q ≢ []
-more_left [] q h e = h refl
-more_left (c ∷ cs) q h e = cons_not_empty c (cs ++ q) e
-
 pub more_end : (t : List ℕ) (c : ℕ) → t ++ c ∷ [] ≢ []
 more_end [] c e = cons_not_empty c [] e
 more_end (x ∷ xs) c e = cons_not_empty x (xs ++ c ∷ []) e
@@ -37,7 +33,7 @@ more_end (x ∷ xs) c e = cons_not_empty x (xs ++ c ∷ []) e
 both_safe : (in_flow : Bool) (p q : List ℕ) → ArePlainSafe in_flow p → ArePlainSafe in_flow q
     → ArePlainSafe in_flow (p ++ q)
 both_safe in_flow [] q h k = k
-both_safe in_flow (c ∷ cs) q h k = (h.0, λ e. more_left cs q (h.1 e), both_safe in_flow cs q h.2 k)
+both_safe in_flow (c ∷ cs) q h k = (h.0, λ e. both_some cs q (h.1 e), both_safe in_flow cs q h.2 k)
 
 part_safe : (in_flow : Bool) (colons : List ℕ) (c : ℕ) → AreIn (λ x. x == 58) colons → IsTrue (is_plain_safe in_flow c)
     → c ≢ 58 → ArePlainSafe in_flow (colons ++ c ∷ [])
@@ -68,7 +64,7 @@ part_shorter in_flow a b t =
 pub some_safe : (in_flow : Bool) (a b c : List ℕ) → TakesOff (IsSafePart in_flow) a b
     → TakesOff (ArePlainSafe in_flow) b c → TakesOff (AreSomeSafe in_flow) a c
 some_safe in_flow a b c s t =
-    then (λ p q h k. let some = some_part in_flow p h in (more_left p q some.0, both_safe in_flow p q some.1 k)) s t
+    then (λ p q h k. let some = some_part in_flow p h in (both_some p q some.0, both_safe in_flow p q some.1 k)) s t
 
 pub first_is : (p r b : List ℕ) (c : ℕ) → p ≢ [] → c ∷ b ≡ p ++ r → slice_index p 0 ≡ c
 first_is [] r b c some e = absurd (some refl)

@@ -1,10 +1,11 @@
 -- The anchors, aliases and tags of a text in flow style are passed.
 use Rattle.std.proofs.Common.{◌≡◌, ℕ, ◌+◌, ◌≤◌, Bool, true, false, List, [], ◌∷◌, ◌++◌, length, slice_index, refl, sym, ap, ◌∙◌, arith, subst, encode_utf8_all, inl, inr}
-use Rattle.yaml_laws.proofs.Common.{◌==◌, not, Option, None, exclamation_mark, is_break, is_anchor_char, line_feed, Marker, along, mid_line, AreIn, IsAnchorName, IsTagText, EndsTag, IsHandleText, NoBreaks, Kind, alias_token, anchor_token, tag_token, Tag, Handle, handle_text, NonSpecific, Verbatim, Shorthand, Core, from_to, completed_step, Candidate, State, is_block, name_no_break, tag_no_break, IsTag, IsAnchor, IsAlias, cursor_at, no_break_no_feed}
+use Rattle.yaml_laws.proofs.Common.{◌==◌, not, Option, None, is_break, is_anchor_char, line_feed, Marker, along, mid_line, AreIn, IsAnchorName, IsTagText, EndsTag, IsHandleText, NoBreaks, Kind, alias_token, anchor_token, tag_token, Tag, Handle, handle_text, NonSpecific, Verbatim, Shorthand, Core, from_to, completed_step, Candidate, State, is_block, name_no_break, tag_no_break, IsTag, IsAnchor, IsAlias, cursor_at, no_break_no_feed}
 use Rattle.saphyr_scanner.specs.Grammar.Tokens as tokens
 use Rattle.saphyr_scanner.specs.Steps.Property as property
 use Rattle.saphyr_scanner.specs.Steps.Property.{read_name, read_tag}
 use Rattle.saphyr_scanner.specs.Steps.Fetch.{step}
+use Rattle.saphyr_scanner.proofs.Effects.Properties.{tag_first}
 use Rattle.yaml_laws.proofs.InFlow.States.{Around, core_at, Placed, saves_key, FlowMoment, Ready, right_at}
 use Rattle.yaml_laws.proofs.Flow.States.{moved, ReaderPromises, Fits}
 use Rattle.yaml_laws.proofs.Flow.KeyPieces.{fits_reach}
@@ -32,15 +33,6 @@ tag_read (Verbatim uri) t h = record { handle = []; suffix = uri; is = inr (inl 
 tag_read (Shorthand handle suffix) t h =
     let r = handle_read handle h.0 h.2 in
     record { handle = h.0; suffix = suffix; is = inr (inr (h.1, r.0, h.3, h.4, h.5)); token = cc }
-
-handle_first : (t back : List ℕ) → IsHandleText t → (others : List ℕ) × (t ++ back ≡ exclamation_mark ∷ others)
-handle_first t back (inl h) = (back, ap (λ (y : List ℕ). y ++ back) h)
-handle_first t back (inr h) = ((h.0 ++ 33 ∷ []) ++ back, ap (λ (y : List ℕ). y ++ back) h.2)
-
--- a tag begins with `!`
-pub tag_first : (t handle suffix : List ℕ) → IsTagText t handle suffix
-    → (others : List ℕ) × (t ≡ exclamation_mark ∷ others)
-tag_first t handle suffix h = grind (arith, handle_first)
 
 -- on its line what has no break has no line feed
 pub unbroken_on_line : (t : List ℕ) → NoBreaks t → AreIn (λ c. not (c == line_feed)) t
@@ -155,8 +147,7 @@ pub tag_passes : ReaderPromises → (around : Around) (tag : Tag) (t o : List �
 unfolding step
 tag_passes reads around tag t o m h now ends fits from ready =
     let r = tag_read tag t h in
-    let f = tag_first t r.handle r.suffix r.is in
-    let at_first : slice_index (t ++ o) 0 ≡ 33 = ap (λ (p : List ℕ). slice_index (p ++ o) 0) f.1 in
+    let at_first : slice_index (t ++ o) 0 ≡ 33 = tag_first t o r.handle r.suffix r.is in
     let second = slice_index (t ++ o) 1 in
     let end = moved m t in
     let n = length now.places in

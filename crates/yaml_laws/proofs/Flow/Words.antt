@@ -215,7 +215,7 @@ last_further f indent dashes gap word r (lone, each, joins) gapped is_word m cle
 
 -- ## The whole scalar
 
-both_some : (a b : List ℕ) → a ≢ [] → a ++ b ≢ []
+pub both_some : (a b : List ℕ) → a ≢ [] → a ++ b ≢ []
 both_some [] b some e = absurd (some refl)
 both_some (c ∷ a) b some e = absurd (cc)
 
