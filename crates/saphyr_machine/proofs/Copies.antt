@@ -1,6 +1,6 @@
 -- Copies that contracts see as what they are copies of.
-use Rattle.std.proofs.Common.{◌≡◌, ℕ, List, [], ◌∷◌, refl, arith}
-use Rattle.std.specs.Prelude.{String, string_bytes}
+use Rattle.std.proofs.Common.{◌≡◌, ℕ, List, [], ◌∷◌, refl, ap, inl, inr, arith}
+use Rattle.std.specs.Prelude.{String, string_bytes, ◌⊎◌}
 use Rattle.std.specs.List.{AllZip}
 use Rattle.std.specs.BTreeMap.{BTreeMap, IsClone}
 use Rattle.saphyr_machine.specs.Names.{ids_of, texts_of}
@@ -20,6 +20,11 @@ seen_copied f (x ∷ xs) (y ∷ ys) e = λ i. (e.0.0 i, e.0.1 i) ∷ seen_copied
 pub ids_copied : {A : Type 0} (m n : BTreeMap (String A) ℕ)
     → IsClone (λ s t. string_bytes t ≡ string_bytes s) (λ x y. y ≡ x) m n → ids_of n ≡ ids_of m
 ids_copied m n e = seen_copied (λ (x : ℕ). x) m.entries n.entries e
+
+pub same_or_copied : {A : Type 0} (m n : BTreeMap (String A) ℕ)
+    → (n ≡ m) ⊎ IsClone (λ s t. string_bytes t ≡ string_bytes s) (λ x y. y ≡ x) m n → ids_of n ≡ ids_of m
+same_or_copied {A} m n (inl same) = ap (λ (x : BTreeMap (String A) ℕ). ids_of x) same
+same_or_copied m n (inr e) = ids_copied m n e
 
 pub texts_copied : {A : Type 0} (m n : BTreeMap (String A) (String A))
     → IsClone (λ s t. string_bytes t ≡ string_bytes s) (λ s t. string_bytes t ≡ string_bytes s) m n

@@ -1,5 +1,6 @@
 pub mod ListedNames
 pub mod Names
+pub mod LaidOver
 pub mod Passing
 pub mod NoEvents
 pub mod Properties

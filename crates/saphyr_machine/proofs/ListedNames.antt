@@ -1,7 +1,8 @@
 -- Names stay as they are when others are put after them.
-use Rattle.std.proofs.Common.{◌≡◌, ℕ, ◌+◌, ◌<◌, ◌≤◌, List, [], ◌∷◌, ◌++◌, drop, length, get_or, take, refl, sym, ap, subst, arith, ◌∙◌}
-use Rattle.std.specs.Prelude.{Result, Ok, Err, OnErr, map, slice_range, IsUtf8}
+use Rattle.std.proofs.Common.{◌≡◌, ℕ, ◌+◌, ◌-◌, ◌<◌, ◌≤◌, List, [], ◌∷◌, ◌++◌, drop, length, get_or, take, refl, sym, ap, subst, arith, ◌∙◌}
+use Rattle.std.specs.Prelude.{Result, Ok, Err, IsOk, OnErr, is_ok, map, slice_range, IsUtf8}
 use Rattle.std.specs.List.{All, AllZip}
+use Rattle.std.proofs.Math.Seq.{take-append_seam}
 use Rattle.std.proofs.lemmas.List.{drop-append-le, length-append, length-drop, map-append, take-append-drop, take-append-le}
 use Rattle.std.proofs.lemmas.List.Elements.{All-head, All-push, All-tail}
 use Rattle.saphyr_machine.specs.declared.name_list.Name.{Name}
@@ -44,6 +45,14 @@ name_put old new ns n e g h has is =
       map-append (with_id new) ns (n ∷ []) ∙ (λ i. stay.1 i ++ is i ∷ []),
     )
 
+-- the first names come behind the others, and are cut off
+pub left_behind : {X : Type 0} (xs ys zs : List X) (n all : ℕ)
+    → ys ≡ drop n xs ++ take n xs → all ≡ length xs → zs ≡ take (all - n) ys → zs ≡ drop n xs
+left_behind xs ys zs n all turned len cut =
+    cut ∙ (λ i. take (len i - n) (turned i))
+    ∙ ap (λ (k : ℕ). take k (drop n xs ++ take n xs)) (sym (length-drop n xs))
+    ∙ take-append_seam (drop n xs) (take n xs)
+
 pub element : (bytes : List ℕ) (ns : List Name) (k : ℕ) (n : Name) → k < length ns → n ≡ get_or ns k n
     → All (HasName bytes) ns → HasName bytes n
 element bytes ns k n lt is h = subst (HasName bytes) (sym is) (h k n lt)
@@ -53,6 +62,13 @@ copied [] [] e = refl
 copied [] (y ∷ ys) e = absurd e
 copied (x ∷ xs) [] e = absurd e
 copied (x ∷ xs) (y ∷ ys) e = λ i. e.0 i ∷ copied xs ys e.1 i
+
+-- what a failed call says holds
+pub from_err : {T E P : Type 0} (r : Result T E) (e : E) → r ≡ Err e → OnErr r P → P
+from_err {T} {E} {P} r e is = subst (λ (s : Result T E). OnErr s P) is
+
+pub from_ok : {T E : Type 0} (r : Result T E) (x : T) → r ≡ Ok x → IsOk r
+from_ok {T} {E} r x is = ap (λ (s : Result T E). is_ok s) is
 
 -- what holds anyway holds of a call that failed
 pub on_err : {T E P : Type 0} (r : Result T E) → P → OnErr r P

@@ -1,11 +1,11 @@
 -- Maps from texts, as lists of names.
-use Rattle.std.proofs.Common.{◌≡◌, arith, ℕ, length, List, [], ◌∷◌, Option, Some, None, Result, Ok, refl, sym, ap, ◌∙◌, cond, Bool, true, false, true≢false, ◌||◌, nat_eq, ◌+◌, ◌<◌, ◌++◌, take, get_or}
+use Rattle.std.proofs.Common.{◌≡◌, arith, ℕ, length, List, [], ◌∷◌, Option, Some, None, Result, Ok, refl, sym, ap, ◌∙◌, cond, Bool, true, false, true≢false, ◌||◌, nat_eq, ◌+◌, ◌<◌, ◌++◌, take, drop, get_or}
 use Rattle.std.specs.Prelude.{map, String, string_bytes, string_cmp, option_map, is_some}
 use Rattle.std.specs.BTreeMap.{BTreeMap, get_by, insert_entry, is_at}
 use Rattle.std.specs.BTreeSet.{BTreeSet, contains_by, insert_key}
 use Rattle.std.specs.List.{list_any}
 use Rattle.std.specs.Cmp.Lexicographic.{slice_cmp, pointwise}
-use Rattle.std.proofs.lemmas.List.{map-append, take_more}
+use Rattle.std.proofs.lemmas.List.{map-append, take-append-drop, take_more}
 use Rattle.std.proofs.lemmas.List.Sums.{fold-append}
 use Rattle.std.proofs.lemmas.Map.Lookups.{exact_bytes}
 use Rattle.std.proofs.lemmas.Map.Text.{is_eq-slice_cmp}
@@ -120,6 +120,15 @@ one_more name bytes ns n x names same h is c =
     ∙ meaning_with name (bytes_of_name bytes x) x.id before
     ∙ ap (λ (b : Bool). cond b (Some x.id) (meaning name before))
     (is_eq-slice_cmp name (bytes_of_name bytes x) ∙ sym c)
+
+-- the first of the names were put into a map, and the others are left
+pub rest_listed : (bytes : List ℕ) (ns : List Name) (n : ℕ) (names : Names ℕ)
+    → with_listed (map (with_id bytes) (drop n ns)) (with_listed (map (with_id bytes) (take n ns)) names)
+    ≡ with_listed (map (with_id bytes) ns) names
+rest_listed bytes ns n names =
+    sym (fold-append _ names (map (with_id bytes) (take n ns)) (map (with_id bytes) (drop n ns)))
+    ∙ ap (λ (es : List (List ℕ × ℕ)). with_listed es names) (sym (map-append (with_id bytes) (take n ns) (drop n ns)))
+    ∙ ap (λ (xs : List Name). with_listed (map (with_id bytes) xs) names) (take-append-drop n ns)
 
 -- a name that is noted behind the others has its id
 pub registered : (a : Anchors) (es fs : List (List ℕ × ℕ)) (ids : Names ℕ) (id : ℕ) (bytes : List ℕ)

@@ -5,13 +5,16 @@ ghost use Rattle.saphyr_scalar.specs.Views.Reader.{Moves};
 ghost use Rattle.saphyr_machine.specs.Steps.Machine as spec;
 
 use crate::name_list::NameList;
+use crate::name_map::NameMap;
 use saphyr_scalar::Stop;
 use std::alloc::{AllocError, Global};
-use std::collections::BTreeMap;
 use std::marker::Model;
 
 /// How many of the latest names an alias is compared with one by one. For more of them a map is faster.
 const LATEST: usize = 8;
+
+/// After so many names it is looked whether the next is one of them, since names that come again need no more memory.
+const MANY: usize = 1 << 12;
 
 /// The anchors of a document by their names, and the id that was given last.
 ///
@@ -19,7 +22,7 @@ const LATEST: usize = 8;
 #[derive(Drop)]
 pub struct Anchors {
     // The ids by the names, without those that were given since.
-    ids: BTreeMap<String, usize>,
+    ids: NameMap,
     // The names that were given ids since. Most anchors have no alias, and to put a name into the map costs most of
     // what it costs to read an anchor. So that waits for an alias that means an earlier one.
     recent: NameList,
@@ -28,11 +31,11 @@ pub struct Anchors {
 
 impl Model for Anchors {
     ghost use Rattle.saphyr_machine.specs.Steps.Machine.{Anchors as Seen};
-    ghost use Rattle.saphyr_machine.specs.Names.{ids_of, listed_names, with_listed};
+    ghost use Rattle.saphyr_machine.specs.Names.{listed_names, mapped_ids, with_listed};
 
     ghost Value = { Seen };
 
-    ghost view = { λ a. record { ids = with_listed (listed_names a.recent) (ids_of a.ids); last = a.last } };
+    ghost view = { λ a. record { ids = with_listed (listed_names a.recent) (mapped_ids a.ids); last = a.last } };
 }
 
 impl Anchors {
@@ -43,7 +46,7 @@ impl Anchors {
         ensures { result ≡ spec.no_anchors }
     {
         Anchors {
-            ids: BTreeMap::new(alloc),
+            ids: NameMap::new(alloc),
             recent: NameList::new(alloc),
             last: 0,
         }
@@ -57,11 +60,28 @@ impl Anchors {
         self.recent.clear();
     }
 
+    // Puts the names where each is kept once, if they are many and this one is among them. Memory may run out.
+    #[inline(always)]
+    fn put_away(&mut self, name: &str)
+        ensures { self.new ≡ self.old }
+    {
+        let count = self.recent.len();
+        if count % MANY != MANY - 1 {
+            return;
+        }
+        let first = count.saturating_sub(MANY);
+        if self.recent.latest_id(name, first).is_none() {
+            return;
+        }
+        let _ = self.ids.take_in(&mut self.recent);
+    }
+
     /// Gives the next id to the name, which may already have one.
     pub fn register(&mut self, name: &str) -> Result<usize, Stop>
         ensures { Moves {Y = ℕ × spec.Anchors} (λ id. (id, self.new)) result
             (Ok (spec.next_id self.old, spec.with_anchor name.now self.old)) }
     {
+        self.put_away(name);
         let id = self.last.saturating_add(1);
         self.recent.push(name, id)?;
         self.last = id;
@@ -78,9 +98,16 @@ impl Anchors {
             return Ok(Some(id));
         }
         if first > 0 {
-            self.recent.move_into(&mut self.ids)?;
+            self.ids.take_in(&mut self.recent)?;
         }
-        Ok(self.ids.get(name).copied())
+        Ok(self.ids.id_of(name))
+    }
+
+    /// Has the copies that come share the names, as far as there is memory for that.
+    pub fn share(&mut self)
+        ensures { self.new ≡ self.old }
+    {
+        let _ = self.ids.share(&mut self.recent);
     }
 
     /// A copy, unless memory runs out.
@@ -88,7 +115,7 @@ impl Anchors {
         ensures { IfOk result (λ copy. copy ≡ self.now) }
     {
         Ok(Anchors {
-            ids: self.ids.clone()?,
+            ids: self.ids.try_clone()?,
             recent: self.recent.try_clone()?,
             last: self.last,
         })

@@ -71,6 +71,13 @@ impl<T: CloneInput> Machine<T> {
 impl<'input, T: CloneInput> EventReader<'input, T> {
     ghost use Rattle.saphyr_machine.specs.Views.Readers.{cursor_in, cursor_over, scanning_of};
 
+    /// Has the copies that come share the names of anchors, of which they then take no time.
+    pub fn share_names(&mut self)
+        ensures { self.new ≡ self.old }
+    {
+        self.machine.anchors.share();
+    }
+
     /// An independent reader at the same place.
     pub fn try_clone(&self) -> Result<Self, AllocError>
         ensures scanner { IfOk result (λ copy. scanning_of copy ≡ scanning_of self.now) }

@@ -16,6 +16,7 @@ mod kept;
 mod loading;
 mod machine;
 mod name_list;
+mod name_map;
 mod node;
 mod prefixes;
 mod progress;

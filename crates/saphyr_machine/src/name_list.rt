@@ -1,11 +1,12 @@
 //! The names of anchors, one after another in one piece of memory.
 
-ghost use Rattle.std.specs.Prelude.{◌≡◌, ◌∷◌, ◌++◌, ◌<◌, ◌≤◌, ℕ, [], length, slice_index_or, string_bytes, take, IfOk, OnErr, OnOk};
+ghost use Rattle.std.specs.Prelude.{◌≡◌, ◌∷◌, ◌++◌, ◌<◌, ◌≤◌, ℕ, [], length, map, slice_index_or, string_bytes, take, IfOk, OnErr, OnOk};
 ghost use Rattle.std.specs.List.{All};
 ghost use Rattle.std.specs.Option.{option_or};
 ghost use Rattle.saphyr_machine.specs.ListedNames.{GrowsBehind, HasName, bytes_of_name, with_id};
 ghost use Rattle.saphyr_machine.specs.Steps.Machine as spec;
 
+use crate::name_map::put;
 use std::alloc::{AllocError, Global};
 use std::collections::BTreeMap;
 use std::str;
@@ -111,18 +112,37 @@ impl NameList {
         None
     }
 
-    /// Moves the names with their ids into a map, in their order.
-    pub fn move_into(&mut self, ids: &mut BTreeMap<String, usize>) -> Result<(), AllocError>
-        ensures moved { OnOk result
-            (ids_of ids.new ≡ with_listed (listed_names self.old) (ids_of ids.old)) }
-        ensures empty { OnOk result (listed_names self.new ≡ []) }
+    // Puts the names with their ids into a map, in their order, until memory runs out. Returns how many it put.
+    fn put_into(&self, ids: &mut BTreeMap<String, usize>) -> usize
+        ensures bound { result ≤ length self.now.names.items }
+        ensures put { ids_of ids.new
+            ≡ with_listed (map (with_id self.now.bytes.items) (take result self.now.names.items))
+            (ids_of ids.old) }
     {
         let alloc = *self.bytes.allocator();
         let mut next = 0;
         while next < self.names.len() {
             let name = self.names[next];
-            ids.insert(String::from_str(alloc, self.text(name))?, name.id)?;
+            let Ok(()) = put(alloc, ids, self.text(name), name.id) else {
+                return next;
+            };
             next += 1;
+        }
+        next
+    }
+
+    /// Moves the names with their ids into a map, in their order. Where memory runs out, the others stay.
+    pub fn move_into(&mut self, ids: &mut BTreeMap<String, usize>) -> Result<(), AllocError>
+        ensures same { with_listed (listed_names self.new) (ids_of ids.new)
+            ≡ with_listed (listed_names self.old) (ids_of ids.old) }
+        ensures empty { OnOk result (listed_names self.new ≡ []) }
+    {
+        let moved = self.put_into(ids);
+        let left = self.names.len() - moved;
+        if left > 0 {
+            self.names.rotate_left(moved);
+            self.names.truncate(left);
+            return Err(AllocError);
         }
         self.clear();
         Ok(())

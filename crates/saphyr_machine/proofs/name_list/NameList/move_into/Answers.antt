@@ -1,46 +1,46 @@
-use Rattle.std.proofs.Common.{arith, refl, ◌≡◌, ◌∙◌, ◌<◌, ℕ, List, sym, ap, length, take}
+use Rattle.std.proofs.Common.{arith, ◌≡◌, ◌∙◌, ℕ, List, ap, length, take, drop}
 use Rattle.std.specs.Prelude.{map}
 use Rattle.std.proofs.Math.Seq.{take-length}
+use Rattle.std.proofs.lemmas.List.Elements.{All-drop, All-same}
 use Rattle.saphyr_machine.specs.declared.name_list.Name.{Name}
-use Rattle.saphyr_machine.specs.ListedNames.{bytes_of_name, with_id}
-use Rattle.saphyr_machine.specs.Steps.Machine.{Names, with_meaning}
+use Rattle.saphyr_machine.specs.ListedNames.{HasName, with_id}
+use Rattle.saphyr_machine.specs.Steps.Machine.{Names}
 use Rattle.saphyr_machine.specs.Names.{ids_of, with_listed}
-use Rattle.saphyr_machine.proofs.Names.{ids_given, next_given}
-use Rattle.saphyr_machine.proofs.ListedNames.{element}
+use Rattle.saphyr_machine.proofs.ListedNames.{left_behind}
+use Rattle.saphyr_machine.proofs.Names.{rest_listed}
 use Rattle.saphyr_machine.proofs.name_list.NameList.move_into.Goals as goal
 
-pub loop-next-init : goal.loop-next-init
-loop-next-init c = (omega arith, refl)
-
-pub text-requires : goal.text-requires
-text-requires c =
+pub invariant_of-self : goal.invariant_of-self
+invariant_of-self c =
     let r = c.args.self.now in
-    let inside : c.loop-next.next < length r.names.items = omega (arith, c.loop-next-test.true) in
-    element r.bytes.items r.names.items c.loop-next.next c.index-name.result.now inside
-    c.index-name.ensures r.have_texts
+    let n = c.put_into-moved.result in
+    let all : c.len.result ≡ length r.names.items = omega arith in
+    record {
+      have_texts = All-same (HasName r.bytes.items) c.truncate.new.self.items (drop n r.names.items)
+          (left_behind r.names.items c.rotate_left.new.self.items c.truncate.new.self.items n c.len.result
+          c.rotate_left.ensures.items all c.truncate.ensures.items)
+          (All-drop (HasName r.bytes.items) n r.names.items r.have_texts);
+    }
 
-pub loop-next-preserved : goal.loop-next-preserved
-loop-next-preserved c =
-    let bytes = c.args.self.now.bytes.items in
-    let ns = c.args.self.now.names.items in
-    let e = c.index-name.result.now in
-    let before = ids_of c.args.ids.now in
-    let inside : c.loop-next.next < length ns = omega (arith, c.loop-next-test.true) in (
-      omega (arith, inside),
-      ids_given c.loop-next.ids c.insert.new.self c.in_ok-from_str.field-0 e.id c.in_ok-insert.ensures.entries
-          ∙ ap (λ (bs : List ℕ). with_meaning bs e.id (ids_of c.loop-next.ids))
-          (c.in_ok-from_str.ensures.ok ∙ c.text.ensures)
-          ∙ ap (λ (names : Names ℕ). with_meaning (bytes_of_name bytes e) e.id names) c.loop-next.invariant.1
-          ∙ sym (next_given bytes ns c.loop-next.next e before inside c.index-name.ensures),
-    )
-
--- after the loop all names have come
-pub returns-clause-moved : goal.returns-clause-moved
-returns-clause-moved c =
+pub returns-then-left-gt0-clause-same : goal.returns-then-left-gt0-clause-same
+returns-then-left-gt0-clause-same c =
     let r = c.args.self.now in
-    let all : c.loop-next.next ≡ length r.names.items = omega (arith, c.loop-next-test.false, c.loop-next.invariant.0)
-    in
-    c.loop-next.invariant.1
+    let n = c.put_into-moved.result in
+    let all : c.len.result ≡ length r.names.items = omega arith in
+    ap (λ (xs : List Name). with_listed (map (with_id r.bytes.items) xs) (ids_of c.put_into-moved.new.ids))
+    (left_behind r.names.items c.rotate_left.new.self.items c.truncate.new.self.items n c.len.result
+    c.rotate_left.ensures.items all c.truncate.ensures.items)
+    ∙ ap (λ (names : Names ℕ). with_listed (map (with_id r.bytes.items) (drop n r.names.items)) names)
+    c.put_into-moved.ensures.put
+    ∙ rest_listed r.bytes.items r.names.items n (ids_of c.args.ids.now)
+
+pub returns-clause-same : goal.returns-clause-same
+returns-clause-same c =
+    let r = c.args.self.now in
+    let all : c.put_into-moved.result ≡ length r.names.items =
+    omega (arith, c.if-left-gt0.false, c.put_into-moved.ensures.bound, c.len.ensures) in
+    ap (λ (es : List (List ℕ × ℕ)). with_listed es (ids_of c.put_into-moved.new.ids)) c.clear.ensures
+    ∙ c.put_into-moved.ensures.put
     ∙ ap (λ (k : ℕ). with_listed (map (with_id r.bytes.items) (take k r.names.items)) (ids_of c.args.ids.now)) all
     ∙ ap (λ (ns : List Name). with_listed (map (with_id r.bytes.items) ns) (ids_of c.args.ids.now))
     (take-length r.names.items)

@@ -2,7 +2,7 @@ use Rattle.std.proofs.Common.{◌≡◌, ◌≤◌, ◌-◌, length, take}
 use Rattle.std.specs.Prelude.{map}
 use Rattle.saphyr_machine.specs.ListedNames.{with_id}
 use Rattle.saphyr_machine.specs.Names.{ids_of, with_listed}
-use Rattle.saphyr_machine.proofs.name_list.NameList.move_into.Given as goal
+use Rattle.saphyr_machine.proofs.name_list.NameList.put_into.Given as goal
 
 abbrev pub invariant-loop-next : goal.invariant-loop-next
 invariant-loop-next l =
