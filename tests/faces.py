@@ -19,6 +19,7 @@ import shutil
 import subprocess
 import sys
 import tempfile
+import types
 
 import findings
 import prompt
@@ -173,6 +174,22 @@ def check_table(made):
                 fail(f"the table of FACES.md by {how}: {line!r} brings {brought}")
 
 
+def check_anchors(made):
+    """Line by line each event of a document of many anchors comes in time, and each alias means the latest anchor."""
+    names = [f"a{number % 1500}" for number in range(2000)]
+    latest = {name: number for number, name in enumerate(names, 1)}
+    text = "".join([*(f"- &{name} x\n" for name in names), *(f"- *{name}\n" for name in names)])
+    framed_text = b"0 %d\n" % len(text) + text.encode()
+    said = subprocess.run([made["pieces"], "lines"], input=framed_text, capture_output=True).stdout.decode("latin-1")
+    lines = said.split("\n")
+    case = types.SimpleNamespace(text=text, block=said)
+    if re.findall("^> =ALI (.*) @", said, re.M) != [f"*{latest[name]}" for name in names]:
+        fail("in C line by line an alias means an anchor that is not the latest")
+    found = prompt.late(case, lines)
+    if found:
+        fail(f"in C line by line, of many anchors: event {found[0]} is not there behind {found[1]} bytes")
+
+
 def late_kinds(made, texts):
     """Of each text with its `keep_tags` of which kind its late fault is, or None."""
     frames = b"".join(b"%d %d\n" % (keeps_tags, len(text)) + text for keeps_tags, text in texts)
@@ -302,6 +319,7 @@ def main():
         list(pool.map(lambda count: check_pieces(made, count, cases), PIECES))
         list(pool.map(lambda how: check_prompt(made, how, cases), CUTS))
         check_table(made)
+        check_anchors(made)
         check_faults(made, cases, worked)
         list(pool.map(check_lines, (case for case in cases if not case.name.startswith("cut "))))
         cargo("test")

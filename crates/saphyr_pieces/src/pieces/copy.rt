@@ -186,7 +186,7 @@ impl PieceReader {
         }
     }
 
-    // Makes a copy, whose text has so many bytes. If memory runs out, there is none, or the old one.
+    // Makes a copy, whose text has so many bytes. If memory runs out, there is none.
     #[inline(never)]
     fn make_copy(&mut self, left: usize)
         requires { spec.LeadsCopyTo self.old self.old.reader }
@@ -196,6 +196,9 @@ impl PieceReader {
         ensures source { self.new.source ≡ self.old.source }
         ensures passed { self.new.passed ≡ self.old.passed }
     {
+        // An old copy would share the names that are to be changed.
+        drop(self.copy.take());
+        self.reader.share_names();
         if let Ok(copy) = self.reader.try_clone() {
             drop(self.copy.replace(copy));
             self.events = 0;

@@ -23,10 +23,8 @@ const PART: usize = 64;
 /// where they may decide an event.
 const SHORT: usize = 8;
 
-/// How many bytes of a text take as long to read as an open collection, or an anchor, takes to copy.
+/// How many bytes of a text take as long to read as an open collection takes to copy.
 const OPEN_WEIGHT: usize = 1;
-
-const ANCHOR_WEIGHT: usize = 4;
 
 /// How many bytes of a text take as long to read as a reader takes to copy, at least.
 const COPY_WEIGHT: usize = 512;
@@ -241,12 +239,8 @@ pub(super) fn may_be_idle(text: &str) -> bool {
 /// What there is to copy behind an event.
 pub(super) fn weight_behind(event: &Event<'_>, weight: usize) -> usize {
     match event {
-        Event::SequenceStart(id, _) | Event::MappingStart(id, _) => weight
-            .saturating_add(OPEN_WEIGHT)
-            .saturating_add(if *id > 0 { ANCHOR_WEIGHT } else { 0 }),
-        Event::Scalar(_, _, id, _) if *id > 0 => weight.saturating_add(ANCHOR_WEIGHT),
+        Event::SequenceStart(..) | Event::MappingStart(..) => weight.saturating_add(OPEN_WEIGHT),
         Event::SequenceEnd | Event::MappingEnd => weight.saturating_sub(OPEN_WEIGHT),
-        Event::DocumentEnd => 0,
         _ => weight,
     }
 }

@@ -6,5 +6,5 @@ use Rattle.saphyr_pieces.proofs.pieces.PieceReader.make_copy.Goals as goal
 
 pub returns-in-Ok-clause-copied : goal.returns-in-Ok-clause-copied
 returns-in-Ok-clause-copied c =
-    copied _ _ c.in-Ok.copy c.args.self.now.reader c.replace.ensures.after
+    copied _ _ c.in-Ok.copy c.share_names.new.self c.replace.ensures.after
     (ap chars c.clear.ensures.bytes ∙ chars-nil) c.in-Ok.ensures.cursor
