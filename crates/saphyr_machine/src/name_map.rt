@@ -9,6 +9,9 @@ use std::alloc::{AllocError, Global};
 use std::collections::BTreeMap;
 use std::sync::Arc;
 
+/// Fewer names are copied faster than put into a map. Most documents have no more.
+const FEW: usize = 64;
+
 /// Ids by their names. A copy of it takes the time of the names that were not shared before.
 #[derive(Drop)]
 pub struct NameMap {
@@ -128,13 +131,13 @@ impl NameMap {
         Ok(())
     }
 
-    /// Moves all names, and then those of a list, to where copies share them. If memory runs out, those that did not
-    /// come stay.
+    /// Moves all names, and then those of a list, to where copies share them, unless they are few. If memory runs out,
+    /// those that did not come stay.
     pub fn share(&mut self, names: &mut NameList) -> Result<(), AllocError>
         ensures { with_listed (listed_names names.new) (mapped_ids self.new)
             ≡ with_listed (listed_names names.old) (mapped_ids self.old) }
     {
-        if names.len() == 0 && self.own.is_empty() {
+        if names.len() < FEW && self.own.is_empty() {
             return Ok(());
         }
         self.begin_shared()?;
