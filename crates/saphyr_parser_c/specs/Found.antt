@@ -9,7 +9,7 @@ use Rattle.yaml_check.specs.declared.finding.Notes.{Notes}
 use Rattle.yaml_check.specs.declared.finding.Severity.{Severity}
 use Rattle.yaml_check.specs.declared.finding.Severity.TheVariants as severity
 use Rattle.yaml_check.specs.declared.rules.RuleSet.{RuleSet}
-use Rattle.yaml_check.specs.Found.{IsKnown, message_of, notes_on, rule_of_problem, severity_of, words_of}
+use Rattle.yaml_check.specs.Found.{message_of, notes_on, rule_of_problem, severity_of, words_of}
 use Rattle.saphyr_parser_c.specs.declared.found.CFinding.{CFinding}
 use Rattle.saphyr_parser_c.specs.declared.found.COptions.{COptions}
 use Rattle.saphyr_parser_c.specs.declared.found.CRules.{CRules}
@@ -79,9 +79,9 @@ pub record WritesFinding (found : Found) (f : Finding) (c : CFinding) : Type 0 w
   pub start : IsMarkerOfC f.span.start c.start
   pub end : IsMarkerOfC f.span.end c.end
   pub name : List ℕ
-  pub is_name : IsKnown (rule_of_problem f.problem) name
+  pub is_name : name ≡ rule_of_problem f.problem
   pub rule : HasText (Some name) c.rule
-  pub is_message : IsKnown (message_of (words_of found.findings.fault) f.problem) (string_bytes found.message)
+  pub is_message : string_bytes found.message ≡ message_of (words_of found.findings.fault) f.problem
   pub message : BytesStand (string_vec found.message) c.message
 
 -- it is written, or memory ran out and nothing changes

@@ -206,8 +206,8 @@ right_of : (options : Options) (text : List ℕ) (ws : List PlacedWarning) (o : 
     (found : Findings) → AreFindings options text ws o fault found → found.verdict ≡ verdict.Right
     → (fault ≡ None) × ((ws ≡ []) × (options.standard ≡ true → IsStandard text))
 right_of options text ws o None found are right =
-    let none = found_nothing options text ws are.departed found (sym right ∙ are.verdict) in
-    (refl, (none.0, λ asked. are.departures.standard asked none.1))
+    let none = found_nothing options text ws are.departures found (sym right ∙ are.verdict) in
+    (refl, (none.0, λ asked. are.are.standard asked none.1))
 right_of options text ws o (Some (Refused place message)) found are right =
     let wrong = sym right ∙ are.verdict in absurd (cc)
 right_of options text ws o (Some OutOfMemory) found are right = absurd are

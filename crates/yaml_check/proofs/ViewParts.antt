@@ -5,8 +5,8 @@ use Rattle.std.proofs.lemmas.Bool.{false≢true, ltb-true, not-true}
 use Rattle.std.proofs.lemmas.List.{take-append-drop, length-take-le, length-drop, get_or-take, get_or-drop}
 use Rattle.std.proofs.lemmas.Slice.{between_to_end}
 use Rattle.yaml_check.specs.declared.view.View.{View}
-use Rattle.yaml_check.specs.Shown.{columns_of, shown_columns, cut, is_end_of_line, line_goes_on, IsFull, StaysOnLine}
-use Rattle.yaml_check.specs.Views.{IsView}
+use Rattle.yaml_check.specs.Shown.{columns_of, shown_columns, cut, is_end_of_line, line_goes_on, IsFull}
+use Rattle.yaml_check.specs.Views.{CountFits, FrontFits, IsView}
 
 cut_length : (is_cut : Bool) → length (cut is_cut) ≤ 3
 cut_length true = lit≤ tt
@@ -37,48 +37,45 @@ goes_on_at (suc n) (c ∷ cs) goes = let h = goes_on_at n cs goes in (omega (ari
 first_behind : (n : ℕ) (cs : List ℕ) → slice_index (drop n cs) 0 ≡ slice_index cs n
 first_behind n cs = get_or-drop n cs 0 0 ∙ ap (λ k. slice_index cs k) (omega arith)
 
--- A line before a place is shown from `start` on, and the rest of its text for `count` characters.
-pub is_view : (text : List ℕ) (at a col m start count : ℕ) (line rest : List ℕ) (v : View) → a ≡ at → m ≡ min col at
-    → line ≡ slice_range text (a - m) a → rest ≡ slice_range text a (length text) → start ≤ length line
-    → v.front.now ≡ slice_range line start (length line) → v.back.now ≡ take count rest → StaysOnLine (take count rest)
-    → v.cut_before ≡ nat_lt 0 start → v.cut_behind ≡ line_goes_on (slice_range rest count (length rest))
-    → v.caret ≡ length (cut (nat_lt 0 start)) + shown_columns (drop start line) → v.caret ≤ 120
-    → shown_columns (take count rest) ≤ 200 - 3 - v.caret → length line ≤ 200 + start → count ≤ 200
-    → count ≤ length rest
-    → (0 < start → IsFull 117 (drop start line) (slice_index line (start - 1)))
-    → (count < length rest → is_end_of_line (slice_index rest count) ≡ false
-    → IsFull (200 - 3 - v.caret) (take count rest) (slice_index rest count))
-    → IsView text at col v
-is_view text at a col m start count line rest v a_is m_is line_is rest_is within front back no_break before
-    behind caret narrow fits few_front few_back count_is full_front full_back =
+-- A view has a line before a place from `start` on, and `count` characters of what comes after it.
+pub record HasParts (line rest : List ℕ) (start count : ℕ) (v : View) : Type 0 where
+  pub front : v.front.now ≡ slice_range line start (length line)
+  pub back : v.back.now ≡ take count rest
+  pub cut_before : v.cut_before ≡ nat_lt 0 start
+  pub cut_behind : v.cut_behind ≡ line_goes_on (slice_range rest count (length rest))
+
+pub is_view : {text line rest : List ℕ} {at a col m start count : ℕ} {v : View} → a ≡ at → m ≡ min col at
+    → line ≡ slice_range text (a - m) a → rest ≡ slice_range text a (length text) → FrontFits line start v.caret
+    → CountFits rest (197 - v.caret) count → HasParts line rest start count v → IsView text at col v
+is_view {text} {line} {rest} {at} {a} {col} {m} {start} {count} {v} a_is m_is line_is rest_is before behind parts =
     let rest_drop : rest ≡ drop a text = rest_is ∙ between_to_end text a (length text) (omega arith) in
-    let shown : v.front.now ≡ drop start line = front ∙ between_to_end line start (length line) (omega arith) in
+    let shown : v.front.now ≡ drop start line = parts.front ∙ between_to_end line start (length line) (omega arith) in
     let line_at : line ≡ slice_range text (at - min col at) at = cc in
-    let left_out : length (take start line) ≡ start = length-take-le start line within in
+    let left_out : length (take start line) ≡ start = length-take-le start line before.within in
     let narrow_cut = cut_length v.cut_behind in
-    let cut_at : v.cut_before ≡ true → 0 < start = λ is_cut. ltb-true 0 start (sym before ∙ is_cut) in
+    let cut_at : v.cut_before ≡ true → 0 < start = λ is_cut. ltb-true 0 start (sym parts.cut_before ∙ is_cut) in
     let on : v.cut_behind ≡ line_goes_on (drop count rest) =
-    behind ∙ ap line_goes_on (between_to_end rest count (length rest) (omega arith)) in
+    parts.cut_behind ∙ ap line_goes_on (between_to_end rest count (length rest) (omega arith)) in
     record {
       left = take start line;
       front = sym line_at ∙ sym (take-append-drop start line) ∙ ap (λ l. take start line ++ l) (sym shown);
-      cut_before = before ∙ ap (λ n. nat_lt 0 n) (sym left_out);
+      cut_before = parts.cut_before ∙ ap (λ n. nat_lt 0 n) (sym left_out);
       right = drop count rest;
       back = ap (λ n. drop n text) (sym a_is) ∙ sym rest_drop ∙ sym (take-append-drop count rest)
-          ∙ ap (λ l. l ++ drop count rest) (sym back);
-      line = rw back no_break;
+          ∙ ap (λ l. l ++ drop count rest) (sym parts.back);
+      line = rw parts.back behind.line;
       cut_behind = on;
-      caret = rw (before, shown) caret;
-      before_fits = narrow;
-      fits = rw back (omega arith);
+      caret = rw (parts.cut_before, shown) before.columns;
+      before_fits = before.fits;
+      fits = rw parts.back (omega arith);
       few = (
-        rw shown (omega (arith, length-drop start line, few_front)),
-        rw back (omega (arith, length-take-le count rest count_is, few_back)),
+        rw shown (omega (arith, length-drop start line)),
+        rw parts.back (omega (arith, length-take-le count rest behind.within)),
       );
       full_before = λ is_cut.
           rw (shown, left_out, get_or-take start line (start - 1) 0 (omega (arith, cut_at is_cut)))
-          (full_front (cut_at is_cut));
+          (before.full (cut_at is_cut));
       full_behind = λ is_cut.
           let more = goes_on_at count rest (sym on ∙ is_cut) in
-          rw (back, first_behind count rest) (full_back more.0 more.1);
+          rw (parts.back, first_behind count rest) (behind.full more.0 more.1);
     }

@@ -1,5 +1,5 @@
 -- What is found in bytes that are not UTF-8.
-use Rattle.std.specs.Prelude.{◌≡◌, ℕ, ◌==◌, ◌&&◌, ◌||◌, Bool, false, if◌then◌else◌, List, [], ◌∷◌, length, take, None}
+use Rattle.std.specs.Prelude.{◌≡◌, ℕ, ◌==◌, ◌&&◌, ◌||◌, Bool, false, not, if◌then◌else◌, List, [], ◌∷◌, length, take, None}
 use Rattle.std.specs.Str.{chars}
 use Rattle.std.specs.Str.Lossy.{utf8_valid_len}
 use Rattle.saphyr_parser.specs.Words.Marker.{Marker}
@@ -15,8 +15,14 @@ abbrev pub begins_utf16 : List ℕ → Bool
 begins_utf16 (first ∷ second ∷ rest) = ((first == 0xfe) && (second == 0xff)) || ((first == 0xff) && (second == 0xfe))
 begins_utf16 _ = false
 
+-- one of UTF-32, which begins as that of UTF-16
+abbrev pub begins_utf32 : List ℕ → Bool
+begins_utf32 (first ∷ second ∷ third ∷ fourth ∷ rest) =
+    (first == 0xff) && (second == 0xfe) && (third == 0) && (fourth == 0)
+begins_utf32 _ = false
+
 abbrev pub encoding_problem : List ℕ → Problem
-encoding_problem bytes = if begins_utf16 bytes then problem.Utf16 else problem.NotUtf8
+encoding_problem bytes = if begins_utf16 bytes && not (begins_utf32 bytes) then problem.Utf16 else problem.NotUtf8
 
 -- the place behind all characters of a text
 abbrev pub place_behind : List ℕ → Marker

@@ -1,11 +1,13 @@
 -- What is found in a text: each finding by itself, what is told of a fault, and all of them by their places.
-use Rattle.std.specs.Prelude.{◌≡◌, ℕ, ◌-◌, true, false, if◌then◌else◌, nat_eq, List, [], ◌∷◌, ◌++◌, length, drop, take, map, slice_get, All, Option, None, Some, option_map, codes, string_bytes, IsPermutation}
+use Rattle.std.specs.Prelude.{◌≡◌, ℕ, ◌-◌, ◌≤◌, max, true, false, if◌then◌else◌, nat_eq, List, [], ◌∷◌, ◌++◌, length, drop, take, map, slice_get, All, Option, None, Some, option_map, codes, string_bytes, IsPermutation}
 use Rattle.std.specs.Fmt.{decimal}
 use Rattle.std.specs.List.Sorted.{IsNonDecreasingBy}
 use Rattle.saphyr_parser.specs.Words.Marker.{Marker}
 use Rattle.saphyr_parser.specs.Answer.{Ending, OutOfMemory, Refused}
+use Rattle.saphyr_parser.specs.Words.TokensTaken.{IsPlaceOf}
 use Rattle.saphyr_scalar.specs.declared.scalar.fault.ScanError.{ScanError}
-use Rattle.yaml_standard.specs.declared.rule.Rule.{Rule}
+use Rattle.yaml_standard.specs.declared.verdict.Deviation.{Deviation}
+use Rattle.yaml_standard.specs.Rules.{rule_name, rule_sentence}
 use Rattle.yaml_standard.specs.Verdicts.{IsStandard}
 use Rattle.yaml_check.specs.declared.arguments.Options.{Options}
 use Rattle.yaml_check.specs.declared.finding.Finding.{Finding}
@@ -37,31 +39,26 @@ severity_of (problem.Remark r) = severity.Note
 severity_of (problem.More count) = severity.Note
 severity_of _ = severity.Error
 
--- the name of its rule; that of a rule of the standard is any
-abbrev pub rule_of_problem : Problem → Option (List ℕ)
-rule_of_problem (problem.Warning w) = Some (warning_name (rule_of w))
-rule_of_problem (problem.More count) = Some (codes "max-findings")
-rule_of_problem (problem.Departure r) = None
-rule_of_problem problem.NotUtf8 = Some (codes "encoding")
-rule_of_problem problem.Utf16 = Some (codes "encoding")
-rule_of_problem _ = Some (codes "syntax")
+-- the name of its rule
+abbrev pub rule_of_problem : Problem → List ℕ
+rule_of_problem (problem.Warning w) = warning_name (rule_of w)
+rule_of_problem (problem.More count) = codes "max-findings"
+rule_of_problem (problem.Departure r) = rule_name r
+rule_of_problem problem.NotUtf8 = codes "encoding"
+rule_of_problem problem.Utf16 = codes "encoding"
+rule_of_problem _ = codes "syntax"
 
--- what it says, where the fault of the parser has some words; of a rule of the standard it is any sentence
-abbrev pub message_of : List ℕ → Problem → Option (List ℕ)
-message_of words problem.Fault = Some words
-message_of words (problem.Mistake r) = Some (remark_text r)
-message_of words problem.Stop = Some (codes "the parser stops here: " ++ words)
-message_of words (problem.Remark r) = Some (remark_text r)
-message_of words (problem.Warning w) = Some (warning_text w)
-message_of words (problem.More count) = Some (decimal count ++ codes " more warnings begin here")
-message_of words (problem.Departure r) = None
-message_of words problem.NotUtf8 = Some (codes "the text is not UTF-8 from here on")
-message_of words problem.Utf16 = Some (codes "the text is UTF-16, and not UTF-8")
-
--- a text is this one, if one is known
-abbrev pub IsKnown : Option (List ℕ) → List ℕ → Type 0
-IsKnown None text = Unit {0}
-IsKnown (Some known) text = text ≡ known
+-- what it says, where the fault of the parser has some words
+abbrev pub message_of : List ℕ → Problem → List ℕ
+message_of words problem.Fault = words
+message_of words (problem.Mistake r) = remark_text r
+message_of words problem.Stop = codes "the parser stops here: " ++ words
+message_of words (problem.Remark r) = remark_text r
+message_of words (problem.Warning w) = warning_text w
+message_of words (problem.More count) = decimal count ++ codes " more warnings begin here"
+message_of words (problem.Departure r) = rule_sentence r
+message_of words problem.NotUtf8 = codes "the text is not UTF-8 from here on"
+message_of words problem.Utf16 = codes "the text is UTF-16, and not UTF-8"
 
 abbrev pub words_of : Option ScanError → List ℕ
 words_of None = []
@@ -75,6 +72,9 @@ warned w = record { span = w.span; problem = problem.Warning w.warning }
 
 abbrev pub noted : Note → Finding
 noted n = at_place n.place (problem.Remark n.remark)
+
+abbrev pub departed : Deviation → Finding
+departed d = at_place d.place (problem.Departure d.rule)
 
 -- ## A fault
 
@@ -155,26 +155,29 @@ pub record TellsRefusal (options : Options) (text : List ℕ) (ws : List PlacedW
   pub notes : found.notes ≡ told.notes
   pub verdict : found.verdict ≡ verdict.Wrong
 
-abbrev pub IsDeparture : Finding → Type 0
-IsDeparture f = (rule : Rule) × (f.problem ≡ problem.Departure rule)
+-- at a place of the text some rule of the standard is broken
+abbrev pub IsDeparture : List ℕ → Finding → Type 0
+IsDeparture text f = (d : Deviation) × (f ≡ departed d) × IsPlaceOf text d.place
 
 abbrev pub verdict_of : List PlacedWarning → List Finding → Verdict
 verdict_of [] [] = verdict.Right
 verdict_of (w ∷ ws) [] = verdict.Warned
 verdict_of ws (d ∷ ds) = verdict.Wrong
 
--- where a text is not YAML 1.2.2, if that is asked for: it is where nothing is found
-pub record AreDepartures (options : Options) (text : List ℕ) (departed : List Finding) : Type 0 where
-  pub are : All IsDeparture departed
-  pub asked : options.standard ≡ false → departed ≡ []
-  pub standard : options.standard ≡ true → departed ≡ [] → IsStandard text
+-- where a text is not YAML 1.2.2, if that is asked for: so many places at most, but one. It is where nothing is found.
+pub record AreDepartures (options : Options) (text : List ℕ) (found : List Finding) : Type 0 where
+  pub are : All (IsDeparture text) found
+  pub asked : options.standard ≡ false → found ≡ []
+  pub few : length found ≤ max 1 options.max_findings
+  pub standard : options.standard ≡ true → found ≡ [] → IsStandard text
 
 -- what is found where the parser reads a text: the warnings on its events, and these
 pub record IsAccepted (options : Options) (text : List ℕ) (ws : List PlacedWarning) (found : Findings) : Type 0 where
-  pub departed : List Finding
-  pub departures : AreDepartures options text departed
-  pub list : IsByPlace (most_warned options.max_findings ws ++ departed) found.list.items
-  pub verdict : found.verdict ≡ verdict_of ws departed
+  pub departures : List Finding
+  pub are : AreDepartures options text departures
+  pub list : IsByPlace (most_warned options.max_findings ws ++ departures) found.list.items
+  pub notes : found.notes ≡ no_notes
+  pub verdict : found.verdict ≡ verdict_of ws departures
 
 -- what is found, by the warnings on the events, by what is open behind them, and by the fault that ends them
 abbrev pub AreFindings : Options → List ℕ → List PlacedWarning → OpenStarts → Option Ending → Findings → Type 0

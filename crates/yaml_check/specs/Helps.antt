@@ -1,5 +1,5 @@
 -- Help on faults: what it says, and of which place.
-use Rattle.std.specs.Prelude.{ℕ, ◌+◌, ◌-◌, ◌<◌, ◌≤◌, ◌≡◌, ◌≢◌, ◌⊎◌, ◌==◌, ◌&&◌, ◌||◌, Bool, true, false, nat_le, List, length, drop, slice_get, slice_index, Option, Some, is_some}
+use Rattle.std.specs.Prelude.{ℕ, ◌+◌, ◌-◌, ◌<◌, ◌≤◌, ◌≡◌, ◌≢◌, ◌⊎◌, ◌==◌, ◌&&◌, ◌||◌, Bool, true, false, nat_le, List, length, drop, slice_get, slice_index, Some, is_some}
 use Rattle.saphyr_parser.specs.Words.Marker.{Marker}
 use Rattle.yaml_check.specs.declared.open.Start.{Start}
 use Rattle.yaml_check.specs.declared.note.Note.{Note}
@@ -185,15 +185,15 @@ IsIndexOfHelp remark.NoDash text end at = (at < end) × BeginsSomeLine text at �
 IsIndexOfHelp remark.OtherComment text end at =
     IsOtherComment text at × ((at ≡ end) ⊎ ((at < end) × BeginsSomeLine text at))
 IsIndexOfHelp remark.WideColon text end at = (at < end) × IsWideColon text at
-IsIndexOfHelp remark.Template text end at = IsTemplate text at
+IsIndexOfHelp remark.Template text end at = (at < end) × IsTemplate text at
 IsIndexOfHelp remark.QuotesEnd text end at = IsQuote text end at
-IsIndexOfHelp remark.Apostrophe text end at = IsCharacter 39 text at
-IsIndexOfHelp remark.JsonText text end at = IsCharacter 34 text at
+IsIndexOfHelp remark.Apostrophe text end at = (at + 1 ≡ end) × IsCharacter 39 text at
+IsIndexOfHelp remark.JsonText text end at = (at < end) × IsCharacter 34 text at
 IsIndexOfHelp remark.Escape text end at = IsBadEscape text end at
-IsIndexOfHelp remark.Tab text end at = IsTab text at
-IsIndexOfHelp remark.AllowedTab text end at = IsTab text at
-IsIndexOfHelp remark.AllowedFirstTab text end at = IsTab text at
-IsIndexOfHelp remark.AllowedColonBehindTag text end at = IsCharacter 58 text at
+IsIndexOfHelp remark.Tab text end at = ((at + 1 ≡ end) ⊎ (end ≤ at)) × IsTab text at
+IsIndexOfHelp remark.AllowedTab text end at = ((at + 1 ≡ end) ⊎ (at ≡ end)) × IsTab text at
+IsIndexOfHelp remark.AllowedFirstTab text end at = ((at + 1 ≡ end) ⊎ (end ≤ at)) × IsTab text at
+IsIndexOfHelp remark.AllowedColonBehindTag text end at = (end < at) × IsCharacter 58 text at
 IsIndexOfHelp r text end at = IsSignAt r text at
 
 -- the innermost collection begins here
@@ -227,7 +227,8 @@ pub record IsPlaceOfHelp (r : Remark) (text : List ℕ) (o : OpenStarts) (fault 
   pub index : is_of_collection r ≡ false → is_at_fault r ≡ false
       → IsAtSome text place (IsIndexOfHelp r text (place_index text fault.index))
 
--- A sentence of help: one of the message, or one on a conflict that is near, and its place.
+-- A sentence of help: one of the message, or one on a conflict that is near, and its place. Which of those that have
+-- a place, no clause says.
 pub record Helps (text : List ℕ) (o : OpenStarts) (fault : Marker) (message : List ℕ) (n : Note) : Type 0 where
   pub says : (n.remark ≡ remark.ConflictMarker)
       ⊎ ((k : ℕ) × (slice_get (remarks_on message) k ≡ Some n.remark))

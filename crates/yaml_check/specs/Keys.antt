@@ -1,6 +1,7 @@
 -- The keys of the mappings that are open, and which of them are twice.
-use Rattle.std.specs.Prelude.{ℕ, List, [], ◌∷◌, ◌++◌, Option, Some, None, option_map}
+use Rattle.std.specs.Prelude.{◌≡◌, ℕ, List, [], ◌∷◌, ◌++◌, Option, Some, None, option_map, Result, IfOk, OnOk}
 use Rattle.std.specs.Ordering.{ordering_then, nat_cmp}
+use Rattle.std.specs.declared.alloc.AllocError.{AllocError}
 use Rattle.std.specs.declared.cmp.Ordering.{Ordering}
 use Rattle.std.specs.Cmp.Lexicographic.{slice_cmp}
 use Rattle.std.specs.Map.{lookup}
@@ -39,6 +40,12 @@ keep_first None key place places = insert_entry key_cmp places key place
 -- a key with its place among others, unless an equal one is there
 abbrev pub with_first_among : Key → Marker → List (Key × Marker) → List (Key × Marker)
 with_first_among key place places = keep_first (first_among key places) key place places
+
+-- A key is added with its place to others, unless memory runs out: what is returned is where an equal one comes first.
+pub record AddsKey (key : Key) (place : Marker) (old : List (Key × Marker))
+    (result : Result (Option Marker) AllocError) (new : List (Key × Marker)) : Type 0 where
+  pub first : IfOk result (λ first. first ≡ first_among key old)
+  pub kept : OnOk result (new ≡ with_first_among key place old)
 
 -- What the next node is in a collection, and where each key comes first that it has so far.
 pub record KeyLevel : Type 0 where

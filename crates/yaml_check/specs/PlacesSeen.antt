@@ -1,13 +1,19 @@
 -- What contracts see of the first place of each key of a mapping.
-use Rattle.std.specs.Prelude.{ℕ, List, [], ◌∷◌, map, min, take, String, string_bytes, Vec}
+use Rattle.std.specs.Prelude.{ℕ, List, [], ◌∷◌, map, min, take, Option, option_map, String, string_bytes, Vec}
 use Rattle.std.specs.BTreeMap.{insert_entry}
+use Rattle.saphyr_parser.specs.Types.Tag.{Tag}
+use Rattle.saphyr_parser.specs.Views.Events.{resolved_tag}
 use Rattle.saphyr_parser.specs.Words.Marker.{Marker}
 use Rattle.yaml_check.specs.declared.first_places.ShortText.{ShortText}
 use Rattle.yaml_check.specs.declared.first_places.FirstPlaces.{FirstPlaces}
-use Rattle.yaml_check.specs.Keys.{Key, key_cmp}
+use Rattle.yaml_check.specs.Keys.{Key, key_cmp, key_of}
 
 abbrev pub short_bytes : ShortText → List ℕ
 short_bytes t = take (min t.len 40) t.bytes
+
+-- the key that is a scalar
+abbrev pub scalar_key : List ℕ → Option Tag → Key
+scalar_key text tag = key_of text (option_map resolved_tag tag)
 
 -- the key that is a short text without a tag
 abbrev pub short_key : ShortText → Key

@@ -1,4 +1,4 @@
--- Which remarks may help with a fault, by its words. They are tried in this order.
+-- Which remarks may help with a fault, by its words. The first that has a place is told: no clause says that.
 use Rattle.std.specs.Prelude.{ℕ, Bool, ◌||◌, if◌then◌else◌, List, [], ◌∷◌, codes}
 use Rattle.std.specs.Str.{bytes_eq}
 use Rattle.saphyr_scalar.specs.Texts.{words}

@@ -9,7 +9,7 @@ use Rattle.yaml_check.specs.declared.finding.Severity.TheVariants as severity
 use Rattle.yaml_check.specs.declared.told.Format.{Format}
 use Rattle.yaml_check.specs.declared.told.Format.TheVariants as format
 use Rattle.yaml_check.specs.declared.view.View.{View}
-use Rattle.yaml_check.specs.Found.{IsKnown, message_of, notes_on, rule_of_problem, severity_of, words_of}
+use Rattle.yaml_check.specs.Found.{message_of, notes_on, rule_of_problem, severity_of, words_of}
 use Rattle.yaml_check.specs.Json as json
 use Rattle.yaml_check.specs.Shown.{place_index, shown_text}
 use Rattle.yaml_check.specs.Texts.{name_and_place}
@@ -44,8 +44,8 @@ pub record AddsFinding (form : Format) (shows : Bool) (name text : List ℕ) (fo
   pub t : ToldSeen
   pub span : t.span ≡ f.span
   pub severity : t.severity ≡ severity_of f.problem
-  pub rule : IsKnown (rule_of_problem f.problem) t.rule
-  pub message : IsKnown (message_of (words_of found.fault) f.problem) t.message
+  pub rule : t.rule ≡ rule_of_problem f.problem
+  pub message : t.message ≡ message_of (words_of found.fault) f.problem
   pub told : AddsTold form shows name text t old new
 
 -- a note is told behind something else; the line of its place isn't shown again

@@ -1,7 +1,7 @@
 -- What is shown of a line round a place.
-use Rattle.std.specs.Prelude.{◌≡◌, ℕ, ◌+◌, ◌-◌, ◌≤◌, min, true, nat_lt, List, ◌++◌, length, drop, slice_index, slice_range, replicate, codes}
+use Rattle.std.specs.Prelude.{◌≡◌, ℕ, ◌+◌, ◌-◌, ◌<◌, ◌≤◌, min, true, false, nat_lt, List, ◌++◌, length, drop, take, slice_index, slice_range, replicate, codes}
 use Rattle.yaml_check.specs.declared.view.View.{View}
-use Rattle.yaml_check.specs.Shown.{shown_columns, cut, line_goes_on, visible, IsFull, StaysOnLine}
+use Rattle.yaml_check.specs.Shown.{shown_columns, cut, is_end_of_line, line_goes_on, visible, IsFull, StaysOnLine}
 
 -- the characters of a line that come before a place in this column
 abbrev pub front_of : List ℕ → ℕ → ℕ → List ℕ
@@ -25,6 +25,23 @@ pub record IsView (text : List ℕ) (at col : ℕ) (v : View) : Type 0 where
   pub few : (length v.front.now ≤ 200) × (length v.back.now ≤ 200)
   pub full_before : v.cut_before ≡ true → IsFull 117 v.front.now (slice_index left (length left - 1))
   pub full_behind : v.cut_behind ≡ true → IsFull (197 - v.caret) v.back.now (slice_index right 0)
+
+-- Of a line before a place the characters from `start` on are shown, and the caret is under so many columns.
+pub record FrontFits (line : List ℕ) (start caret : ℕ) : Type 0 where
+  pub within : start ≤ length line
+  pub columns : caret ≡ length (cut (nat_lt 0 start)) + shown_columns (drop start line)
+  pub fits : caret ≤ 120
+  pub few : length line ≤ 200 + start
+  pub full : 0 < start → IsFull 117 (drop start line) (slice_index line (start - 1))
+
+-- So many characters are shown of what comes after it, in this many columns at most.
+pub record CountFits (rest : List ℕ) (most count : ℕ) : Type 0 where
+  pub within : count ≤ length rest
+  pub fits : shown_columns (take count rest) ≤ most
+  pub line : StaysOnLine (take count rest)
+  pub few : count ≤ 200
+  pub full : count < length rest → is_end_of_line (slice_index rest count) ≡ false
+      → IsFull most (take count rest) (slice_index rest count)
 
 -- how it is shown, in UTF-8
 abbrev pub excerpt : View → List ℕ

@@ -1,5 +1,5 @@
 //! What YAML allows, and the parser does not.
-ghost use Rattle.std.specs.Prelude.{◌≡◌, ◌≤◌, ◌<◌, length, slice_index, IfSome, IsTrue};
+ghost use Rattle.std.specs.Prelude.{◌⊎◌, ◌+◌, ◌≡◌, ◌≤◌, ◌<◌, length, IfSome, IsTrue};
 ghost use Rattle.yaml_check.specs.Helps as spec;
 
 use crate::brackets::{is_left_bracket, is_right_bracket};
@@ -12,7 +12,8 @@ use crate::view::is_end_of_line;
 /// key, and no collection begins behind it.
 pub(crate) fn allowed_tab(text: &[char], end: usize) -> Option<usize>
     requires { end ≤ length text.now }
-    ensures { IfSome result (spec.IsTab text.now) }
+    ensures near { IfSome result (λ at. (at + 1 ≡ end) ⊎ (at ≡ end)) }
+    ensures is { IfSome result (spec.IsTab text.now) }
 {
     let at = if end > 0 && text[end - 1] == '\t' {
         end - 1
@@ -105,7 +106,8 @@ fn ends_word(c: char) -> bool {
 /// The colon right behind a verbatim tag that begins at a place.
 pub(crate) fn colon_behind_tag(text: &[char], start: usize) -> Option<usize>
     requires { start ≤ length text.now }
-    ensures { IfSome result (spec.IsCharacter 58 text.now) }
+    ensures behind { IfSome result (λ at. start < at) }
+    ensures is { IfSome result (spec.IsCharacter 58 text.now) }
 {
     let end = line_end(text, start);
     if end - start < 2 || text[start + 1] != '<' {

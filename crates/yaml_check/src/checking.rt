@@ -1,5 +1,5 @@
 //! A linter on the events of a text. Each rule takes all events in turn, with their places.
-ghost use Rattle.std.specs.Prelude.{◌≡◌, [], ◌∷◌, ◌++◌, Some, None, map, IfOk, OnOk, string_bytes};
+ghost use Rattle.std.specs.Prelude.{◌≡◌, [], ◌++◌, Some, None, map, IfOk, OnOk, string_bytes};
 ghost use Rattle.std.specs.Str.{chars};
 ghost use Rattle.saphyr_parser.specs.Cursor.{to_come};
 ghost use Rattle.saphyr_parser.specs.Runs.{answer_of_text};
@@ -46,7 +46,7 @@ struct Checker {
     count: Count,
     keys: Keys,
     sizes: Sizes,
-    open: Open,
+    collections: Open,
     warnings: Warnings,
 }
 
@@ -58,11 +58,11 @@ pub fn check_text(alloc: Global, text: &str, options: Options) -> Result<Finding
 {
     let Checked {
         warnings,
-        open,
+        collections,
         fault,
     } = check_events(alloc, Parser::new_from_str(alloc, text), options)?;
-    let found = findings(alloc, text, &warnings, &open, fault, options);
-    drop((warnings, open));
+    let found = findings(alloc, text, &warnings, &collections, fault, options);
+    drop((warnings, collections));
     found
 }
 
@@ -75,6 +75,7 @@ fn findings(
     fault: Option<ScanError>,
     options: Options,
 ) -> Result<Findings, AllocError>
+    requires { fault_found fault ≡ (answer_of_text text.now).fault }
     ensures fault { IfOk result (λ found. found.fault ≡ fault) }
     ensures told { IfOk result (AreFindings options (chars text.now) warnings.now
         (open_of collections.now) (fault_found fault)) }
@@ -154,6 +155,7 @@ fn accepted(
     warnings: &[PlacedWarning],
     options: Options,
 ) -> Result<Findings, AllocError>
+    requires { (answer_of_text text.now).fault ≡ None }
     ensures fault { IfOk result (λ found. found.fault ≡ None) }
     ensures told { IfOk result (IsAccepted options (chars text.now) warnings.now) }
 {
@@ -171,6 +173,7 @@ fn accepted(
 
 /// Where a text is not YAML 1.2.2, if that is asked for.
 fn asked_departures(alloc: Global, text: &str, options: Options) -> Result<Vec<Finding>, AllocError>
+    requires { (answer_of_text text.now).fault ≡ None }
     ensures { IfOk result (λ departed.
         AreDepartures options (chars text.now) departed.items) }
 {
@@ -242,7 +245,7 @@ fn all_warnings(alloc: Global, warnings: &[PlacedWarning]) -> Result<Vec<Finding
 #[derive(Drop)]
 struct Checked {
     warnings: Vec<PlacedWarning>,
-    open: Open,
+    collections: Open,
     fault: Option<ScanError>,
 }
 
@@ -255,28 +258,29 @@ fn check_events<T: Input + Drop>(
     ensures fault { IfOk result (λ checked.
         fault_found checked.fault ≡ (to_come parser.entry).fault) }
     ensures warnings { IfOk result (λ checked. checked.warnings.items
-        ≡ warned.warnings_on (to_come parser.entry).events (warned.nothing_seen options.rules options.limits)) }
-    ensures open { IfOk result (λ checked. open_of checked.open
+        ≡ warned.warnings_on (to_come parser.entry).events
+        (warned.nothing_seen options.rules options.limits)) }
+    ensures collections { IfOk result (λ checked. open_of checked.collections
         ≡ opened.open_on (to_come parser.entry).events opened.nothing_open) }
 {
     let mut checker = Checker::new(alloc, options.rules, options.limits);
     let ended = checker.take_all(parser);
     let warnings = replace(&mut checker.warnings.list, Vec::new(alloc));
-    let open = replace(&mut checker.open, Open::new(alloc));
+    let collections = replace(&mut checker.collections, Open::new(alloc));
     drop(checker);
     match ended {
         Ok(()) => Ok(Checked {
             warnings,
-            open,
+            collections,
             fault: None,
         }),
         Err(Fault::Scan(refusal)) => Ok(Checked {
             warnings,
-            open,
+            collections,
             fault: Some(refusal),
         }),
         Err(other) => {
-            drop((other, warnings, open));
+            drop((other, warnings, collections));
             Err(AllocError)
         }
     }
@@ -289,7 +293,7 @@ impl Checker {
     fn new(alloc: Global, rules: RuleSet, limits: Limits) -> Checker
         ensures seen { seen_of result ≡ warned.nothing_seen rules limits }
         ensures warnings { result.warnings.list.items ≡ [] }
-        ensures open { open_of result.open ≡ opened.nothing_open }
+        ensures collections { open_of result.collections ≡ opened.nothing_open }
     {
         Checker {
             depth: limits.depth,
@@ -297,7 +301,7 @@ impl Checker {
             count: Count::new(limits.nodes),
             keys: Keys::new(alloc),
             sizes: Sizes::new(alloc),
-            open: Open::new(alloc),
+            collections: Open::new(alloc),
             warnings: Warnings::new(alloc, rules),
         }
     }
@@ -308,8 +312,8 @@ impl Checker {
         ensures warned { OnceEnded result (self.new.warnings.list.items
             ≡ self.old.warnings.list.items
             ++ warned.warnings_on (to_come parser.entry).events (seen_of self.old)) }
-        ensures open { OnceEnded result (open_of self.new.open
-            ≡ opened.open_on (to_come parser.entry).events (open_of self.old.open)) }
+        ensures collections { OnceEnded result (open_of self.new.collections
+            ≡ opened.open_on (to_come parser.entry).events (open_of self.old.collections)) }
     {
         let mut parser = parser;
         let mut next = no_event();
@@ -328,8 +332,8 @@ impl Checker {
         ensures warned { OnceEnded result (self.new.warnings.list.items
             ≡ self.old.warnings.list.items
             ++ warned.warnings_on (to_come parser.old).events (seen_of self.old)) }
-        ensures open { OnceEnded result (open_of self.new.open
-            ≡ opened.open_on (to_come parser.old).events (open_of self.old.open)) }
+        ensures collections { OnceEnded result (open_of self.new.collections
+            ≡ opened.open_on (to_come parser.old).events (open_of self.old.collections)) }
     {
         let mut fault = Fault::OutOfMemory;
         loop {
@@ -347,18 +351,18 @@ impl Checker {
             ≡ warned.seen_behind (happening event.now) span.now (seen_of self.old)) }
         ensures told { OnOk result (self.new.warnings.list.items ≡ self.old.warnings.list.items
             ++ warned.warnings_at (happening event.now) span.now (seen_of self.old)) }
-        ensures open { OnOk result (open_of self.new.open
-            ≡ opened.opened_behind (happening event.now) span.now (open_of self.old.open)) }
+        ensures collections { OnOk result (open_of self.new.collections
+            ≡ opened.opened_behind (happening event.now) span.now (open_of self.old.collections)) }
     {
         let is_deep = self.is_too_deep(event);
-        self.content.take(event, span, &mut self.warnings)?;
+        self.warnings.warn_if(self.content.take(event, span))?;
         self.keys.take(event, span, &mut self.warnings)?;
         self.sizes.take(event, span, &mut self.warnings)?;
         if is_deep {
             self.warnings.warn(*span, Warning::TooDeep(self.depth))?;
         }
-        self.count.take(event, span, &mut self.warnings)?;
-        self.open.take(event, span)
+        self.warnings.warn_if(self.count.take(event, span))?;
+        self.collections.take(event, span)
     }
 
     /// Whether a collection begins where as many as allowed are already open around it.

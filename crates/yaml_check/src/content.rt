@@ -1,12 +1,10 @@
 //! Documents without content.
-ghost use Rattle.std.specs.Prelude.{◌≡◌, OnOk};
+ghost use Rattle.std.specs.Prelude.{◌≡◌};
 ghost use Rattle.saphyr_parser.specs.Views.Events.{happening};
 ghost use Rattle.yaml_check.specs.Contents as spec;
-ghost use Rattle.yaml_check.specs.Warned.{AreTold};
 
-use crate::warning::{Warning, Warnings};
+use crate::warning::{PlacedWarning, Warning};
 use saphyr_parser::{Event, ScalarStyle, Span};
-use std::alloc::AllocError;
 
 /// Looks for documents without content.
 #[derive(Clone, Copy)]
@@ -23,29 +21,22 @@ impl Content {
     }
 
     /// Takes an event with its span, and warns of a root that is left out.
-    pub(crate) fn take(
-        &mut self,
-        event: &Event,
-        span: &Span,
-        warnings: &mut Warnings,
-    ) -> Result<(), AllocError>
-        ensures told { OnOk result (AreTold
-            (spec.content_warning self.old.begun (happening event.now)) warnings.old warnings.new) }
-        ensures behind { OnOk result
-            (self.new.begun ≡ spec.begun_behind (happening event.now) span.now) }
+    pub(crate) fn take(&mut self, event: &Event, span: &Span) -> Option<PlacedWarning>
+        ensures told { result ≡ spec.content_warning self.old.begun (happening event.now) }
+        ensures behind { self.new.begun ≡ spec.begun_behind (happening event.now) span.now }
     {
         if let Event::DocumentStart(_) = event {
             self.begun = Some(*span);
-            return Ok(());
+            return None;
         }
-        let Some(begun) = self.begun else {
-            return Ok(());
-        };
+        let span = self.begun?;
         self.begun = None;
+        let warning = Warning::EmptyDocument;
         if is_empty_node(event) {
-            warnings.warn(begun, Warning::EmptyDocument)?;
+            Some(PlacedWarning { span, warning })
+        } else {
+            None
         }
-        Ok(())
     }
 }
 

@@ -1,12 +1,10 @@
 //! How many nodes a text has.
-ghost use Rattle.std.specs.Prelude.{◌≡◌, OnOk};
+ghost use Rattle.std.specs.Prelude.{◌≡◌};
 ghost use Rattle.saphyr_parser.specs.Views.Events.{happening};
 ghost use Rattle.yaml_check.specs.Counting as spec;
-ghost use Rattle.yaml_check.specs.Warned.{AreTold};
 
-use crate::warning::{Warning, Warnings};
+use crate::warning::{PlacedWarning, Warning};
 use saphyr_parser::{Event, Span};
-use std::alloc::AllocError;
 
 /// Looks for the first node over the limit.
 #[derive(Clone, Copy)]
@@ -29,30 +27,24 @@ impl Count {
     }
 
     /// Takes an event with its span, and warns of the first node over the limit.
-    pub(crate) fn take(
-        &mut self,
-        event: &Event,
-        span: &Span,
-        warnings: &mut Warnings,
-    ) -> Result<(), AllocError>
-        ensures told { OnOk result (AreTold
-            (spec.node_warning self.old.most self.old.left (happening event.now) span.now)
-            warnings.old warnings.new) }
-        ensures behind { OnOk result
-            (self.new.left ≡ spec.left_behind (happening event.now) self.old.left) }
+    pub(crate) fn take(&mut self, event: &Event, span: &Span) -> Option<PlacedWarning>
+        ensures told { result ≡ spec.node_warning
+            self.old.most self.old.left (happening event.now) span.now }
+        ensures behind { self.new.left ≡ spec.left_behind (happening event.now) self.old.left }
         ensures most { self.new.most ≡ self.old.most }
     {
         if !is_node(event) {
-            return Ok(());
+            return None;
         }
-        let Some(left) = self.left else {
-            return Ok(());
-        };
+        let left = self.left?;
         self.left = left.checked_sub(1);
         if left > 0 {
-            return Ok(());
+            return None;
         }
-        warnings.warn(*span, Warning::TooManyNodes(self.most))
+        Some(PlacedWarning {
+            span: *span,
+            warning: Warning::TooManyNodes(self.most),
+        })
     }
 }
 

@@ -39,6 +39,8 @@ fn problem_of(bytes: &[u8]) -> Problem
     ensures { result ≡ spec.encoding_problem bytes.now }
 {
     match bytes {
+        // The mark of UTF-32 begins as that of UTF-16.
+        [0xff, 0xfe, 0, 0, ..] => Problem::NotUtf8,
         [0xfe, 0xff, ..] | [0xff, 0xfe, ..] => Problem::Utf16,
         _ => Problem::NotUtf8,
     }

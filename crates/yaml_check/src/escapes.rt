@@ -1,5 +1,5 @@
 //! Escapes in double quotes.
-ghost use Rattle.std.specs.Prelude.{◌≡◌, ◌<◌, ◌≤◌, length, slice_index, IfSome};
+ghost use Rattle.std.specs.Prelude.{◌<◌, ◌≤◌, length, IfSome};
 ghost use Rattle.yaml_check.specs.Helps.{IsBadEscape};
 
 /// The first escape behind an opening quote that is none.

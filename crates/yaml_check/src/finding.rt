@@ -90,7 +90,7 @@ impl Problem {
     /// The name of its rule: of the parser's faults, and of what is said of them, it is `syntax`.
     #[must_use]
     pub fn rule(self) -> &'static str
-        ensures { spec.IsKnown (spec.rule_of_problem self) result.now }
+        ensures { result.now ≡ spec.rule_of_problem self }
     {
         match self {
             Problem::Fault | Problem::Mistake(_) | Problem::Stop | Problem::Remark(_) => "syntax",
@@ -103,8 +103,7 @@ impl Problem {
 
     /// What it says, where the parser's fault has these words.
     fn message(self, alloc: Global, words: &str) -> Result<String, AllocError>
-        ensures { IfOk result (λ text.
-            spec.IsKnown (spec.message_of words.now self) (string_bytes text)) }
+        ensures { IfOk result (λ text. string_bytes text ≡ spec.message_of words.now self) }
     {
         match self {
             Problem::Fault => String::from_str(alloc, words),
@@ -184,8 +183,8 @@ pub struct Findings {
 impl Findings {
     /// The message of a finding or a note.
     pub fn message(&self, alloc: Global, finding: Finding) -> Result<String, AllocError>
-        ensures { IfOk result (λ text. spec.IsKnown
-            (spec.message_of (spec.words_of self.now.fault) finding.problem) (string_bytes text)) }
+        ensures { IfOk result (λ text. string_bytes text
+            ≡ spec.message_of (spec.words_of self.now.fault) finding.problem) }
     {
         let words = match &self.fault {
             Some(error) => error.info.as_str(),

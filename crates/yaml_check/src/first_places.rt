@@ -1,6 +1,5 @@
 //! The first place of each key of a mapping. Most mappings have few keys, and short ones, so these lie in a list.
-ghost use Rattle.std.specs.Prelude.{◌≡◌, [], IfOk, IfSome, OnOk, option_map};
-ghost use Rattle.saphyr_parser.specs.Views.Events.{resolved_tag};
+ghost use Rattle.std.specs.Prelude.{◌≡◌, [], IfOk, IfSome, OnOk};
 ghost use Rattle.yaml_check.specs.Keys as spec;
 ghost use Rattle.yaml_check.specs.PlacesSeen as seen;
 
@@ -80,11 +79,8 @@ impl FirstPlaces {
         tag: &Option<Tag>,
         place: Marker,
     ) -> Result<Option<Marker>, AllocError>
-        ensures first { IfOk result (λ first. first ≡ spec.first_among
-            (spec.key_of text.now (option_map resolved_tag tag.now)) (seen.places_of self.old)) }
-        ensures kept { OnOk result (seen.places_of self.new ≡ spec.with_first_among
-            (spec.key_of text.now (option_map resolved_tag tag.now)) place
-            (seen.places_of self.old)) }
+        ensures { spec.AddsKey (seen.scalar_key text.now tag.now) place
+            (seen.places_of self.old) result (seen.places_of self.new) }
     {
         if tag.is_none() && self.many.is_empty() && self.few.len() < FEW {
             if let Some(short) = ShortText::new(text) {
@@ -97,10 +93,8 @@ impl FirstPlaces {
     /// The same of a short text without a tag, where all are few.
     fn add_short(&mut self, text: ShortText, place: Marker) -> Result<Option<Marker>, AllocError>
         requires { self.old.many.entries ≡ [] }
-        ensures first { IfOk result (λ first. first ≡ spec.first_among
-            (seen.short_key text) (seen.places_of self.old)) }
-        ensures kept { OnOk result (seen.places_of self.new ≡ spec.with_first_among
-            (seen.short_key text) place (seen.places_of self.old)) }
+        ensures { spec.AddsKey (seen.short_key text) place
+            (seen.places_of self.old) result (seen.places_of self.new) }
     {
         let before = self.place_among_few(&text);
         if before.is_none() {
@@ -135,11 +129,8 @@ impl FirstPlaces {
         tag: &Option<Tag>,
         place: Marker,
     ) -> Result<Option<Marker>, AllocError>
-        ensures first { IfOk result (λ first. first ≡ spec.first_among
-            (spec.key_of text.now (option_map resolved_tag tag.now)) (seen.places_of self.old)) }
-        ensures kept { OnOk result (seen.places_of self.new ≡ spec.with_first_among
-            (spec.key_of text.now (option_map resolved_tag tag.now)) place
-            (seen.places_of self.old)) }
+        ensures { spec.AddsKey (seen.scalar_key text.now tag.now) place
+            (seen.places_of self.old) result (seen.places_of self.new) }
     {
         self.move_few()?;
         let key = key_of(self.alloc, text, tag)?;
@@ -180,10 +171,8 @@ fn add_to(
     key: Key,
     place: Marker,
 ) -> Result<Option<Marker>, AllocError>
-    ensures first { IfOk result (λ first. first ≡ spec.first_among
-        (seen.key_bytes key) (seen.many_of places.old.entries)) }
-    ensures kept { OnOk result (seen.many_of places.new.entries ≡ spec.with_first_among
-        (seen.key_bytes key) place (seen.many_of places.old.entries)) }
+    ensures { spec.AddsKey (seen.key_bytes key) place
+        (seen.many_of places.old.entries) result (seen.many_of places.new.entries) }
 {
     let before = places.get(&key).copied();
     if before.is_none() {
@@ -197,8 +186,7 @@ fn add_to(
 /// What identifies a scalar among the keys of a mapping, whatever its style: its text and the whole name of its
 /// tag.
 fn key_of(alloc: Global, text: &str, tag: &Option<Tag>) -> Result<Key, AllocError>
-    ensures { IfOk result (λ key. seen.key_bytes key
-        ≡ spec.key_of text.now (option_map resolved_tag tag.now)) }
+    ensures { IfOk result (λ key. seen.key_bytes key ≡ seen.scalar_key text.now tag.now) }
 {
     let name = match tag {
         Some(tag) => format!(in alloc; "{}{}", tag.handle, tag.suffix)?,

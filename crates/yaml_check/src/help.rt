@@ -1,5 +1,5 @@
 //! A sentence of help on a fault, at the place where people mend it.
-ghost use Rattle.std.specs.Prelude.{◌≡◌, ◌≤◌, ◌<◌, ℕ, length, string_bytes, IfSome, IsTrue};
+ghost use Rattle.std.specs.Prelude.{◌≤◌, ◌<◌, length, string_bytes, IfSome, IsTrue};
 ghost use Rattle.yaml_check.specs.Helps as spec;
 ghost use Rattle.yaml_check.specs.OpenSeen.{open_of};
 

@@ -1,7 +1,8 @@
 //! Keys that occur twice in a mapping.
-ghost use Rattle.std.specs.Prelude.{◌≡◌, IfOk, OnOk, option_map};
-ghost use Rattle.saphyr_parser.specs.Views.Events.{happening, resolved_tag};
+ghost use Rattle.std.specs.Prelude.{◌≡◌, IfOk, OnOk};
+ghost use Rattle.saphyr_parser.specs.Views.Events.{happening};
 ghost use Rattle.yaml_check.specs.Keys as spec;
+ghost use Rattle.yaml_check.specs.PlacesSeen.{scalar_key};
 ghost use Rattle.yaml_check.specs.Warned.{AreTold};
 
 use crate::first_places::FirstPlaces;
@@ -111,13 +112,11 @@ impl Keys {
         tag: &Option<Tag>,
         place: Marker,
     ) -> Result<Option<Marker>, AllocError>
-        ensures first { IfOk result (λ first. first ≡ spec.equal_key_place
-            (spec.key_of text.now (option_map resolved_tag tag.now))
-            (seen.level_of self.old.here)) }
-        ensures behind { OnOk result (seen.keys_of self.new
-            ≡ spec.with_here (spec.level_behind_scalar (spec.key_of text.now
-            (option_map resolved_tag tag.now)) place (seen.level_of self.old.here))
-            (seen.keys_of self.old)) }
+        ensures first { IfOk result (λ first. first
+            ≡ spec.equal_key_place (scalar_key text.now tag.now) (seen.level_of self.old.here)) }
+        ensures behind { OnOk result (seen.keys_of self.new ≡ spec.with_here
+            (spec.level_behind_scalar (scalar_key text.now tag.now) place
+            (seen.level_of self.old.here)) (seen.keys_of self.old)) }
     {
         let first = match self.here.next {
             Next::Key => self.here.places.add(text, tag, place)?,

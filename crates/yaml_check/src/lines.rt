@@ -1,5 +1,5 @@
 //! What is on the line of a fault, and on the lines before.
-ghost use Rattle.std.specs.Prelude.{◌≡◌, ◌<◌, ◌≤◌, length, slice_index, IfSome, IsTrue};
+ghost use Rattle.std.specs.Prelude.{◌≡◌, ◌<◌, ◌≤◌, length, IfSome, IsTrue};
 ghost use Rattle.yaml_check.specs.Helps as spec;
 
 use crate::places::{begins_line, is_space_or_tab, line_start};

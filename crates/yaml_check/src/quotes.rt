@@ -1,5 +1,5 @@
 //! The quotes near a fault, by which help knows what was meant.
-ghost use Rattle.std.specs.Prelude.{◌≡◌, ◌≤◌, length, IfSome};
+ghost use Rattle.std.specs.Prelude.{◌<◌, ◌+◌, ◌≡◌, ◌≤◌, length, IfSome};
 ghost use Rattle.yaml_check.specs.Helps as spec;
 
 use crate::brackets::is_left_bracket;
@@ -31,7 +31,8 @@ pub(crate) fn typographers_quote(text: &[char], end: usize) -> Option<usize>
 /// The single quote right before a place that is a letter's apostrophe.
 pub(crate) fn apostrophe(text: &[char], end: usize) -> Option<usize>
     requires { end ≤ length text.now }
-    ensures { IfSome result (spec.IsCharacter 39 text.now) }
+    ensures before { IfSome result (λ at. at + 1 ≡ end) }
+    ensures is { IfSome result (spec.IsCharacter 39 text.now) }
 {
     if end < 2 || text[end - 1] != '\'' {
         return None;
@@ -47,7 +48,8 @@ pub(crate) fn apostrophe(text: &[char], end: usize) -> Option<usize>
 /// The opening double quote of the quoted text that ends before a place, if that text begins as JSON does.
 pub(crate) fn json_quote(text: &[char], end: usize) -> Option<usize>
     requires { end ≤ length text.now }
-    ensures { IfSome result (spec.IsCharacter 34 text.now) }
+    ensures before { IfSome result (λ at. at < end) }
+    ensures is { IfSome result (spec.IsCharacter 34 text.now) }
 {
     let quote = quote_before(text, end)?;
     if is_space_or_tab(text[end - 1]) {

@@ -5,7 +5,7 @@ ghost use Rattle.yaml_check.specs.Remarks as spec;
 use crate::note::Remark;
 use saphyr_scalar::FaultText;
 
-/// The remarks on a fault with this message. The first that has a place is told.
+/// The remarks that may help with a fault of this message.
 pub(crate) fn remarks_on(message: &str) -> &'static [Remark]
     ensures { result.now ≡ spec.remarks_on message.now }
 {

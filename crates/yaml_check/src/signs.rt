@@ -1,5 +1,5 @@
 //! Signs of a text, such as tabs, dashes and brackets, by which help knows what was meant.
-ghost use Rattle.std.specs.Prelude.{◌≡◌, ◌⊎◌, ◌<◌, ◌≤◌, length, slice_index, IfSome, IsTrue, true};
+ghost use Rattle.std.specs.Prelude.{◌+◌, ◌≡◌, ◌⊎◌, ◌<◌, ◌≤◌, length, IfSome, IsTrue, true};
 ghost use Rattle.yaml_check.specs.Helps as spec;
 
 use crate::brackets::{closer, is_left_bracket, is_right_bracket};
@@ -102,7 +102,8 @@ pub(crate) fn is_sign(remark: Remark, c: char) -> bool
 /// The tab at a place or right before it, or else the first behind it that is a part of a line's indentation.
 pub(crate) fn tab_near(text: &[char], end: usize) -> Option<usize>
     requires { end ≤ length text.now }
-    ensures { IfSome result (spec.IsTab text.now) }
+    ensures near { IfSome result (λ at. (at + 1 ≡ end) ⊎ (end ≤ at)) }
+    ensures is { IfSome result (spec.IsTab text.now) }
 {
     if end > 0 && text[end - 1] == '\t' {
         return Some(end - 1);
@@ -184,7 +185,8 @@ fn is_part_of_path(c: char) -> bool {
 /// The first brackets of a template on the line of a place, before it and not in quotes.
 pub(crate) fn template_before(text: &[char], end: usize) -> Option<usize>
     requires { end ≤ length text.now }
-    ensures { IfSome result (spec.IsTemplate text.now) }
+    ensures before { IfSome result (λ at. at < end) }
+    ensures is { IfSome result (spec.IsTemplate text.now) }
 {
     for at in line_start(text, end)..end {
         let c = text[at];

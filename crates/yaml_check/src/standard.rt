@@ -1,27 +1,26 @@
 //! Where a text that the parser reads is not YAML 1.2.2.
-ghost use Rattle.std.specs.Prelude.{◌≡◌, ◌<◌, [], ◌∷◌, length, All, IfOk};
+ghost use Rattle.std.specs.Prelude.{◌≡◌, ◌≤◌, ◌<◌, [], None, length, map, max, All, IfOk};
 ghost use Rattle.std.specs.Str.{chars};
+ghost use Rattle.saphyr_parser.specs.Runs.{answer_of_text};
+ghost use Rattle.saphyr_parser.specs.Words.TokensTaken.{IsPlaceOf};
 ghost use Rattle.yaml_standard.specs.Verdicts.{IsStandard};
-ghost use Rattle.yaml_check.specs.Found.{IsDeparture};
+ghost use Rattle.yaml_check.specs.Found.{IsDeparture, departed};
 
 use crate::finding::{Finding, Problem};
 use std::alloc::{AllocError, Global};
-use yaml_standard::{Deviation, Rule, Verdict, deviations, validate};
+use yaml_standard::{Deviation, Verdict, deviations, validate};
 
 /// The first places that show that a text is not YAML 1.2.2: one at least, and otherwise so many at most.
 pub(crate) fn departures(alloc: Global, text: &str, most: usize) -> Result<Vec<Finding>, AllocError>
-    ensures all { IfOk result (λ found. All IsDeparture found.items) }
+    requires { (answer_of_text text.now).fault ≡ None }
+    ensures all { IfOk result (λ found. All (IsDeparture (chars text.now)) found.items) }
+    ensures few { IfOk result (λ found. length found.items ≤ max 1 most) }
     ensures standard { IfOk result (λ found. found.items ≡ [] → IsStandard (chars text.now)) }
 {
     match validate(alloc, text)? {
         Verdict::Standard => Ok(Vec::new(alloc)),
         Verdict::Deviates(first) => departures_from(alloc, text, first, most),
-        Verdict::Refused(fault) => {
-            let place = fault.mark;
-            drop(fault);
-            let rule = Rule::Unnamed;
-            one_departure(alloc, departure(Deviation { place, rule }))
-        }
+        Verdict::Refused(_) => unreachable!(),
     }
 }
 
@@ -32,28 +31,34 @@ fn departures_from(
     first: Deviation,
     most: usize,
 ) -> Result<Vec<Finding>, AllocError>
-    ensures all { IfOk result (λ found. All IsDeparture found.items) }
+    requires { IsPlaceOf (chars text.now) first.place }
+    ensures all { IfOk result (λ found. All (IsDeparture (chars text.now)) found.items) }
+    ensures few { IfOk result (λ found. length found.items ≤ max 1 most) }
     ensures some { IfOk result (λ found. 0 < length found.items) }
 {
     let told = deviations(alloc, text, most)?;
-    let mut found = one_departure(alloc, departure(*told.first().unwrap_or(&first)))?;
-    for i in 1..told.len() {
-        found.push(departure(told[i]))?;
-    }
+    let found = each_departure(alloc, &told);
     drop(told);
+    let mut found = found?;
+    if found.is_empty() {
+        found.push(departure(first))?;
+        return Ok(found);
+    }
     Ok(found)
 }
 
-fn one_departure(alloc: Global, finding: Finding) -> Result<Vec<Finding>, AllocError>
-    ensures { IfOk result (λ found. found.items ≡ finding ∷ []) }
+fn each_departure(alloc: Global, told: &[Deviation]) -> Result<Vec<Finding>, AllocError>
+    ensures { IfOk result (λ found. found.items ≡ map departed told.now) }
 {
     let mut found = Vec::new(alloc);
-    found.push(finding)?;
+    for deviation in told {
+        found.push(departure(*deviation))?;
+    }
     Ok(found)
 }
 
 fn departure(deviation: Deviation) -> Finding
-    ensures { IsDeparture result }
+    ensures { result ≡ departed deviation }
 {
     Finding::at(deviation.place, Problem::Departure(deviation.rule))
 }

@@ -1,8 +1,9 @@
 //! The part of a line that is shown around a place: at most 200 columns, in which each character is visible.
-ghost use Rattle.std.specs.Prelude.{◌≡◌, ◌+◌, ◌-◌, ◌<◌, ◌≤◌, ◌++◌, ◌⊎◌, true, false, length, nat_lt, slice_index, take, drop, replicate, IfOk, OnOk, IsTrue, string_bytes};
+ghost use Rattle.std.specs.Prelude.{◌≡◌, ◌+◌, ◌-◌, ◌<◌, ◌≤◌, ◌++◌, ◌⊎◌, false, length, slice_index, drop, replicate, IfOk, OnOk, IsTrue, string_bytes};
 ghost use Rattle.std.specs.Str.{chars};
 ghost use Rattle.std.specs.Char.Escape.{escape_default};
 ghost use Rattle.yaml_check.specs.Shown as shown;
+ghost use Rattle.yaml_check.specs.Views.{CountFits, FrontFits};
 
 use saphyr_parser::Marker;
 use std::alloc::{AllocError, Global};
@@ -105,13 +106,7 @@ fn last_that_fit(characters: &[char], most: usize) -> (usize, usize)
 
 /// Where the shown characters before a place begin, and how many columns they take.
 fn fit_front(line: &[char]) -> (usize, usize)
-    ensures within { result.0 ≤ length line.now }
-    ensures caret { result.1 ≡ length (shown.cut (nat_lt 0 result.0))
-        + shown.shown_columns (drop result.0 line.now) }
-    ensures fits { result.1 ≤ 120 }
-    ensures few { length line.now ≤ 200 + result.0 }
-    ensures full { 0 < result.0 → shown.IsFull 117 (drop result.0 line.now)
-        (slice_index line.now (result.0 - 1)) }
+    ensures { FrontFits line.now result.0 result.1 }
 {
     let most = FRONT - CUT.len();
     let (start, left) = last_that_fit(line, most);
@@ -148,13 +143,7 @@ fn one_more_fits(characters: &[char], count: usize, left: usize) -> bool
 
 /// How many characters of a line, up to its break, fit into this many columns.
 fn count_that_fit(characters: &[char], most: usize) -> usize
-    ensures within { result ≤ length characters.now }
-    ensures fits { shown.shown_columns (take result characters.now) ≤ most }
-    ensures line { shown.StaysOnLine (take result characters.now) }
-    ensures few { result ≤ 200 }
-    ensures full { result < length characters.now
-        → shown.is_end_of_line (slice_index characters.now result) ≡ false
-        → shown.IsFull most (take result characters.now) (slice_index characters.now result) }
+    ensures { CountFits characters.now most result }
 {
     let mut count = 0;
     let mut left = most;

@@ -74,6 +74,16 @@ impl Warnings {
         }
         Ok(())
     }
+
+    /// Keeps a warning, if there is one and its rule is on.
+    pub(crate) fn warn_if(&mut self, told: Option<PlacedWarning>) -> Result<(), AllocError>
+        ensures { OnOk result (AreTold told self.old self.new) }
+    {
+        match told {
+            Some(told) => self.warn(told.span, told.warning),
+            None => Ok(()),
+        }
+    }
 }
 
 impl fmt::Display for Warning {

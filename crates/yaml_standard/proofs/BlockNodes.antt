@@ -1,9 +1,9 @@
 -- Nodes and entries in block style, put together from their parts.
 use Rattle.std.proofs.Common.{◌≡◌, ℕ, true, false, List, [], ◌∷◌, ◌++◌, refl, sym, ap, ◌∙◌, append_assoc, subst, inl, inr}
 use Rattle.scalar_laws.specs.Spelling.Spaces.{IsEol}
-use Rattle.saphyr_scanner.specs.Grammar.Forest.{Node, Alias, Scalar, Seq, Map, Nodes, NoNode, MoreNodes, Pairs, NoPair, MorePairs, left_out}
+use Rattle.saphyr_scanner.specs.Grammar.Forest.{Node, Alias, Scalar, Seq, Map, NoNode, MoreNodes, NoPair, MorePairs, left_out}
 use Rattle.yaml_laws.specs.Grammar.FlowNodes.{IsFlowNode}
-use Rattle.yaml_laws.specs.Grammar.BlockNodes.{Position, BehindDash, indent_at, sequence_indent_at, is_start, AreOtherEntries, AreOtherPairs, IsBlockNode, IsBlockPair, IsEntryIndentation, IsFlowInBlock, IsGapAt}
+use Rattle.yaml_laws.specs.Grammar.BlockNodes.{Position, BehindDash, indent_at, is_start, IsEntryIndentation, IsFlowInBlock, IsGapAt}
 use Rattle.yaml_standard.specs.BlockScalars.{IsSomeScalarInBlock}
 use Rattle.yaml_standard.specs.declared.goal.Kind.{Kind}
 use Rattle.yaml_standard.specs.declared.goal.Kind.TheVariants as kind

@@ -1,18 +1,18 @@
 -- The productions of nodes and collections in flow style, from their parts.
-use Rattle.std.proofs.Common.{◌≡◌, ◌≢◌, ℕ, suc, ◌-◌, ◌≤◌, arith, Bool, true, false, List, [], ◌∷◌, ◌++◌, refl, sym, ap, ◌∙◌, append_assoc, subst, inl, inr}
+use Rattle.std.proofs.Common.{◌≡◌, ℕ, suc, ◌-◌, ◌≤◌, arith, Bool, true, false, List, [], ◌∷◌, ◌++◌, refl, sym, ap, ◌∙◌, append_assoc, subst, inl, inr}
 use Rattle.std.specs.Prelude.{◌⊎◌}
 use Rattle.std.proofs.lemmas.List.{append-nil}
 use Rattle.saphyr_input.specs.Classes.{is_blank}
 use Rattle.saphyr_scalar.specs.Reading.BlockLines.{spaces}
 use Rattle.saphyr_scalar.specs.Spelling.Tag.{AreIn}
 use Rattle.scalar_laws.specs.Spelling.Spaces.{IsCommentBehind, IsSeparation, IsSeparationLine, AreEach, joined_pieces}
-use Rattle.saphyr_scanner.specs.Grammar.Forest.{Node, Seq, Map, Nodes, NoNode, MoreNodes, Pairs, NoPair, MorePairs, no_properties}
+use Rattle.saphyr_scanner.specs.Grammar.Forest.{Node, Seq, Map, NoNode, MoreNodes, NoPair, MorePairs, no_properties}
 use Rattle.yaml_laws.specs.Grammar.FlowNodes.{IsBeforeSeparation, IsLoneMark, IsPair, IsPairItem}
 use Rattle.yaml_standard.specs.declared.goal.Flow.{Flow}
 use Rattle.yaml_standard.specs.declared.goal.Goal.TheVariants as goal
 use Rattle.yaml_standard.specs.declared.goal.Kind.{Kind}
 use Rattle.yaml_standard.specs.declared.goal.Kind.TheVariants as kind
-use Rattle.yaml_standard.specs.Goals.{Closes, Derives, EndsEntry, IsCollection, IsNodeIn, IsPairIn, IsRest, IsSomeCollection, AreFlowEntries, AreOthers, last_bracket, first_bracket}
+use Rattle.yaml_standard.specs.Goals.{Closes, Derives, EndsEntry, IsNodeIn, IsPairIn, IsRest, IsSomeCollection, AreFlowEntries, AreOthers, last_bracket, first_bracket}
 use Rattle.yaml_standard.specs.Leaves.{IsLeaf, IsSomeFront}
 use Rattle.yaml_standard.specs.Takes.{TakesOff}
 use Rattle.yaml_standard.proofs.Pieces.{joined, known_then, taken_so, then_known}

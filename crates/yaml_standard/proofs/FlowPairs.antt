@@ -18,7 +18,7 @@ use Rattle.yaml_standard.specs.Goals.{Closes, Derives, EndsEntry, IsAfterKey, Is
 use Rattle.yaml_standard.specs.Leaves.{IsKeyAndColon, IsLeaf}
 use Rattle.yaml_standard.specs.Takes.{TakesOff}
 use Rattle.yaml_standard.proofs.FlowValues.{all_blank, colon_so}
-use Rattle.yaml_standard.proofs.Pieces.{joined, known_then, taken_so}
+use Rattle.yaml_standard.proofs.Pieces.{joined, taken_so}
 
 -- ## Behind a `?`
 

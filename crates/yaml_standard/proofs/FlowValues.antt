@@ -1,6 +1,6 @@
 -- The productions of what comes after a key in flow style, from their parts.
 use Rattle.std.proofs.Common.{◌≡◌, ◌≢◌, ℕ, Bool, true, false, List, [], ◌∷◌, ◌++◌, refl, inl, inr}
-use Rattle.std.specs.Prelude.{◌⊎◌, IsTrue}
+use Rattle.std.specs.Prelude.{IsTrue}
 use Rattle.std.specs.List.{list_all}
 use Rattle.std.specs.Cmp.Derive.{both_true}
 use Rattle.saphyr_input.specs.Classes.{is_blank}

@@ -6,11 +6,11 @@ use Rattle.saphyr_input.specs.Classes.{is_alpha, tab}
 use Rattle.saphyr_scalar.specs.Reading.BlockLines.{spaces}
 use Rattle.scalar_laws.specs.Spelling.Spaces.{IsFiller, IsGap, IsLineEnd}
 use Rattle.saphyr_scanner.specs.Grammar.Forest.{no_properties}
-use Rattle.yaml_laws.specs.Grammar.BlockNodes.{Position, indent_at, is_start, is_behind_colon, IsCompactLead, IsEntryIndentation, IsGapAt, IsValueMark}
+use Rattle.yaml_laws.specs.Grammar.BlockNodes.{Position, indent_at, is_behind_colon, IsCompactLead, IsEntryIndentation, IsGapAt, IsValueMark}
 use Rattle.yaml_standard.specs.Leads.{IsCompact, IsFlowGap, IsFrontLine, IsPropertiesLine, IsSomeLead, is_word_behind_tabs}
 use Rattle.yaml_standard.specs.NodeProperties.{IsSomeProperties}
 use Rattle.yaml_standard.specs.Takes.{TakesOff}
-use Rattle.yaml_standard.proofs.Pieces.{nothing_taken, taken_so, then, then_known}
+use Rattle.yaml_standard.proofs.Pieces.{taken_so, then, then_known}
 
 -- ## Gaps
 

@@ -15,7 +15,13 @@ loop-left-preserved c =
       few = omega (arith, more.1);
     }
 
-pub returns-clause-full : goal.returns-clause-full
-returns-clause-full c = λ within on. full_back c.args.most c.loop-left.left c.loop-left.count _ c.args.characters.now
-    c.loop-left.invariant.left within c.loop-left.invariant.few
-    (c.one_more_fits.ensures.no c.loop-left-test.false within on)
+pub returns : goal.returns
+returns c = record {
+  within = c.loop-left.invariant.within;
+  fits = omega (arith, c.loop-left.invariant.left);
+  line = c.loop-left.invariant.line;
+  few = c.loop-left.invariant.few;
+  full = λ within on. full_back c.args.most c.loop-left.left c.loop-left.count _ c.args.characters.now
+      c.loop-left.invariant.left within c.loop-left.invariant.few
+      (c.one_more_fits.ensures.no c.loop-left-test.false within on);
+}

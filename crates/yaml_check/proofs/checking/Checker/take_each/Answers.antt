@@ -1,10 +1,9 @@
 -- What was told of the events so far and is told of those to come stays the same.
-use Rattle.std.proofs.Common.{◌≡◌, ◌∙◌, ℕ, ◌+◌, List, ◌++◌, Result, Ok, Some, sym, ap, subst, append_assoc, arith}
+use Rattle.std.proofs.Common.{◌≡◌, ◌∙◌, ◌+◌, List, ◌++◌, sym, ap, append_assoc}
 use Rattle.saphyr_parser.specs.Types.Event.{Event}
-use Rattle.saphyr_parser.specs.Types.Fault.{Fault}
 use Rattle.saphyr_parser.specs.Words.Span.{Span}
 use Rattle.saphyr_parser.specs.Answer.{Answer, with_first_event}
-use Rattle.saphyr_parser.specs.Cursor.{HandsOutNext, event_of}
+use Rattle.saphyr_parser.specs.Cursor.{event_of}
 use Rattle.yaml_check.specs.declared.warning.PlacedWarning.{PlacedWarning}
 use Rattle.yaml_check.specs.Opened.{OpenStarts, opened_behind, open_on}
 use Rattle.yaml_check.specs.Warned.{Seen, seen_behind, warnings_at, warnings_on}
@@ -28,5 +27,5 @@ loop-self-preserved g c =
       fault = ap (λ a. a.fault) (sym first) ∙ c.loop-self.invariant.fault;
       warned = keeps_told _ _ _ _ _ _ _ _ first c.loop-self.invariant.warned c.in_ok-take-in-Event.ensures.behind
           c.in_ok-take-in-Event.ensures.told;
-      opened = keeps_open _ _ _ _ _ _ first c.loop-self.invariant.opened c.in_ok-take-in-Event.ensures.open;
+      opened = keeps_open _ _ _ _ _ _ first c.loop-self.invariant.opened c.in_ok-take-in-Event.ensures.collections;
     }

@@ -11,8 +11,8 @@ invariant-loop-self g l = record {
   fault : (to_come l.parser).fault ≡ (to_come l.fn.parser).fault;
   warned : l.self.warnings.list.items ++ warnings_on (to_come l.parser).events (seen_of l.self)
       ≡ l.fn.self.warnings.list.items ++ warnings_on (to_come l.fn.parser).events (seen_of l.fn.self);
-  opened : open_on (to_come l.parser).events (open_of l.self.open)
-      ≡ open_on (to_come l.fn.parser).events (open_of l.fn.self.open);
+  opened : open_on (to_come l.parser).events (open_of l.self.collections)
+      ≡ open_on (to_come l.fn.parser).events (open_of l.fn.self.collections);
 }
 
 abbrev pub decreases-loop-self : goal.decreases-loop-self
