@@ -63,20 +63,36 @@ fn first_column(lines: &str) -> Option<usize> {
     None
 }
 
+// How many spaces a line has that has so many already, but no more than a column. `None`: content is left of that.
+fn spaces_of(line: &str, before: usize, column: usize) -> Option<usize> {
+    let mut spaces = before;
+    for b in line.bytes() {
+        if spaces >= column {
+            break;
+        }
+        if b != b' ' {
+            return None;
+        }
+        spaces = spaces.saturating_add(1);
+    }
+    Some(spaces)
+}
+
 // What ends a block scalar whose lines begin at a column, behind more of it.
 fn behind_lines(came: &str, column: usize, before: usize) -> Ending {
-    let mut spaces = before;
-    for b in came.bytes() {
-        if b == b'\n' {
-            spaces = 0;
-        } else if spaces < column {
-            if b != b' ' {
-                return Ending::Any;
-            }
-            spaces = spaces.saturating_add(1);
+    let mut lines = came;
+    let mut from = before;
+    while let Some((line, others)) = lines.split_once('\n') {
+        if spaces_of(line, from, column).is_none() {
+            return Ending::Any;
         }
+        lines = others;
+        from = 0;
     }
-    Ending::Line { column, spaces }
+    match spaces_of(lines, from, column) {
+        Some(spaces) => Ending::Line { column, spaces },
+        None => Ending::Any,
+    }
 }
 
 // What ends the block scalar that a text begins with, if its content may begin at a column.
