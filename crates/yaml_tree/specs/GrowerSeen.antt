@@ -16,7 +16,7 @@ use Rattle.yaml_tree.specs.declared.table.Root.{Root}
 use Rattle.yaml_tree.specs.declared.table.Row.{Row}
 use Rattle.yaml_tree.specs.CounterSeen.{Count, HoldsCount, counted, counted_all, with_nodes}
 use Rattle.yaml_tree.specs.Expanding.{most, no_sizes}
-use Rattle.yaml_tree.specs.Tables.{AreEntriesFrom, AreNodes, AreRootsFrom, Event, IsStart, MaybeTag, Store, StoresProperties, TellsFirst, all_of, nodes_begun, documents_ended, marker_of, numbers, store_of}
+use Rattle.yaml_tree.specs.Tables.{AreEntriesFrom, AreNodes, AreRootsFrom, Event, IsStart, Store, TellsFirst, all_of, nodes_begun, documents_ended, marker_of, numbers, store_of}
 
 -- ## What is stored
 

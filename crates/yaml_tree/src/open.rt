@@ -1,6 +1,6 @@
 //! A stream, a document or a collection that has begun and not ended. Where one is dropped, the code says so by a call:
 //! a drop at the end of a scope takes several times as long to prove.
-ghost use Rattle.std.specs.Prelude.{◌≡◌, [], ◌∷◌};
+ghost use Rattle.std.specs.Prelude.{[], ◌∷◌};
 ghost use Rattle.saphyr_parser.specs.Events.{StreamStart, StreamEnd, DocumentEnd, SequenceEnd, MappingEnd};
 ghost use Rattle.yaml_tree.specs.Unloading.{node_events, document_events};
 ghost use Rattle.saphyr_parser.specs.Nesting as nesting;
