@@ -1,7 +1,7 @@
 -- Nodes as they begin and end, event after event.
 use Rattle.std.proofs.Common.{arith, ◌≡◌, ◌∙◌, refl, sym, ap, subst, inl, inr, ℕ, suc, ◌+◌, List, [], ◌∷◌, ◌++◌, length, append_assoc, append-nil}
 use Rattle.std.proofs.lemmas.List.{length-append}
-use Rattle.saphyr_parser.specs.Events.{Happening, Alias, Scalar}
+use Rattle.saphyr_parser.specs.Events.{Happening}
 use Rattle.yaml_tree.specs.declared.growing.Level.{Level}
 use Rattle.yaml_tree.specs.declared.table.Content.{Content}
 use Rattle.yaml_tree.specs.declared.table.Content.TheVariants as content
@@ -202,8 +202,7 @@ adds doc es own s (l ∷ ls) waiting entries more (x, around, before, e, outer, 
 leaf_parts : (s : Store) (c : Content) (h : Happening) → TellsFirst s c h → IsLeafEvent h → HasParts s c []
 leaf_parts s (content.Alias id) h t l = refl
 leaf_parts s (content.Scalar style row number) h t l = refl
-leaf_parts s (content.Sequence row number) h (id, tag, e, k) l = absurd (subst IsLeafEvent e l)
-leaf_parts s (content.Mapping row number) h (id, tag, e, k) l = absurd (subst IsLeafEvent e l)
+leaf_parts s _ h (id, tag, e, k) l = absurd (subst IsLeafEvent e l)
 
 pub adds_leaf : (doc es : List Event) (x : Event) (s : Store) (ls : List Level) (waiting : List ℕ)
     (entries : List Entry) (e : Entry) → Holds doc es s ls waiting entries → IsLeafEvent x.0

@@ -28,7 +28,7 @@ pub(crate) enum Open {
 }
 
 impl Open {
-    ghost use Rattle.yaml_tree.specs.OpenSeen.{place_of, GrowsBy, AddsTo, EndsWhole, Completes};
+    ghost use Rattle.yaml_tree.specs.OpenSeen.{place_of, GrowsBy, GrowsInPlace, EndsWhole, Completes};
     ghost use Rattle.yaml_tree.specs.DocumentSeen.{IsLastOf};
 
     // The stream that begins.
@@ -81,7 +81,7 @@ impl Open {
 
     // Adds a node that is complete. After an error no more may be added.
     pub(crate) fn add(&mut self, node: Node) -> Result<(), TreeFault>
-        ensures { AddsTo result (node_events node)
+        ensures { GrowsInPlace result (node_events node)
             (nesting.place_behind_node (place_of self.old)) self.old self.new }
     {
         match self {
