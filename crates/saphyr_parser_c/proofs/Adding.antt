@@ -31,14 +31,13 @@ pub front_taken : (front bytes : List ℕ) (waiting : Vec ℕ Global) (old new :
     → front ++ waiting.items ≡ bytes → IsUtf8 front → IsUtf8SoFar bytes
     → (length waiting.items ≤ 3) × IsCutCharacter waiting.items → TakesWhole front waiting old s new
     → TakesIn bytes old s new
-front_taken front bytes waiting old new status.Done all utf8 so_far cut (added, waits, part, enough) = (
+front_taken front bytes waiting old new status.Done all utf8 so_far cut (added, waits, goes_on) = (
   λ later. subst
       (λ (w : Vec ℕ Global). at new.parser (chars (w.items ++ later)) ≡ at old.parser (chars (bytes ++ later)))
       (sym waits) (rest_waits (at old.parser) (at new.parser) front waiting.items bytes all utf8 added later),
   so_far,
   subst (λ (w : Vec ℕ Global). (length w.items ≤ 3) × IsCutCharacter w.items) (sym waits) cut,
-  part,
-  enough,
+  goes_on,
 )
 front_taken front bytes waiting old new status.NoMemory all utf8 so_far cut lost = lost
 front_taken front bytes waiting old new _ all utf8 so_far cut taken = absurd taken
@@ -54,31 +53,13 @@ text_taken text none old new s is utf8 cut taken =
 -- bytes that are taken in behind those that wait are added
 taken_are_added : (bytes : List ℕ) (old new : Coming) (s : Status) → TakesIn (old.waiting.items ++ bytes) old s new
     → AddsSome bytes old s new
-taken_are_added bytes old new status.Done (places, so_far, waits, part, enough) = (
+taken_are_added bytes old new status.Done (places, so_far, waits, goes_on) = (
   λ later. places later ∙ ap (λ (bs : List ℕ). at old.parser (chars bs)) (append_assoc old.waiting.items bytes later),
   so_far,
   waits,
-  part,
-  enough,
+  goes_on,
 )
-taken_are_added bytes old new status.End taken = taken
-taken_are_added bytes old new status.Event taken = taken
-taken_are_added bytes old new status.Refused taken = taken
-taken_are_added bytes old new status.NoMemory taken = taken
-taken_are_added bytes old new status.NotUtf8 taken = taken
-taken_are_added bytes old new status.NoParser taken = taken
-taken_are_added bytes old new status.Utf16 taken = taken
-taken_are_added bytes old new status.More taken = taken
-taken_are_added bytes old new status.Loaded taken = taken
-taken_are_added bytes old new status.Whole taken = taken
-taken_are_added bytes old new status.TooMuch taken = taken
-taken_are_added bytes old new status.TooLarge taken = taken
-taken_are_added bytes old new status.Late taken = taken
-taken_are_added bytes old new status.Deviates taken = taken
-taken_are_added bytes old new status.Finding taken = taken
-taken_are_added bytes old new status.Wrong taken = taken
-taken_are_added bytes old new status.NotChecked taken = taken
-taken_are_added bytes old new status.TooLong taken = taken
+taken_are_added bytes old new _ taken = taken
 
 not_all : (e : Extent) (bytes : List ℕ) (old new : Coming) (s : Status) → (e ≡ extent.All → ⊥) → 0 < length bytes
     → AddsSome bytes old s new → AddsBytes e bytes old s new
@@ -86,10 +67,6 @@ not_all e [] old new s goes_on some added = absurd (omega arith)
 not_all extent.Nothing (b ∷ bs) old new s goes_on some added = added
 not_all extent.Part (b ∷ bs) old new s goes_on some added = added
 not_all extent.All (b ∷ bs) old new s goes_on some added = absurd (goes_on refl)
-
-pub none_wait : (waiting : List ℕ) → length waiting ≡ 0 → waiting ≡ []
-none_wait [] none = refl
-none_wait (b ∷ bs) none = absurd (omega (arith, none))
 
 -- where none wait, the bytes are taken in alone
 pub first_are_added : (bytes : List ℕ) (old new : Coming) (s : Status) → (old.extent ≡ extent.All → ⊥)

@@ -27,10 +27,7 @@ tag_texts texts rows (Some tag) handle suffix c is h s hs ss = (
 
 style_kept : (style : ScalarStyle) → to_z w32 (of_z w32 (style_code style)) ≡ style_code style
 style_kept styles.Plain = refl
-style_kept styles.SingleQuoted = refl
-style_kept styles.DoubleQuoted = refl
-style_kept styles.Literal = refl
-style_kept styles.Folded = refl
+style_kept _ = refl
 
 pub scalar_fields : (bare new : CEvent) (start end : Marker) (text : List ℕ) (style : ScalarStyle) (id : ℕ)
     (tag : Option ResolvedTag) (value : CText) (code : ℤ) → HasNumbers (fields_of_kind (pos 6)) start end bare

@@ -72,13 +72,20 @@ WaitsForRest c = (length c.waiting.items ≤ 3) × IsCutCharacter c.waiting.item
 -- Memory ran out for bytes that came. If more of the text was wanted, nothing but that fault is left, whatever comes.
 -- Nothing is added any more.
 abbrev pub LosesRest : Coming → Coming → Type 0
-LosesRest old new = LosesText old.parser new.parser × (new.extent ≡ extent.All)
+LosesRest old new =
+    LosesText old.parser new.parser × (new ≡ record old { parser = new.parser; extent = extent.All })
+
+-- More came. The limit of what may wait stays, and where the last event ends. Where no more was wanted, none is.
+abbrev pub GoesOn : Coming → Coming → Type 0
+GoesOn old new =
+    (new ≡ record old { parser = new.parser; waiting = new.waiting; extent = extent.Part })
+    × NeedsNoMore old.parser new.parser
 
 -- These characters came, and these bytes wait behind them.
 abbrev pub TakesWhole : List ℕ → Vec ℕ Global → Coming → Status → Coming → Type 0
 TakesWhole front behind old status.Done new =
     ((later : List ℕ) → at new.parser later ≡ at old.parser (chars front ++ later)) × (new.waiting ≡ behind)
-    × (new.extent ≡ extent.Part) × NeedsNoMore old.parser new.parser
+    × GoesOn old new
 TakesWhole front behind old status.NoMemory new = LosesRest old new
 TakesWhole front behind old s new = ⊥
 
@@ -88,7 +95,7 @@ TakesWhole front behind old s new = ⊥
 abbrev pub TakesIn : List ℕ → Coming → Status → Coming → Type 0
 TakesIn bytes old status.Done new =
     ((later : List ℕ) → at_bytes new later ≡ at old.parser (chars (bytes ++ later)))
-    × IsUtf8SoFar bytes × WaitsForRest new × (new.extent ≡ extent.Part) × NeedsNoMore old.parser new.parser
+    × IsUtf8SoFar bytes × WaitsForRest new × GoesOn old new
 TakesIn bytes old status.NoMemory new = LosesRest old new
 TakesIn bytes old s new = (IsUtf8SoFar bytes → ⊥) × IsRefusal bytes old s × (new ≡ old)
 
@@ -96,7 +103,7 @@ TakesIn bytes old s new = (IsUtf8SoFar bytes → ⊥) × IsRefusal bytes old s �
 abbrev pub EndsPieces : Coming → Status → Coming → Type 0
 EndsPieces old status.Done new =
     (old.waiting.items ≡ []) × ((later : List ℕ) → at new.parser later ≡ at old.parser [])
-    × (wants_more new.parser ≡ false) × (new.extent ≡ extent.All)
+    × (wants_more new.parser ≡ false) × (new ≡ record old { parser = new.parser; extent = extent.All })
 EndsPieces old status.NoMemory new = LosesRest old new
 EndsPieces old s new = (s ≡ status.NotUtf8) × ((old.waiting.items ≡ []) → ⊥) × (new ≡ old)
 
@@ -105,8 +112,7 @@ EndsPieces old s new = (s ≡ status.NotUtf8) × ((old.waiting.items ≡ []) →
 abbrev pub AddsSome : List ℕ → Coming → Status → Coming → Type 0
 AddsSome bytes old status.Done new =
     ((later : List ℕ) → at_bytes new later ≡ at_bytes old (bytes ++ later))
-    × IsUtf8SoFar (old.waiting.items ++ bytes) × WaitsForRest new × (new.extent ≡ extent.Part)
-    × NeedsNoMore old.parser new.parser
+    × IsUtf8SoFar (old.waiting.items ++ bytes) × WaitsForRest new × GoesOn old new
 AddsSome bytes old status.NoMemory new = LosesRest old new
 AddsSome bytes old s new =
     (IsUtf8SoFar (old.waiting.items ++ bytes) → ⊥) × IsRefusal (old.waiting.items ++ bytes) old s × (new ≡ old)

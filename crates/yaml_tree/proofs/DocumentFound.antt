@@ -14,12 +14,14 @@ use Rattle.yaml_tree.specs.declared.document.Document.{Document}
 use Rattle.yaml_tree.specs.declared.loading.Loader.{Loader}
 use Rattle.yaml_tree.specs.Unloading.{document_events, unload}
 use Rattle.yaml_tree.specs.BuilderSeen.{nest_of}
-use Rattle.yaml_tree.specs.LoaderSeen.{LoaderTakes}
+use Rattle.yaml_tree.specs.LoaderSeen.{LoaderTakes, nest_behind_both}
+use Rattle.yaml_tree.specs.Loading.{FailsToTake}
+use Rattle.yaml_tree.specs.Tables.{Event}
 use Rattle.yaml_tree.specs.DocumentLoading.{ComesBetweenDocuments, with_stream_start, NestOn, AtMost, PassesDocument, PassesNoDocument, LoadsDocument, LeavesLess, LeavesBehindLook, LeavesBehindDocument}
 use Rattle.yaml_tree.specs.DocumentSeen.{GoesOnBehind, LeavesPart, nest_in_stream, HoldsLast}
 use Rattle.yaml_tree.proofs.Nests.{leaves_stream}
 use Rattle.yaml_tree.proofs.Loads.{behind_look, no_nest, some_fault, whole_is_complete}
-use Rattle.yaml_tree.proofs.DocumentRead.{fails_lost}
+use Rattle.yaml_tree.proofs.DocumentRead.{fails_lost, never_stops}
 use Rattle.yaml_tree.proofs.Taking.{happenings-append}
 use Rattle.yaml_tree.proofs.DocumentEnds.{ends, ends-append, ends_none, document_ends, no_document}
 
@@ -68,15 +70,15 @@ two_places e = absurd (cc)
 pub two_nests : (n : Nest) → n ≡ nest_in_stream → n ≡ nest_behind_stream → ⊥
 two_nests n e f = two_places (ap (λ (k : Nest). k.innermost) (sym e ∙ f))
 
-module _ (limits : Limits) (before : List Happening) (at : AtMost StreamStart before) (all left : Answer)
-    (l : Loader) where
+module _ {K : Type 0} (HasKept : List Event → K → Type 0) (limits : Limits) (before : List Happening)
+    (at : AtMost StreamStart before) (all left : Answer) (l : Loader K) where
   -- ## A document that ended
 
   abbrev Ended : Type 0
-  Ended = LoaderTakes false limits before (Ok true) all left l
+  Ended = LoaderTakes HasKept false limits before (Ok true) all left l
 
   abbrev Rested : Type 0
-  Rested = LoaderTakes false limits before (Ok false) all left l
+  Rested = LoaderTakes HasKept false limits before (Ok false) all left l
 
   ends_here : (t : Ended) → happenings t.1.taken ≡ happenings t.1.inner ++ DocumentEnd ∷ []
   ends_here t = ap happenings t.1.up_to ∙ happenings-append t.1.inner (t.1.last ∷ [])
@@ -177,26 +179,31 @@ not_nested before (h ∷ hs) f is none w =
 
 -- ## What a call answers
 
-pub loads_last : (limits : Limits) (before : List Happening) (b : Bool) (all left : Answer) (l : Loader)
-    (r : Result (Option Document) TreeFault) → AtMost StreamStart before → GoesOnBehind before all
-    → LoaderTakes false limits before (Ok b) all left l → HoldsLast r l.builder → LoadsDocument limits r all left
-loads_last limits before true all left l (Ok (Some d)) at on t h = finds limits before at all left l d t h
-loads_last limits before true all left l (Ok None) at on t h = absurd (finds_some limits before at all left l t h)
-loads_last limits before true all left l (Err fault.NotFresh) at on t h =
-    absurd (h.0 (stands_in_stream limits before at all left l t))
-loads_last limits before false all left l (Ok (Some d)) at on t h =
-    absurd (finds_none limits before at all left l d t h)
-loads_last limits before false all left l (Ok None) at on t h = passes_stream limits before at all left l t h
-loads_last limits before false all left l (Err fault.NotFresh) at on t h =
+pub loads_last : {K : Type 0} (HasKept : List Event → K → Type 0) (limits : Limits) (before : List Happening)
+    (b : Bool) (all left : Answer) (l : Loader K) (r : Result (Option Document) TreeFault)
+    → AtMost StreamStart before → GoesOnBehind before all → LoaderTakes HasKept false limits before (Ok b) all left l
+    → HoldsLast r l.builder → LoadsDocument limits r all left
+loads_last HasKept limits before true all left l (Ok (Some d)) at on t h =
+    finds HasKept limits before at all left l d t h
+loads_last HasKept limits before true all left l (Ok None) at on t h =
+    absurd (finds_some HasKept limits before at all left l t h)
+loads_last HasKept limits before true all left l (Err fault.NotFresh) at on t h =
+    absurd (h.0 (stands_in_stream HasKept limits before at all left l t))
+loads_last HasKept limits before false all left l (Ok (Some d)) at on t h =
+    absurd (finds_none HasKept limits before at all left l d t h)
+loads_last HasKept limits before false all left l (Ok None) at on t h =
+    passes_stream HasKept limits before at all left l t h
+loads_last HasKept limits before false all left l (Err fault.NotFresh) at on t h =
     inr (on.0, not_whole before (happenings all.events) all.fault _ on.1 t.fault t.holds.1.nested h.0 h.1)
-loads_last limits before b all left l (Err _) at on t h = absurd h
+loads_last HasKept limits before b all left l (Err _) at on t h = absurd h
 
-pub fails_in_document : (f : TreeFault) (limits : Limits) (before : List Happening) (all left : Answer) (l : Loader)
-    → GoesOnBehind before all → LoaderTakes false limits before (Err f) all left l
+pub fails_in_document : (f : TreeFault) (limits : Limits) (before : List Happening) (all left : Answer)
+    → GoesOnBehind before all → FailsToTake false (nest_behind_both before all.events ≡ None) limits f all left
     → LoadsDocument limits (Err f) all left
-fails_in_document fault.NotFresh limits before all left l on h =
+fails_in_document fault.NotFresh limits before all left on h =
     inr (on.0, not_nested before (happenings all.events) all.fault on.1 h)
-fails_in_document _ limits before all left l on h = h
+fails_in_document (fault.Parse f) limits before all left on h = h
+fails_in_document _ limits before all left on h = (on.0, h)
 
 -- ## Lack of memory before the first event
 
@@ -216,8 +223,8 @@ loads_behind limits all mid left r stays = behind_look (λ a. LoadsDocument limi
     lost (Ok None) some l = absurd (some_fault _ l.fault)
     lost (Err fault.NotFresh) some (inl late) = absurd (late.0 tt)
     lost (Err fault.NotFresh) some (inr ill) = absurd (ill.1 tt)
-    lost (Err f) some l = fails_lost false (Unit {0} → ⊥) (NestOn (happenings all.events) all.fault → ⊥) f limits all
-        left some (λ ill. ill tt) l
+    lost (Err (fault.Parse f)) some l = fails_lost false f limits all left some l
+    lost (Err f) some l = absurd (never_stops false f limits left l.1)
 
 pub loads_found : (limits : Limits) (before : List Happening) (all mid left : Answer)
     (r : Result (Option Document) TreeFault) → Stays all mid × GoesOnBehind before mid
@@ -248,20 +255,21 @@ pub leaves_found : {X : Type 0} (before : List Happening) (old looked new : Even
 leaves_found before old looked new r looks (stays, on) leaves =
     record { looked = looked; looks = looks; leaves = leaves on }
 
-pub leaves_last : (limits : Limits) (before : List Happening) (b : Bool) (old new : EventCursor) (l : Loader)
-    (r : Result (Option Document) TreeFault) → AtMost StreamStart before → GoesOnBehind before (to_come old)
-    → LoaderTakes false limits before (Ok b) (to_come old) (to_come new) l → HoldsLast r l.builder
+pub leaves_last : {K : Type 0} (HasKept : List Event → K → Type 0) (limits : Limits) (before : List Happening)
+    (b : Bool) (old new : EventCursor) (l : Loader K) (r : Result (Option Document) TreeFault)
+    → AtMost StreamStart before → GoesOnBehind before (to_come old)
+    → LoaderTakes HasKept false limits before (Ok b) (to_come old) (to_come new) l → HoldsLast r l.builder
     → LeavesPart (Ok b) old new → LeavesBehindLook r old new
-leaves_last limits before true old new l (Ok (Some d)) at on t h k = k
-leaves_last limits before true old new l (Ok None) at on t h k =
-    absurd (finds_some limits before at (to_come old) (to_come new) l t h)
-leaves_last limits before true old new l (Err fault.NotFresh) at on t h k = inr (on.0, k)
-leaves_last limits before false old new l (Ok (Some d)) at on t h k =
-    absurd (finds_none limits before at (to_come old) (to_come new) l d t h)
-leaves_last limits before false old new l (Ok None) at on t h k = k
-leaves_last limits before false old new l (Err fault.NotFresh) at on t h k =
+leaves_last HasKept limits before true old new l (Ok (Some d)) at on t h k = k
+leaves_last HasKept limits before true old new l (Ok None) at on t h k =
+    absurd (finds_some HasKept limits before at (to_come old) (to_come new) l t h)
+leaves_last HasKept limits before true old new l (Err fault.NotFresh) at on t h k = inr (on.0, k)
+leaves_last HasKept limits before false old new l (Ok (Some d)) at on t h k =
+    absurd (finds_none HasKept limits before at (to_come old) (to_come new) l d t h)
+leaves_last HasKept limits before false old new l (Ok None) at on t h k = k
+leaves_last HasKept limits before false old new l (Err fault.NotFresh) at on t h k =
     inr (on.0, record { handed = (to_come old).events; over = k.0 })
-leaves_last limits before b old new l (Err _) at on t h k = absurd h
+leaves_last HasKept limits before b old new l (Err _) at on t h k = absurd h
 
 pub leaves_failed : (X : Type 0) (f : TreeFault) (old new : EventCursor) → ComesBetweenDocuments (to_come old)
     → LeavesPart (Err f) old new → LeavesBehindLook {X = X} (Err f) old new

@@ -101,11 +101,7 @@ module _ (wanted : Bool) (Held : List Event → Type 0) (all a b : Answer) (e : 
       → Forbids Ill f limits (happenings (r.taken ++ e ∷ [])) e.1.start → FailsToTake wanted Later limits f all b
   fails_behind Ill Later fault.NotFresh limits later within why = later why
   fails_behind Ill Later (fault.Parse f) limits later within why = absurd why
-  fails_behind Ill Later fault.OutOfMemory limits later within why = stops_behind fault.OutOfMemory limits within why
-  fails_behind Ill Later (fault.TooManyNodes at most) limits later within why =
-      stops_behind (fault.TooManyNodes at most) limits within why
-  fails_behind Ill Later (fault.TooDeep at most) limits later within why =
-      stops_behind (fault.TooDeep at most) limits within why
+  fails_behind Ill Later f limits later within why = stops_behind f limits within why
 
   -- where it doesn't nest, all don't
   pub nests_nowhere : (before : List Happening) → nest_behind_both before (r.taken ++ e ∷ []) ≡ None
@@ -158,13 +154,11 @@ reads_rest wanted Holds all a b r h k = record {
 memory_is_no_refusal : (mark : Marker) (info : List ℕ) → Some OutOfMemory ≡ Some (Refused mark info) → ⊥
 memory_is_no_refusal mark info e = cc
 
--- where memory ran out before the first event nothing but that fault can be answered
-pub fails_lost : (wanted : Bool) (Ill Other : Type 0) (f : TreeFault) (limits : Limits) (all left : Answer)
-    → 0 < count all → (Ill → ⊥) → FailsToTake wanted Ill limits f (fault_alone OutOfMemory) left
-    → FailsToTake wanted Other limits f all left
-fails_lost wanted Ill Other (fault.Parse (parse.Scan e)) limits all left some nests h =
-    absurd (memory_is_no_refusal _ _ h.0)
-fails_lost wanted Ill Other (fault.Parse parse.OutOfMemory) limits all left some nests h = (
+-- Where memory ran out before the first event nothing but that fault can be answered.
+pub fails_lost : (wanted : Bool) (f : Fault) (limits : Limits) (all left : Answer) → 0 < count all
+    → FailsToParse wanted limits f (fault_alone OutOfMemory) left → FailsToParse wanted limits f all left
+fails_lost wanted (parse.Scan e) limits all left some h = absurd (memory_is_no_refusal _ _ h.0)
+fails_lost wanted parse.OutOfMemory limits all left some h = (
   record {
     taken = [];
     lost = all;
@@ -176,7 +170,8 @@ fails_lost wanted Ill Other (fault.Parse parse.OutOfMemory) limits all left some
   },
   h.1,
 )
-fails_lost wanted Ill Other (fault.Parse _) limits all left some nests h = absurd h
-fails_lost wanted Ill Other fault.NotFresh limits all left some nests h = absurd (nests h)
-fails_lost wanted Ill Other _ limits all left some nests h =
-    absurd (nothing_before h.taken left.events h.event h.split)
+fails_lost wanted _ limits all left some h = absurd h
+
+pub never_stops : (wanted : Bool) (f : TreeFault) (limits : Limits) (left : Answer)
+    → Stops wanted f limits (fault_alone OutOfMemory) left → ⊥
+never_stops wanted f limits left h = nothing_before h.taken left.events h.event h.split

@@ -1,9 +1,9 @@
 -- What the entry of a number tells.
-use Rattle.std.proofs.Common.{arith, ◌≡◌, ◌∙◌, ◌<◌, refl, sym, ap, subst, ℕ, zero, suc, ◌+◌, List, [], ◌∷◌, Some, None, length}
+use Rattle.std.proofs.Common.{arith, ◌≡◌, ◌<◌, subst, ℕ, zero, suc, ◌+◌, List, [], ◌∷◌, Some, None, length}
 use Rattle.std.specs.List.{slice_get}
 use Rattle.yaml_tree.specs.declared.table.Entry.{Entry}
 use Rattle.yaml_tree.specs.declared.table.NodeTable.{NodeTable}
-use Rattle.yaml_tree.specs.Tables.{AreEntriesFrom, Event, IsEntryAt, IsNodeAt, IsTable, Store, TellsNode, nodes_begun, store_of}
+use Rattle.yaml_tree.specs.Tables.{AreEntriesFrom, Event, IsEntryAt, IsTable, Store, nodes_begun, store_of}
 
 entry_from : (es : List Event) (s : Store) (n k m : ℕ) (xs : List Entry) (e : Entry) → AreEntriesFrom es s n xs
     → slice_get xs k ≡ Some e → m ≡ n + k → IsEntryAt es s m e

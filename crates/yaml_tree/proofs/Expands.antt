@@ -2,12 +2,10 @@
 use Rattle.std.proofs.Common.{◌≡◌, ◌∙◌, ℕ, min, List, ap, sym}
 use Rattle.saphyr_parser.specs.Events.{Happening}
 use Rattle.saphyr_parser.specs.Nesting.{happenings}
-use Rattle.yaml_tree.specs.declared.node.Node.{Node}
 use Rattle.yaml_tree.specs.CounterSeen.{counted_all}
-use Rattle.yaml_tree.specs.Expanding.{most, no_sizes, expanded}
+use Rattle.yaml_tree.specs.Expanding.{most}
 use Rattle.yaml_tree.specs.GrowerSeen.{no_count}
 use Rattle.yaml_tree.specs.Tables.{Event, IsExpanded}
-use Rattle.yaml_tree.specs.Unloading.{node_events}
 use Rattle.yaml_tree.proofs.Counts.{counts_root}
 
 pub expands : (own : List Event) (nodes : ℕ) → nodes ≡ min most (counted_all (happenings own) no_count).nodes

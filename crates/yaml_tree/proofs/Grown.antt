@@ -1,16 +1,17 @@
 -- Nodes as they begin and end, event after event.
 use Rattle.std.proofs.Common.{arith, ◌≡◌, ◌∙◌, refl, sym, ap, subst, inl, inr, ℕ, suc, ◌+◌, List, [], ◌∷◌, ◌++◌, length, append_assoc, append-nil}
 use Rattle.std.proofs.lemmas.List.{length-append}
-use Rattle.saphyr_parser.specs.Events.{Happening, Alias, Scalar, SequenceEnd, MappingEnd}
+use Rattle.saphyr_parser.specs.Events.{Happening}
 use Rattle.yaml_tree.specs.declared.growing.Level.{Level}
 use Rattle.yaml_tree.specs.declared.table.Content.{Content}
 use Rattle.yaml_tree.specs.declared.table.Content.TheVariants as content
 use Rattle.yaml_tree.specs.declared.table.Entry.{Entry}
 use Rattle.yaml_tree.specs.declared.table.Mark.{Mark}
 use Rattle.yaml_tree.specs.declared.table.Row.{Row}
-use Rattle.yaml_tree.specs.Tables.{AreEntriesFrom, AreNodes, Event, HasParts, IsEnd, IsEntryAt, IsLeafEvent, IsNode, IsNodeAt, StandIn, Store, TellsNode, TellsFirst, all_of, beginning, nodes_begun, leaf, marker_of, none, numbers, one_more, whole}
+use Rattle.yaml_tree.specs.Tables.{AreEntriesFrom, AreNodes, Event, HasParts, IsEnd, IsEntryAt, IsLeafEvent, IsNode, IsNodeAt, StandIn, Store, TellsNode, TellsFirst, all_of, nodes_begun, leaf, marker_of, none, numbers, one_more, whole}
 use Rattle.yaml_tree.specs.GrowerSeen.{Holds, Inside, IsMore, IsOpen, closed}
-use Rattle.yaml_tree.proofs.Places.{begun-append, leaf_begins, start_begins}
+use Rattle.yaml_tree.proofs.Places.{begun-append}
+use Rattle.yaml_tree.proofs.Roots.{end_event, leaf_event, start_event}
 use Rattle.yaml_tree.proofs.Stores.{more_none, parts_closed, parts_more, stands_last, told_closed, told_more}
 
 -- ## Events
@@ -32,11 +33,6 @@ numbers-snoc n (p ∷ ps) own =
     let e : (n + nodes_begun p) + nodes_begun (all_of ps) ≡ n + nodes_begun (p ++ all_of ps) = omega (arith, long) in
     ap (λ (ms : List ℕ). n ∷ ms)
     (numbers-snoc (n + nodes_begun p) ps own ∙ ap (λ (m : ℕ). numbers (n + nodes_begun p) ps ++ m ∷ []) e)
-
-end_begins : (h : Happening) → IsEnd h → beginning h ≡ 0
-end_begins SequenceEnd l = refl
-end_begins MappingEnd l = refl
-end_begins _ l = absurd l
 
 -- ## More events, more in the store
 
@@ -206,15 +202,14 @@ adds doc es own s (l ∷ ls) waiting entries more (x, around, before, e, outer, 
 leaf_parts : (s : Store) (c : Content) (h : Happening) → TellsFirst s c h → IsLeafEvent h → HasParts s c []
 leaf_parts s (content.Alias id) h t l = refl
 leaf_parts s (content.Scalar style row number) h t l = refl
-leaf_parts s (content.Sequence row number) h (id, tag, e, k) l = absurd (subst IsLeafEvent e l)
-leaf_parts s (content.Mapping row number) h (id, tag, e, k) l = absurd (subst IsLeafEvent e l)
+leaf_parts s _ h (id, tag, e, k) l = absurd (subst IsLeafEvent e l)
 
 pub adds_leaf : (doc es : List Event) (x : Event) (s : Store) (ls : List Level) (waiting : List ℕ)
     (entries : List Entry) (e : Entry) → Holds doc es s ls waiting entries → IsLeafEvent x.0
     → TellsFirst s e.content x.0 → marker_of e.start ≡ x.1.start → marker_of e.end ≡ x.1.end
     → Holds doc (es ++ x ∷ []) s ls (waiting ++ nodes_begun es ∷ []) (entries ++ e ∷ [])
 adds_leaf doc es x s ls waiting entries e h l told start end =
-    let one = leaf_begins x.0 l in
+    let one = (leaf_event x.0 l).0 in
     let node : IsNode (x ∷ []) = leaf x l in
     adds doc es (x ∷ []) s ls waiting entries (e ∷ []) h node (omega (arith, one)) (
       (
@@ -244,7 +239,7 @@ begins doc es x s l ls waiting entries e number at o h =
     let long = holds_count doc es s ls waiting entries h in
     let more = begun-append es (x ∷ []) in
     let longer = length-append entries (e ∷ []) in
-    let one = start_begins x.0 o.start in (
+    let one = (start_event x.0 o.start).0 in (
       x,
       es,
       waiting,
@@ -298,8 +293,8 @@ ends doc es y a b end row l ls waiting entries is_end place more (x, around, bef
     let events : es ++ y ∷ [] ≡ around ++ all =
     ap (λ (ds : List Event). ds ++ y ∷ []) i.events ∙ append_assoc base (all_of i.parts) (y ∷ [])
     ∙ append_assoc around (x ∷ []) (all_of i.parts ++ y ∷ []) in
-    let one = start_begins x.0 o.start in
-    let zero_more = end_begins y.0 is_end in
+    let one = (start_event x.0 o.start).0 in
+    let zero_more = (end_event y.0 is_end).0 in
     let longer = begun-append around (x ∷ []) in
     let next : nodes_begun base ≡ suc (nodes_begun around) = omega (arith, longer, one) in
     let count = i.count in

@@ -25,7 +25,7 @@ use Rattle.yaml_tree.proofs.LastItems.{get_seam, none_is_last, nothing_before, s
 use Rattle.yaml_tree.proofs.Stores.{more_none, stores_both, text_stores, texts_more}
 use Rattle.yaml_tree.proofs.Grown.{adds_leaf, all_told, begins, ends, entries_more, holds_along, holds_count, holds_store}
 use Rattle.yaml_tree.proofs.Places.{begun-append, no_nodes_yet}
-use Rattle.yaml_tree.proofs.Roots.{end_counts, end_ends_none, ended-append, leaf_ends_none, roots-snoc, roots_more, start_counts, start_ends_none}
+use Rattle.yaml_tree.proofs.Roots.{end_event, ended-append, leaf_event, roots-snoc, roots_more, start_event}
 use Rattle.yaml_tree.proofs.Counts.{counted-append}
 use Rattle.yaml_tree.proofs.Taking.{happenings-append}
 
@@ -71,7 +71,7 @@ leaf_grows old mid new span what id nodes a only adds h leaf told counts es g =
     let count = holds_count g.doc es s g.inside old.waiting.items old.table.entries.items g.holds in
     let so_far = counted_all (happenings g.since) no_count in
     let own = counts so_far g.counts in
-    grows es (h, span) old mid new g g.inside only (leaf_ends_none h leaf) (ap (λ (t : NodeTable). t.roots) a.table)
+    grows es (h, span) old mid new g g.inside only (leaf_event h leaf).1 (ap (λ (t : NodeTable). t.roots) a.table)
     (subst (λ ls. IsStack ls g.inside) (sym (ap (λ v. v.items) a.levels)) g.stack)
     (holds_along g.doc (es ++ (h, span) ∷ []) s (store_of mid.table) g.inside _ _ _ _ (ap store_of a.table)
     (a.waiting ∙ ap (λ (n : ℕ). old.waiting.items ++ n ∷ []) count) a.entries
@@ -89,7 +89,7 @@ start_grows old mid new span what id a only adds h start anchor told es g =
     let s = store_of old.table in
     let inside = a.level ∷ g.inside in
     let so_far = counted_all (happenings g.since) no_count in
-    grows es (h, span) old mid new g inside only (start_ends_none h start) (ap (λ (t : NodeTable). t.roots) a.table)
+    grows es (h, span) old mid new g inside only (start_event h start).1 (ap (λ (t : NodeTable). t.roots) a.table)
     (old.levels.items, a.levels, g.stack)
     (holds_along g.doc (es ++ (h, span) ∷ []) s (store_of mid.table) inside _ _ _ _ (ap store_of a.table)
     (ap (λ w. w.items) a.waiting) a.entries
@@ -100,7 +100,7 @@ start_grows old mid new span what id a only adds h start anchor told es g =
       place = a.start;
     }) g.holds))
     (subst (HoldsCount new.counter)
-    (ap (λ (i : ℕ). counts_begun i so_far) (sym anchor) ∙ sym (start_counts h so_far start))
+    (ap (λ (i : ℕ). counts_begun i so_far) (sym anchor) ∙ sym ((start_event h start).3 so_far))
     (adds so_far (subst (λ (k : Counter). HoldsCount k so_far) (sym a.counter) g.counts)))
 
 -- ## A collection ends
@@ -152,12 +152,12 @@ end_grows old mid new span a only leaves h is_end es g =
     ∙ ap (λ (n : ℕ). slice_set (e.outer ++ (e.entry ∷ e.inner)) n (closed a.row a.end e.entry)) e.number
     ∙ set_seam e.outer e.entry (closed a.row a.end e.entry) e.inner in
     let so_far = counted_all (happenings g.since) no_count in
-    grows es (h, span) old mid new g above.0 only (end_ends_none h is_end) a.roots above.2
+    grows es (h, span) old mid new g above.0 only (end_event h is_end).1 a.roots above.2
     (holds_along g.doc (es ++ (h, span) ∷ []) t t above.0 _ _ _ _ refl
     (a.waiting ∙ ap (λ (ns : List ℕ). ns ++ l.number ∷ []) before) entries
     (e.holds (a.parts ∙ ap (λ (ns : List ℕ). old.table.parts.items ++ ns) own) a.first
     (a.count ∙ ap (λ (ns : List ℕ). length ns) own)))
-    (subst (HoldsCount new.counter) (sym (end_counts h so_far is_end))
+    (subst (HoldsCount new.counter) (sym ((end_event h is_end).2 so_far))
     (leaves so_far (subst (λ (k : Counter). HoldsCount k so_far) (sym a.counter) g.counts)))
 
 -- ## Between documents

@@ -20,7 +20,7 @@ use Rattle.yaml_tree.specs.Accessing.{items_of_node, pairs_of_node}
 use Rattle.yaml_tree.specs.Unloading.{node_events, pair_events}
 use Rattle.yaml_tree.specs.Following.{part_at, parts_behind, value_events, follow, behind_step, behind_path, LeadsTo}
 use Rattle.yaml_tree.specs.Walking.{rest_events, frames_events, to_visit, last_step, step_in, path_of, IsRestOf, BeganLast, LeadDown, IsLevel, StandBelow, HasRoot, IsWalkOf, Enters, TurnsWithin}
-use Rattle.yaml_tree.proofs.LastItems.{same_last}
+use Rattle.yaml_tree.proofs.LastItems.{get_seam, same_last}
 
 -- ## Levels
 
@@ -62,11 +62,6 @@ path_leads (r ∷ rests) root last (left, part, began, leads) =
 
 -- ## The parts of a collection
 
-part_there : {X : Type 0} (passed : List X) (x : X) (others : List X)
-    → slice_get (passed ++ x ∷ others) (length passed) ≡ Some x
-part_there [] x others = refl
-part_there (p ∷ passed) x others = part_there passed x others
-
 parts_there : {X : Type 0} (passed : List X) (x : X) (others : List X)
     → drop (suc (length passed)) (passed ++ x ∷ others) ≡ others
 parts_there [] x others = refl
@@ -75,7 +70,7 @@ parts_there (p ∷ passed) x others = parts_there passed x others
 at_part : {X : Type 0} (parts : Option (List X)) (all passed : List X) (x : X) (others : List X) → parts ≡ Some all
     → all ≡ passed ++ x ∷ others → part_at (length passed) parts ≡ Some x
 at_part parts all passed x others is e = ap (part_at (length passed)) is
-    ∙ ap (λ l. slice_get l (length passed)) e ∙ part_there passed x others
+    ∙ ap (λ l. slice_get l (length passed)) e ∙ get_seam passed x others
 
 behind_part : {X : Type 0} (parts : Option (List X)) (all passed : List X) (x : X) (others : List X)
     → parts ≡ Some all → all ≡ passed ++ x ∷ others → parts_behind (length passed) parts ≡ others

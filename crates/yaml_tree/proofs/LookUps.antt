@@ -1,8 +1,8 @@
 -- What is found in a table is what the events of its nodes are.
-use Rattle.std.proofs.Common.{arith, ◌≡◌, ◌∙◌, refl, sym, ap, subst, ℕ, zero, suc, ◌+◌, ◌*◌, ◌/◌, ◌<◌, ◌≤◌, Bool, true, false, List, [], ◌∷◌, ◌++◌, length, slice_get, Option, Some, None, inl, inr}
+use Rattle.std.proofs.Common.{arith, ◌≡◌, ◌∙◌, refl, sym, ap, subst, ℕ, zero, suc, ◌+◌, ◌*◌, ◌/◌, ◌<◌, ◌≤◌, true, false, List, [], ◌∷◌, ◌++◌, length, slice_get, Option, Some, None, inl, inr}
 use Rattle.std.specs.Option.{option_and_then}
 use Rattle.std.proofs.lemmas.Bool.{cases_lt}
-use Rattle.saphyr_parser.specs.Events.{Happening, Alias, Scalar, SequenceStart, MappingStart}
+use Rattle.saphyr_parser.specs.Events.{Happening, Scalar, SequenceStart, MappingStart}
 use Rattle.yaml_tree.specs.declared.paths.Step.{Step}
 use Rattle.yaml_tree.specs.declared.paths.Step.TheVariants.{Index, Key, Value}
 use Rattle.yaml_tree.specs.declared.table.Content.{Content}

@@ -33,10 +33,9 @@ IsCollection BeforeValue = Unit {0}
 IsCollection _ = ⊥
 
 collection_is_inner : (p : NestPlace) → IsCollection p → IsInner p
-collection_is_inner BeforeStream h = h
-collection_is_inner InStream h = h
-collection_is_inner BehindStream h = h
-collection_is_inner _ h = tt
+collection_is_inner BeforeRoot h = tt
+collection_is_inner BehindRoot h = tt
+collection_is_inner _ h = h
 
 -- the one place may become the other: what is inside stays so, and so do collections
 abbrev Follows : NestPlace → NestPlace → Type 0

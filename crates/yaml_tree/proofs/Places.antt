@@ -1,34 +1,7 @@
 -- A number is of one node, and a node has one list of parts: events show where a node ends.
 use Rattle.std.proofs.Common.{arith, ◌≡◌, ◌∙◌, refl, sym, ap, subst, ℕ, ◌+◌, ◌<◌, List, [], ◌∷◌, ◌++◌, append_assoc, inl, inr}
-use Rattle.saphyr_parser.specs.Events.{Happening, Alias, Scalar, SequenceStart, MappingStart}
 use Rattle.yaml_tree.specs.Tables.{AreNodes, Event, IsEnd, IsLeafEvent, IsMadeOf, IsNode, IsNodeAt, IsStart, all_of, beginning, nodes_begun, leaf, none, one_more, whole}
-
--- ## What an event does
-
-no_leaf_starts : (h : Happening) → IsLeafEvent h → IsStart h → ⊥
-no_leaf_starts (Alias id) l s = absurd s
-no_leaf_starts (Scalar text style id tag) l s = absurd s
-no_leaf_starts _ l s = absurd l
-
-no_leaf_ends : (h : Happening) → IsLeafEvent h → IsEnd h → ⊥
-no_leaf_ends (Alias id) l e = absurd e
-no_leaf_ends (Scalar text style id tag) l e = absurd e
-no_leaf_ends _ l e = absurd l
-
-no_start_ends : (h : Happening) → IsStart h → IsEnd h → ⊥
-no_start_ends (SequenceStart id tag) s e = absurd e
-no_start_ends (MappingStart id tag) s e = absurd e
-no_start_ends _ s e = absurd s
-
-pub leaf_begins : (h : Happening) → IsLeafEvent h → beginning h ≡ 1
-leaf_begins (Alias id) l = refl
-leaf_begins (Scalar text style id tag) l = refl
-leaf_begins _ l = absurd l
-
-pub start_begins : (h : Happening) → IsStart h → beginning h ≡ 1
-start_begins (SequenceStart id tag) s = refl
-start_begins (MappingStart id tag) s = refl
-start_begins _ s = absurd s
+use Rattle.yaml_tree.proofs.Roots.{leaf_event, start_event}
 
 same_head : (x y : Event) (xs ys : List Event) → x ∷ xs ≡ y ∷ ys → x ≡ y
 same_head x y xs ys e = cc
@@ -45,9 +18,9 @@ pub record Begins (own : List Event) : Type 0 where
   pub one : beginning first.0 ≡ 1
 
 pub begins : (own : List Event) → IsNode own → Begins own
-begins _ (leaf e l) = record { first = e; others = []; split = refl; one = leaf_begins e.0 l }
+begins _ (leaf e l) = record { first = e; others = []; split = refl; one = (leaf_event e.0 l).0 }
 begins _ (whole first parts last s nodes end) =
-    record { first = first; others = all_of parts ++ last ∷ []; split = refl; one = start_begins first.0 s }
+    record { first = first; others = all_of parts ++ last ∷ []; split = refl; one = (start_event first.0 s).0 }
 
 no_node : IsNode [] → ⊥
 no_node n = elim n [ ]
@@ -66,18 +39,18 @@ around x y xs ys = ap (λ (l : List Event). x ∷ l) (append_assoc xs (y ∷ [])
 
 no_end_begins : (own xs ys : List Event) (y : Event) → IsNode own → IsEnd y.0 → own ++ xs ≡ y ∷ ys → ⊥
 no_end_begins _ xs ys y (leaf e l) end same =
-    no_leaf_ends y.0 (subst (λ (x : Event). IsLeafEvent x.0) (same_head e y xs ys same) l) end
+    (leaf_event y.0 (subst (λ (x : Event). IsLeafEvent x.0) (same_head e y xs ys same) l)).3 end
 no_end_begins _ xs ys y (whole first parts last s nodes ends) end same =
-    no_start_ends y.0 (subst (λ (x : Event). IsStart x.0) (same_head first y _ ys same) s) end
+    (start_event y.0 (subst (λ (x : Event). IsStart x.0) (same_head first y _ ys same) s)).2 end
 
 mutual
   pub node_once : (a b xs ys : List Event) → IsNode a → IsNode b → a ++ xs ≡ b ++ ys → (a ≡ b) × (xs ≡ ys)
   node_once _ _ xs ys (leaf e l) (leaf f m) same =
       (ap (λ (x : Event). x ∷ []) (same_head e f xs ys same), same_tail e f xs ys same)
   node_once _ _ xs ys (leaf e l) (whole first parts last s nodes end) same =
-      absurd (no_leaf_starts first.0 (subst (λ (x : Event). IsLeafEvent x.0) (same_head e first xs _ same) l) s)
+      absurd ((leaf_event first.0 (subst (λ (x : Event). IsLeafEvent x.0) (same_head e first xs _ same) l)).2 s)
   node_once _ _ xs ys (whole first parts last s nodes end) (leaf f m) same =
-      absurd (no_leaf_starts first.0 (subst (λ (x : Event). IsLeafEvent x.0) (sym (same_head first f _ ys same)) m) s)
+      absurd ((leaf_event first.0 (subst (λ (x : Event). IsLeafEvent x.0) (sym (same_head first f _ ys same)) m)).2 s)
   node_once _ _ xs ys (whole first parts last s nodes end) (whole f qs z t others ends) same =
       let whole_same : first ∷ (all_of parts ++ (last ∷ xs)) ≡ f ∷ (all_of qs ++ (z ∷ ys)) =
       sym (around first last (all_of parts) xs) ∙ same ∙ around f z (all_of qs) ys in
@@ -114,10 +87,10 @@ made_once own first f parts qs last z (inl m) (inl n) =
     let same = same_head first f [] [] (sym m.1 ∙ n.1) in (same, m.2 ∙ sym n.2, m.3 ∙ same ∙ sym n.3)
 made_once own first f parts qs last z (inl m) (inr n) =
     let same = same_head first f [] _ (sym m.1 ∙ n.1) in
-    absurd (no_leaf_starts f.0 (subst (λ (x : Event). IsLeafEvent x.0) same m.0) n.0)
+    absurd ((leaf_event f.0 (subst (λ (x : Event). IsLeafEvent x.0) same m.0)).2 n.0)
 made_once own first f parts qs last z (inr m) (inl n) =
     let same = same_head first f _ [] (sym m.1 ∙ n.1) in
-    absurd (no_leaf_starts first.0 (subst (λ (x : Event). IsLeafEvent x.0) (sym same) n.0) m.0)
+    absurd ((leaf_event first.0 (subst (λ (x : Event). IsLeafEvent x.0) (sym same) n.0)).2 m.0)
 made_once own first f parts qs last z (inr m) (inr n) =
     let same = sym m.1 ∙ n.1 in
     let inner = nodes_once parts qs (last ∷ []) (z ∷ []) last z [] [] m.2 n.2 m.3 n.3 refl refl

@@ -1,40 +1,36 @@
--- What an event changes of the documents that ended and of the counts, and their roots behind more events.
+-- What an event begins and ends, and the roots of documents behind more events.
 use Rattle.std.proofs.Common.{arith, ◌≡◌, ◌∙◌, refl, ap, subst, ℕ, suc, ◌+◌, List, [], ◌∷◌, ◌++◌, length, append_assoc}
 use Rattle.saphyr_parser.specs.Events.{Happening, Alias, Scalar, SequenceStart, SequenceEnd, MappingStart, MappingEnd}
 use Rattle.yaml_tree.specs.declared.table.Root.{Root}
 use Rattle.yaml_tree.specs.CounterSeen.{Count, begun as counts_begun, counted, left}
-use Rattle.yaml_tree.specs.Tables.{AreRootsFrom, Event, IsEnd, IsLeafEvent, IsRootAt, IsStart, id_of_anchor, documents_ended, documents_ended_by}
+use Rattle.yaml_tree.specs.Tables.{AreRootsFrom, Event, IsEnd, IsLeafEvent, IsRootAt, IsStart, beginning, id_of_anchor, documents_ended, documents_ended_by}
 
--- ## Counts
+-- ## What an event does
 
 pub ended-append : (xs ys : List Event) → documents_ended (xs ++ ys) ≡ documents_ended xs + documents_ended ys
 ended-append [] ys = omega arith
 ended-append (x ∷ xs) ys = let e = ended-append xs ys in omega (arith, e)
 
-pub leaf_ends_none : (h : Happening) → IsLeafEvent h → documents_ended_by h ≡ 0
-leaf_ends_none (Alias id) l = refl
-leaf_ends_none (Scalar text style id tag) l = refl
-leaf_ends_none _ l = absurd l
+-- a whole node: one node begins, no collection begins or ends, and no document ends
+pub leaf_event : (h : Happening) → IsLeafEvent h
+    → (beginning h ≡ 1) × (documents_ended_by h ≡ 0) × (IsStart h → ⊥) × (IsEnd h → ⊥)
+leaf_event (Alias id) l = (refl, refl, λ s. s, λ e. e)
+leaf_event (Scalar text style id tag) l = (refl, refl, λ s. s, λ e. e)
+leaf_event _ l = absurd l
 
-pub start_ends_none : (h : Happening) → IsStart h → documents_ended_by h ≡ 0
-start_ends_none (SequenceStart id tag) l = refl
-start_ends_none (MappingStart id tag) l = refl
-start_ends_none _ l = absurd l
+-- a collection begins: one node, and no collection or document ends
+pub start_event : (h : Happening) → IsStart h → (beginning h ≡ 1) × (documents_ended_by h ≡ 0) × (IsEnd h → ⊥)
+    × ((c : Count) → counted h c ≡ counts_begun (id_of_anchor h) c)
+start_event (SequenceStart id tag) s = (refl, refl, λ e. e, λ c. refl)
+start_event (MappingStart id tag) s = (refl, refl, λ e. e, λ c. refl)
+start_event _ s = absurd s
 
-pub end_ends_none : (h : Happening) → IsEnd h → documents_ended_by h ≡ 0
-end_ends_none SequenceEnd l = refl
-end_ends_none MappingEnd l = refl
-end_ends_none _ l = absurd l
-
-pub start_counts : (h : Happening) (c : Count) → IsStart h → counted h c ≡ counts_begun (id_of_anchor h) c
-start_counts (SequenceStart id tag) c l = refl
-start_counts (MappingStart id tag) c l = refl
-start_counts _ c l = absurd l
-
-pub end_counts : (h : Happening) (c : Count) → IsEnd h → counted h c ≡ left c
-end_counts SequenceEnd c l = refl
-end_counts MappingEnd c l = refl
-end_counts _ c l = absurd l
+-- a collection ends: no node begins, and no document ends
+pub end_event : (h : Happening) → IsEnd h
+    → (beginning h ≡ 0) × (documents_ended_by h ≡ 0) × ((c : Count) → counted h c ≡ left c)
+end_event SequenceEnd e = (refl, refl, λ c. refl)
+end_event MappingEnd e = (refl, refl, λ c. refl)
+end_event _ e = absurd e
 
 -- ## Roots
 

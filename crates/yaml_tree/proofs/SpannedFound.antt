@@ -1,5 +1,5 @@
 -- The next document and its spans, and what a call answers.
-use Rattle.std.proofs.Common.{◌≡◌, ◌∙◌, List, [], ◌∷◌, ◌++◌, map, Option, Some, None, Bool, false, Result, Ok, Err, refl, sym, ap, subst}
+use Rattle.std.proofs.Common.{◌≡◌, ◌∙◌, List, [], ◌∷◌, ◌++◌, map, Option, Some, None, Bool, true, false, Result, Ok, Err, refl, sym, ap, subst, append-nil}
 use Rattle.std.proofs.lemmas.List.{append_cancel_right}
 use Rattle.saphyr_scalar.specs.declared.scalar.position.Span.{Span}
 use Rattle.saphyr_parser.specs.Answer.{Answer, OutOfMemory, fault_alone}
@@ -11,13 +11,14 @@ use Rattle.yaml_tree.specs.declared.tally.Limits.{Limits}
 use Rattle.yaml_tree.specs.declared.document.Document.{Document}
 use Rattle.yaml_tree.specs.declared.spans.DocumentSpans.{DocumentSpans}
 use Rattle.yaml_tree.specs.declared.spans.SpanKeeper.{SpanKeeper}
-use Rattle.yaml_tree.specs.declared.spanned_loading.SpannedLoader.{SpannedLoader}
+use Rattle.yaml_tree.specs.declared.loading.Loader.{Loader}
 use Rattle.yaml_tree.specs.DocumentLoading.{AtMost}
 use Rattle.yaml_tree.specs.DocumentSeen.{GoesOnBehind, HoldsLast}
 use Rattle.yaml_tree.specs.LoaderSeen.{LoaderTakes}
-use Rattle.yaml_tree.specs.KeeperSeen.{HandsOutLast, HasKeptNone, HasSpans, KeepsTaken, ReturnsLast, document_of, kept_spans}
+use Rattle.yaml_tree.specs.KeeperSeen.{AreKept, HandsOutLast, HasSpans, ReturnsLast, document_of, kept_spans}
 use Rattle.yaml_tree.specs.Unloading.{document_events}
-use Rattle.yaml_tree.specs.Spanning.{IsSpannedDocument, all_spans, kept_behind_all}
+use Rattle.yaml_tree.specs.Spanning.{IsSpannedDocument, KeptSpans, all_spans, kept_behind_all}
+use Rattle.yaml_tree.specs.Tables.{Event}
 use Rattle.yaml_tree.proofs.DocumentFound.{loads_last, no_events_of}
 use Rattle.yaml_tree.proofs.Loads.{behind_look}
 use Rattle.yaml_tree.proofs.Spanned.{keeps_next}
@@ -43,18 +44,29 @@ paired : (d : Document) (s : DocumentSpans) (r : Result (Option Pair) TreeFault)
 paired d s r all left is spanned =
     record { same = ap document_of is; spans = subst (λ x. HasSpans x all left) (sym is) spanned }
 
-module _ (limits : Limits) (before : List Happening) (b : Bool) (all left : Answer) (first : SpanKeeper)
-    (l : SpannedLoader) (r : Result (Option Pair) TreeFault) (at : AtMost StreamStart before)
-    (on : GoesOnBehind before all) (t : LoaderTakes false limits before (Ok b) all left l.loader)
-    (k : KeepsTaken all left first l.keeper) (none : HasKeptNone first) where
-  pairs_with : (held : Result (Option Document) TreeFault) → HoldsLast held l.loader.builder
+-- what was taken up to a document's end, or to that of the stream, has its spans
+spans_taken : (limits : Limits) (before : List Happening) (b : Bool) (all left : Answer) (l : Loader SpanKeeper)
+    → LoaderTakes AreKept false limits before (Ok b) all left l
+    → (taken : List Event) × (all.events ≡ taken ++ left.events) × AreKept taken l.keeper
+spans_taken limits before true all left l t = (t.1.taken, t.1.split, t.1.holds.kept)
+spans_taken limits before false all left l t = (
+  all.events,
+  sym (ap (λ (x : Answer). all.events ++ x.events) t.nothing ∙ append-nil all.events),
+  t.holds.1.kept,
+)
+
+module _ (limits : Limits) (before : List Happening) (b : Bool) (all left : Answer) (l : Loader SpanKeeper)
+    (r : Result (Option Pair) TreeFault) (at : AtMost StreamStart before) (on : GoesOnBehind before all)
+    (t : LoaderTakes AreKept false limits before (Ok b) all left l) where
+  pairs_with : (held : Result (Option Document) TreeFault) → HoldsLast held l.builder
       → ReturnsLast held l.keeper.ended.items r → IsPaired held r all left
   pairs_with (Ok (Some d)) h is =
-      let p = loads_last limits before b all left l.loader (Ok (Some d)) at on t h in
-      let same = append_cancel_right k.taken p.passed left.events (sym k.split ∙ p.split) in
-      let next = keeps_next d p.start p.passed all.events left.events (kept_spans l.keeper) (kept_spans first) p.first
-      p.own p.split (k.kept ∙ ap (λ (es : List (Happening × Span)). kept_behind_all es (kept_spans first)) same)
-      none.0 none.1 in
+      let p = loads_last AreKept limits before b all left l (Ok (Some d)) at on t h in
+      let k = spans_taken limits before b all left l t in
+      let same = append_cancel_right k.0 p.passed left.events (sym k.1 ∙ p.split) in
+      let first : KeptSpans = record { ended = []; start = k.2.0; nodes = [] } in
+      let next = keeps_next d p.start p.passed all.events left.events (kept_spans l.keeper) first p.first p.own p.split
+      (k.2.1 ∙ ap (λ (es : List Event). kept_behind_all es first) same) refl refl in
       let one = one_mapped all_spans l.keeper.ended.items next.spans next.ended in
       paired d one.0 r all left (is [] one.0 one.1)
       (subst (λ (spans : List Span). IsSpannedDocument d spans all.events left.events) (sym one.2) next.spanned)
@@ -63,12 +75,8 @@ module _ (limits : Limits) (before : List Happening) (b : Bool) (all left : Answ
   pairs_with (Err f) h is =
       record { same = ap document_of is; spans = subst (λ x. HasSpans x all left) (sym is) tt }
 
-pub pairs : (limits : Limits) (before : List Happening) (b : Bool) (all left : Answer) (first : SpanKeeper)
-    (l : SpannedLoader) (r : Result (Option Pair) TreeFault) → AtMost StreamStart before → GoesOnBehind before all
-    → LoaderTakes false limits before (Ok b) all left l.loader → KeepsTaken all left first l.keeper → HasKeptNone first
-    → (h : HandsOutLast r l) → IsPaired h.0 r all left
-pairs limits before b all left first l r at on t k none h =
-    pairs_with limits before b all left first l r at on t k none h.0 h.1 h.2
+  pub pairs : (h : HandsOutLast r l) → IsPaired h.0 r all left
+  pairs h = pairs_with h.0 h.1 h.2
 
 -- ## A look before
 

@@ -1,8 +1,8 @@
 -- What a table stores beside its entries stays where it is.
-use Rattle.std.proofs.Common.{arith, ◌≡◌, ◌∙◌, refl, sym, ap, subst, ℕ, zero, suc, ◌+◌, List, [], ◌∷◌, ◌++◌, Option, Some, None, Result, Ok, Err, OnOk, IfOk, length, append_assoc, append-nil}
+use Rattle.std.proofs.Common.{arith, ◌≡◌, ◌∙◌, refl, sym, ap, subst, ℕ, zero, suc, List, [], ◌∷◌, ◌++◌, Option, Some, None, Result, Ok, Err, OnOk, IfOk, length, append_assoc, append-nil}
 use Rattle.std.proofs.lemmas.List.{length-append}
 use Rattle.std.specs.List.{slice_get}
-use Rattle.saphyr_parser.specs.Events.{Happening, Alias, Scalar}
+use Rattle.saphyr_parser.specs.Events.{Happening}
 use Rattle.yaml_tree.specs.declared.table.Content.{Content}
 use Rattle.yaml_tree.specs.declared.table.Content.TheVariants as content
 use Rattle.yaml_tree.specs.declared.table.NodeTable.{NodeTable}
@@ -90,24 +90,20 @@ row_more a b ns row more h = subst (StandIn ns row) (sym more.parts) (stands_mor
 pub parts_more : (a b : Store) (c : Content) (ns : List ℕ) → IsMore a b → HasParts a c ns → HasParts b c ns
 parts_more a b (content.Alias id) ns more h = h
 parts_more a b (content.Scalar style row number) ns more h = h
-parts_more a b (content.Sequence row number) ns more h = row_more a b ns row more h
-parts_more a b (content.Mapping row number) ns more h = row_more a b ns row more h
+parts_more a b _ ns more h = row_more a b ns _ more h
 
 -- with other parts a collection tells the same of its first event
 pub told_closed : (s : Store) (c : Content) (row : Row) (h : Happening) → TellsFirst s c h
     → TellsFirst s (with_row row c) h
 told_closed s (content.Alias id) row h t = t
-told_closed s (content.Scalar style text number) row h t = t
-told_closed s (content.Sequence old number) row h t = t
-told_closed s (content.Mapping old number) row h t = t
+told_closed s _ row h t = t
 
 pub parts_closed : (s : Store) (c : Content) (row : Row) (h : Happening) (ns : List ℕ) → TellsFirst s c h → IsStart h
     → StandIn ns row s.parts → HasParts s (with_row row c) ns
 parts_closed s (content.Alias id) row h ns t start stands = absurd (subst IsStart t start)
 parts_closed s (content.Scalar style text number) row h ns (own, id, tag, is, at, k) start stands =
     absurd (subst IsStart is start)
-parts_closed s (content.Sequence old number) row h ns t start stands = stands
-parts_closed s (content.Mapping old number) row h ns t start stands = stands
+parts_closed s _ row h ns t start stands = stands
 
 pub text_stores : (text : List ℕ) (row : Row) (old new : NodeTable) → StoresText text row old new
     → Stores old new × StandIn text row new.texts.items

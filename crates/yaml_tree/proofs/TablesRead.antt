@@ -5,14 +5,14 @@ use Rattle.saphyr_parser.specs.Events.{Happening}
 use Rattle.saphyr_parser.specs.Answer.{Answer, OutOfMemory, fault_alone}
 use Rattle.saphyr_parser.specs.Cursor.{EventCursor, Stays, count, to_come}
 use Rattle.saphyr_parser.specs.Calls.{Looks}
-use Rattle.saphyr_parser.specs.Nesting.{happenings, IsAtStart, IsNested}
+use Rattle.saphyr_parser.specs.Nesting.{happenings, IsAtStart}
 use Rattle.yaml_tree.specs.declared.fault.TreeFault.{TreeFault}
 use Rattle.yaml_tree.specs.declared.fault.TreeFault.TheVariants as fault
 use Rattle.yaml_tree.specs.declared.table.NodeTable.{NodeTable}
 use Rattle.yaml_tree.specs.declared.table_loading.Grower.{Grower}
 use Rattle.yaml_tree.specs.declared.tally.Limits.{Limits}
 use Rattle.yaml_tree.specs.Counting.{Counts, Fits, StayWithin, counts_behind, counts_behind_all, no_nodes}
-use Rattle.yaml_tree.specs.DocumentLoading.{NestOn}
+use Rattle.yaml_tree.specs.DocumentLoading.{ComesBetweenDocuments}
 use Rattle.yaml_tree.specs.GrowerSeen.{AddsEvent, HasNoneOpen}
 use Rattle.yaml_tree.specs.Leaving.{LeavesFrom, LeavesParser}
 use Rattle.yaml_tree.specs.Loading.{TakesToEnd}
@@ -20,7 +20,7 @@ use Rattle.yaml_tree.specs.TableLoading.{LoadsNextTable, LoadsTable, PassesNoTab
 use Rattle.yaml_tree.specs.Tables.{Event}
 use Rattle.yaml_tree.specs.TableSeen.{FinishesTable, GrowsByEvents, HasGrownWithin}
 use Rattle.yaml_tree.specs.TallySeen.{Tallies, counts_of}
-use Rattle.yaml_tree.proofs.DocumentRead.{fails_lost}
+use Rattle.yaml_tree.proofs.DocumentRead.{fails_lost, never_stops}
 use Rattle.yaml_tree.proofs.Growths.{between_first, grown_table}
 use Rattle.yaml_tree.proofs.LastItems.{nothing_before}
 use Rattle.yaml_tree.proofs.Loads.{behind_look, some_fault}
@@ -70,22 +70,26 @@ loads_all limits all left g (Ok table) start t is = (start, is, t.fault, t.holds
 loads_all limits all left g (Err fault.OutOfMemory) start t (inner, last, is) =
     let within = within_last limits (happenings inner) last.0 no_nodes
     (subst (λ (hs : List Happening). StayWithin limits hs no_nodes)
-    (ap happenings is ∙ happenings-append inner (last ∷ [])) t.holds.1.within) in record {
-      taken = inner;
-      event = last;
-      split = is ∙ ap (λ (x : Answer). inner ++ (last ∷ x.events)) (sym t.nothing);
-      fault = t.fault ∙ ap (λ (x : Answer). x.fault) (sym t.nothing);
-      inside = tt;
-      within = within.0;
-      why = within.1;
-    }
+    (ap happenings is ∙ happenings-append inner (last ∷ [])) t.holds.1.within) in (
+      start,
+      record {
+        taken = inner;
+        event = last;
+        split = is ∙ ap (λ (x : Answer). inner ++ (last ∷ x.events)) (sym t.nothing);
+        fault = t.fault ∙ ap (λ (x : Answer). x.fault) (sym t.nothing);
+        inside = tt;
+        within = within.0;
+        why = within.1;
+      },
+    )
 loads_all limits all left g (Err _) start t is = absurd is
 
 -- no call of a grower says that the parser isn't fresh
-pub loads_none : (limits : Limits) (all left : Answer) (g : Grower) (f : TreeFault)
+pub loads_none : (limits : Limits) (all left : Answer) (g : Grower) (f : TreeFault) → IsAtStart all
     → GrowsByEvents true limits (Err f) all left g → LoadsTable limits (Err f) all left
-loads_none limits all left g fault.NotFresh h = absurd h
-loads_none limits all left g _ h = h
+loads_none limits all left g fault.NotFresh start h = absurd h
+loads_none limits all left g (fault.Parse f) start h = h
+loads_none limits all left g _ start h = (start, h)
 
 pub loads_behind : (limits : Limits) (all mid left : Answer) (r : Result NodeTable TreeFault) → Stays all mid
     → LoadsTable limits r mid left → LoadsTable limits r all left
@@ -95,8 +99,8 @@ loads_behind limits all mid left r stays = behind_look (λ a. LoadsTable limits 
         → LoadsTable limits s all left
     lost (Ok t) some l = absurd (some_fault OutOfMemory l.2)
     lost (Err fault.NotFresh) some l = absurd (l.0 tt)
-    lost (Err f) some l = fails_lost true (IsNested (fault_alone OutOfMemory) → ⊥) (IsNested all → ⊥) f limits all
-        left some (λ ill. ill tt) l
+    lost (Err (fault.Parse f)) some l = fails_lost true f limits all left some l
+    lost (Err f) some l = absurd (never_stops true f limits left l.1)
 
 pub leaves_done : (es : List Event) (r : Result NodeTable TreeFault) (old looked new : EventCursor)
     → Looks old looked → LeavesFrom {X = Bool} (Ok false) looked new → FinishesTable es r → LeavesParser r old new
@@ -125,10 +129,11 @@ pub passes_none : (limits : Limits) (all left : Answer) (g : Grower)
     → GrowsByEvents false limits (Ok false) all left g → PassesNoTable all left
 passes_none limits all left g t = record { fault = t.fault; nothing = t.nothing; holds = t.holds.0 }
 
-pub fails_next : (limits : Limits) (all left : Answer) (g : Grower) (f : TreeFault)
+pub fails_next : (limits : Limits) (all left : Answer) (g : Grower) (f : TreeFault) → ComesBetweenDocuments all
     → GrowsByEvents false limits (Err f) all left g → LoadsNextTable limits (Err f) all left
-fails_next limits all left g fault.NotFresh h = absurd h
-fails_next limits all left g _ h = h
+fails_next limits all left g fault.NotFresh between h = absurd h
+fails_next limits all left g (fault.Parse f) between h = h
+fails_next limits all left g _ between h = (between, h)
 
 never_ends : (Holds : List Event → Type 0) (left : Answer) → TakesToEnd Holds (fault_alone OutOfMemory) left → ⊥
 never_ends Holds left t = nothing_before t.inner left.events t.last
@@ -143,5 +148,5 @@ next_behind limits all mid left r stays = behind_look (λ a. LoadsNextTable limi
     lost (Ok (Some t)) some l = absurd (never_ends _ left l.1)
     lost (Ok None) some l = absurd (some_fault OutOfMemory l.1.fault)
     lost (Err fault.NotFresh) some l = absurd (l.0 tt)
-    lost (Err f) some l = fails_lost false (Unit {0} → ⊥) (NestOn (happenings all.events) all.fault → ⊥) f limits all
-        left some (λ ill. ill tt) l
+    lost (Err (fault.Parse f)) some l = fails_lost false f limits all left some l
+    lost (Err f) some l = absurd (never_stops false f limits left l.1)

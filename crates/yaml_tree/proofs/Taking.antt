@@ -91,12 +91,13 @@ nested_more : (before : List Happening) (es : List Event) (x : Event) (n : Nest)
 nested_more before es x n o e f = nest_behind_both-append before es (x ∷ [])
     ∙ ap (option_and_then (nest_behind_all (x.0 ∷ []))) e ∙ some_again (nest_behind_event x.0 n) ∙ f
 
-pub takes : (limits : Limits) (before : List Happening) (es : List Event) (x : Event) (place : Marker)
-    (old new : Loader) (r : Result (Unit {0}) TreeFault) → HasTaken limits before es old
+pub takes : {K : Type 0} {HasKept : List Event → K → Type 0} (limits : Limits) (before : List Happening)
+    (es : List Event) (x : Event) (place : Marker) (old new : Loader K) (r : Result (Unit {0}) TreeFault)
+    → HasTaken HasKept limits before es old
     → Tallies (Ok tt) (counts_behind x.0 (counts_of old.tally)) place old.tally new.tally
     → Grows r (x.0 ∷ []) (nest_behind_event x.0 (nest_of old.builder)) old.builder new.builder
-    → TakesLast r limits before (es ++ x ∷ []) place new
-takes limits before es x place old new (Ok u) t c g = record {
+    → HasKept (es ++ x ∷ []) new.keeper → TakesLast HasKept r limits before (es ++ x ∷ []) place new
+takes limits before es x place old new (Ok u) t c g k = record {
   same_limits = c.0 ∙ t.same_limits;
   written = g.0 ∙ ap (λ (hs : List Happening). hs ++ x.0 ∷ []) t.written
       ∙ append_assoc before (happenings es) (x.0 ∷ [])
@@ -104,8 +105,9 @@ takes limits before es x place old new (Ok u) t c g = record {
   nested = nested_more before es x _ _ t.nested g.1;
   counted = c.1 ∙ counts_more limits es x old.tally t.same_limits t.counted;
   within = within_more limits es x old.tally t.same_limits t.counted t.within c.2;
+  kept = k;
 }
-takes limits before es x place old new (Err fault.NotFresh) t c g = nested_more before es x _ _ t.nested g
-takes limits before es x place old new (Err fault.OutOfMemory) t c g =
+takes limits before es x place old new (Err fault.NotFresh) t c g k = nested_more before es x _ _ t.nested g
+takes limits before es x place old new (Err fault.OutOfMemory) t c g k =
     lacks_memory limits es x old.tally t.same_limits t.counted c.2
-takes limits before es x place old new (Err _) t c g = absurd g
+takes limits before es x place old new (Err _) t c g k = absurd g

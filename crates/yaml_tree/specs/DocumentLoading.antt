@@ -79,7 +79,8 @@ LoadsDocument limits (Ok None) all left = PassesNoDocument all left
 LoadsDocument limits (Err fault.NotFresh) all left =
     ((ComesBetweenDocuments all → ⊥) × (left ≡ all))
     ⊎ (ComesBetweenDocuments all × FailsInDocument limits fault.NotFresh all left)
-LoadsDocument limits (Err f) all left = FailsInDocument limits f all left
+LoadsDocument limits (Err (fault.Parse f)) all left = FailsInDocument limits (fault.Parse f) all left
+LoadsDocument limits (Err f) all left = ComesBetweenDocuments all × FailsInDocument limits f all left
 
 -- Less is left after a document, so that a loop over documents ends.
 abbrev pub LeavesLess : Result (Option Document) TreeFault → Answer → Answer → Type 0

@@ -1,5 +1,5 @@
 -- What contracts see of a table that grows, event after event.
-use Rattle.std.specs.Prelude.{◌≡◌, ℕ, ◌+◌, List, [], ◌∷◌, ◌++◌, length, take, drop, min, Some, slice_get, slice_set}
+use Rattle.std.specs.Prelude.{◌≡◌, ℕ, List, [], ◌∷◌, ◌++◌, length, take, drop, min, Some, slice_get, slice_set}
 use Rattle.saphyr_scalar.specs.declared.scalar.position.Span.{Span}
 use Rattle.saphyr_parser.specs.Events.{Happening}
 use Rattle.saphyr_parser.specs.Nesting.{happenings}
@@ -16,7 +16,7 @@ use Rattle.yaml_tree.specs.declared.table.Root.{Root}
 use Rattle.yaml_tree.specs.declared.table.Row.{Row}
 use Rattle.yaml_tree.specs.CounterSeen.{Count, HoldsCount, counted, counted_all, with_nodes}
 use Rattle.yaml_tree.specs.Expanding.{most, no_sizes}
-use Rattle.yaml_tree.specs.Tables.{AreEntriesFrom, AreNodes, AreRootsFrom, Event, IsStart, MaybeTag, Store, StoresProperties, TellsFirst, all_of, nodes_begun, documents_ended, marker_of, numbers, store_of}
+use Rattle.yaml_tree.specs.Tables.{AreEntriesFrom, AreNodes, AreRootsFrom, Event, IsStart, Store, TellsFirst, all_of, nodes_begun, documents_ended, marker_of, numbers, store_of}
 
 -- ## What is stored
 

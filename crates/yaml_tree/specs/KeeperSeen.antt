@@ -3,15 +3,16 @@ use Rattle.std.specs.Prelude.{◌≡◌, ◌++◌, List, [], ◌∷◌, map, Opt
 use Rattle.std.specs.Global.{Global}
 use Rattle.saphyr_scalar.specs.declared.scalar.position.Span.{Span}
 use Rattle.saphyr_parser.specs.Answer.{Answer}
-use Rattle.saphyr_parser.specs.Events.{Happening}
 use Rattle.yaml_tree.specs.declared.fault.TreeFault.{TreeFault}
 use Rattle.yaml_tree.specs.declared.document.Document.{Document}
 use Rattle.yaml_tree.specs.declared.spans.DocumentSpans.{DocumentSpans}
+use Rattle.yaml_tree.specs.declared.loading.Loader.{Loader}
+use Rattle.yaml_tree.specs.declared.spans.NoSpans.{NoSpans}
 use Rattle.yaml_tree.specs.declared.spans.SpanKeeper.{SpanKeeper}
 use Rattle.yaml_tree.specs.declared.spans.SpannedDocuments.{SpannedDocuments}
-use Rattle.yaml_tree.specs.declared.spanned_loading.SpannedLoader.{SpannedLoader}
 use Rattle.yaml_tree.specs.DocumentSeen.{HoldsLast}
 use Rattle.yaml_tree.specs.Spanning.{IsSpannedDocument, KeptSpans, all_spans, kept_behind_all}
+use Rattle.yaml_tree.specs.Tables.{Event}
 
 abbrev pub kept_spans : SpanKeeper → KeptSpans
 kept_spans k = record { ended = map all_spans k.ended.items; start = k.start; nodes = k.nodes.items }
@@ -25,15 +26,14 @@ abbrev pub document_of : Result (Option (Document × DocumentSpans)) TreeFault �
 document_of (Ok found) = Ok (option_map (λ (d : Document × DocumentSpans). d.0) found)
 document_of (Err f) = Err f
 
--- no span was kept
-abbrev pub HasKeptNone : SpanKeeper → Type 0
-HasKeptNone k = ((kept_spans k).ended ≡ []) × ((kept_spans k).nodes ≡ [])
+-- the spans of these events were kept, and no others
+abbrev pub AreKept : List Event → SpanKeeper → Type 0
+AreKept es k =
+    (start : Span) × (kept_spans k ≡ kept_behind_all es (record { ended = []; start = start; nodes = [] }))
 
--- the spans of the events that were taken were kept
-pub record KeepsTaken (all left : Answer) (old new : SpanKeeper) : Type 0 where
-  pub taken : List (Happening × Span)
-  pub split : all.events ≡ taken ++ left.events
-  pub kept : kept_spans new ≡ kept_behind_all taken (kept_spans old)
+-- No spans are wanted of these events.
+abbrev pub AreUnkept : List Event → NoSpans → Type 0
+AreUnkept es k = Unit {0}
 
 -- a document has the spans of its events
 abbrev pub HasSpans : Result (Option (Document × DocumentSpans)) TreeFault → Answer → Answer → Type 0
@@ -48,6 +48,7 @@ ReturnsLast (Ok (Some d)) kept r = (others : List DocumentSpans) (spans : Docume
 ReturnsLast (Ok None) kept r = r ≡ Ok None
 ReturnsLast (Err f) kept r = r ≡ Err f
 
-abbrev pub HandsOutLast : Result (Option (Document × DocumentSpans)) TreeFault → SpannedLoader → Type 0
-HandsOutLast r l = (held : Result (Option Document) TreeFault) × HoldsLast held l.loader.builder
+abbrev pub HandsOutLast : Result (Option (Document × DocumentSpans)) TreeFault → Loader SpanKeeper
+    → Type 0
+HandsOutLast r l = (held : Result (Option Document) TreeFault) × HoldsLast held l.builder
     × ReturnsLast held l.keeper.ended.items r

@@ -17,22 +17,26 @@ use Rattle.yaml_tree.specs.Tables.{Event}
 abbrev pub nest_behind_both : List Happening → List Event → Option Nest
 nest_behind_both before es = nest_behind_all (before ++ happenings es) nest_before_stream
 
--- behind the events from before, of which none is a node, the loader has taken exactly these
-pub record HasTaken (limits : Limits) (before : List Happening) (es : List Event) (l : Loader) : Type 0 where
+-- behind the events from before, of which none is a node, the loader has taken exactly these, and kept them so
+pub record HasTaken {K : Type 0} (HasKept : List Event → K → Type 0) (limits : Limits) (before : List Happening)
+    (es : List Event) (l : Loader K) : Type 0 where
   pub same_limits : l.tally.limits ≡ limits
   pub written : builder_events l.builder ≡ before ++ happenings es
   pub nested : nest_behind_both before es ≡ Some (nest_of l.builder)
   pub counted : counts_of l.tally ≡ counts_behind_all (happenings es) no_nodes
   pub within : StayWithin limits (happenings es) no_nodes
+  pub kept : HasKept es l.keeper
 
 -- these events are taken, or the last of them can't be
-abbrev pub TakesLast : Result (Unit {0}) TreeFault → Limits → List Happening → List Event → Marker → Loader → Type 0
-TakesLast (Ok u) limits before es place new = HasTaken limits before es new
-TakesLast (Err f) limits before es place new =
+abbrev pub TakesLast : {K : Type 0} → (List Event → K → Type 0) → Result (Unit {0}) TreeFault → Limits
+    → List Happening → List Event → Marker → Loader K → Type 0
+TakesLast HasKept (Ok u) limits before es place new = HasTaken HasKept limits before es new
+TakesLast HasKept (Err f) limits before es place new =
     Forbids (nest_behind_both before es ≡ None) f limits (happenings es) place
 
 -- what a loader takes of all that is still to come
-abbrev pub LoaderTakes : Bool → Limits → List Happening → Result Bool TreeFault → Answer → Answer → Loader → Type 0
-LoaderTakes wanted limits before r all left l =
-    TakesComing wanted (λ es. HasTaken limits before es l) (λ es. HasTaken limits before es l)
+abbrev pub LoaderTakes : {K : Type 0} → (List Event → K → Type 0) → Bool → Limits → List Happening
+    → Result Bool TreeFault → Answer → Answer → Loader K → Type 0
+LoaderTakes HasKept wanted limits before r all left l =
+    TakesComing wanted (λ es. HasTaken HasKept limits before es l) (λ es. HasTaken HasKept limits before es l)
     (nest_behind_both before all.events ≡ None) limits r all left

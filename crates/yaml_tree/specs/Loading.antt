@@ -108,13 +108,15 @@ FailsToLoad limits f all left = FailsToTake true (IsNested all → ⊥) limits f
 abbrev pub IsLate : Answer → Answer → Type 0
 IsLate all left = (IsAtStart all → ⊥) × (left ≡ all)
 
--- What a call answers, and what it leaves of all that was still to come.
+-- What a call answers, and what it leaves of all that was still to come. Memory may run out before it knows where the
+-- parser is.
 abbrev pub LoadsDocuments : Limits → Result (Vec Document Global) TreeFault → Answer → Answer → Type 0
 LoadsDocuments limits (Ok documents) all left = (unload documents.items ≡ happenings all.events) × (all.fault ≡ None)
     × StayWithin limits (happenings all.events) no_nodes × (left ≡ empty_answer)
 LoadsDocuments limits (Err fault.NotFresh) all left =
     IsLate all left ⊎ (IsAtStart all × FailsToLoad limits fault.NotFresh all left)
-LoadsDocuments limits (Err f) all left = FailsToLoad limits f all left
+LoadsDocuments limits (Err (fault.Parse f)) all left = FailsToLoad limits (fault.Parse f) all left
+LoadsDocuments limits (Err f) all left = IsAtStart all × FailsToLoad limits f all left
 
 -- whether nothing was handed out, where only lack of memory changes what is to come
 abbrev pub BeginsSo : Bool → Answer → Answer → Type 0

@@ -47,9 +47,9 @@ GrowsBy (Err fault.OutOfMemory) more place old = Unit {0}
 GrowsBy (Err _) more place old = ⊥
 
 -- the same in place
-abbrev pub AddsTo : Result (Unit {0}) TreeFault → List Happening → Option NestPlace → Open → Open → Type 0
-AddsTo (Ok u) more place old new = GrowsBy (Ok new) more place old
-AddsTo (Err f) more place old new = GrowsBy (Err f) more place old
+abbrev pub GrowsInPlace : Result (Unit {0}) TreeFault → List Happening → Option NestPlace → Open → Open → Type 0
+GrowsInPlace (Ok u) more place old new = GrowsBy (Ok new) more place old
+GrowsInPlace (Err f) more place old new = GrowsBy (Err f) more place old
 
 -- What ends has these events, the last its own end. It is refused elsewhere than at this place.
 abbrev pub EndsWhole : {X : Type 0} → (X → List Happening) → Result X TreeFault → Happening → NestPlace → Open → Type 0

@@ -16,7 +16,8 @@ abbrev pub LoadsTable : Limits → Result NodeTable TreeFault → Answer → Ans
 LoadsTable limits (Ok t) all left = IsAtStart all × IsTable all.events t × (all.fault ≡ None)
     × StayWithin limits (happenings all.events) no_nodes × (left ≡ empty_answer)
 LoadsTable limits (Err fault.NotFresh) all left = IsLate all left
-LoadsTable limits (Err f) all left = FailsToLoad limits f all left
+LoadsTable limits (Err (fault.Parse f)) all left = FailsToLoad limits (fault.Parse f) all left
+LoadsTable limits (Err f) all left = IsAtStart all × FailsToLoad limits f all left
 
 -- The events up to the first end of a document were passed, and the table is of these. All others are left.
 abbrev pub PassesTable : Limits → NodeTable → Answer → Answer → Type 0
@@ -32,4 +33,5 @@ abbrev pub LoadsNextTable : Limits → Result (Option NodeTable) TreeFault → A
 LoadsNextTable limits (Ok (Some t)) all left = ComesBetweenDocuments all × PassesTable limits t all left
 LoadsNextTable limits (Ok None) all left = ComesBetweenDocuments all × PassesNoTable all left
 LoadsNextTable limits (Err fault.NotFresh) all left = (ComesBetweenDocuments all → ⊥) × (left ≡ all)
-LoadsNextTable limits (Err f) all left = FailsInDocument limits f all left
+LoadsNextTable limits (Err (fault.Parse f)) all left = FailsInDocument limits (fault.Parse f) all left
+LoadsNextTable limits (Err f) all left = ComesBetweenDocuments all × FailsInDocument limits f all left

@@ -4,12 +4,14 @@ ghost use Rattle.saphyr_parser.specs.Events.{Happening, StreamStart};
 ghost use Rattle.saphyr_parser.specs.Cursor.{to_come};
 ghost use Rattle.saphyr_parser.specs.Calls.{Looks};
 ghost use Rattle.yaml_tree.specs.LoaderSeen.{HasTaken};
+ghost use Rattle.yaml_tree.specs.KeeperSeen.{AreUnkept};
 ghost use Rattle.yaml_tree.specs.DocumentLoading.{AtMost, LoadsDocument, LeavesLess, LeavesBehindLook, LeavesBehindDocument};
 ghost use Rattle.yaml_tree.specs.DocumentSeen.{FindsPlace, GoesOnBehind};
 
 use crate::document::Document;
 use crate::fault::TreeFault;
 use crate::loading::Loader;
+use crate::spans::NoSpans;
 use crate::tally::Limits;
 use saphyr_parser::{Event, Input, Parser};
 use std::alloc::Global;
@@ -32,8 +34,8 @@ pub fn load_document<'input, T: Input>(
     ensures leaves { LeavesBehindDocument result parser.old parser.new }
 {
     match find_place(parser) {
-        Place::BeforeStream => next_document(Loader::new(alloc, limits), parser),
-        Place::Between => next_document(Loader::in_stream(alloc, limits), parser),
+        Place::BeforeStream => next_document(Loader::new(alloc, limits, NoSpans), parser),
+        Place::Between => next_document(Loader::in_stream(alloc, limits, NoSpans), parser),
         Place::Inside => Err(TreeFault::NotFresh),
     }
 }
@@ -63,13 +65,15 @@ pub(crate) fn find_place<'input, T: Input>(parser: &mut Parser<'input, T>) -> Pl
 
 // Loads the next document by a loader that has taken what comes before it.
 fn next_document<'input, T: Input>(
-    mut loader: Loader,
+    mut loader: Loader<NoSpans>,
     parser: &mut Parser<'input, T>,
 ) -> Result<Option<Document>, TreeFault>
-    ensures loads { (limits : Limits) (before : List Happening) → HasTaken limits before [] loader
+    ensures loads { (limits : Limits) (before : List Happening)
+        → HasTaken AreUnkept limits before [] loader
         → AtMost StreamStart before → GoesOnBehind before (to_come parser.old)
         → LoadsDocument limits result (to_come parser.old) (to_come parser.new) }
-    ensures leaves { (limits : Limits) (before : List Happening) → HasTaken limits before [] loader
+    ensures leaves { (limits : Limits) (before : List Happening)
+        → HasTaken AreUnkept limits before [] loader
         → AtMost StreamStart before → GoesOnBehind before (to_come parser.old)
         → LeavesBehindLook result parser.old parser.new }
 {

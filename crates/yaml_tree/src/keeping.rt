@@ -1,8 +1,8 @@
 //! What a table keeps of nodes beside their entries: texts, tags and anchors.
-ghost use Rattle.std.specs.Prelude.{◌≡◌, IfOk, OnOk, Some, option_map, slice_get, slice_set};
+ghost use Rattle.std.specs.Prelude.{◌≡◌, IfOk, OnOk, Some, option_map, slice_get};
 ghost use Rattle.saphyr_parser.specs.Views.Events.{resolved_tag};
 ghost use Rattle.yaml_tree.specs.GrowerSeen as seen;
-ghost use Rattle.yaml_tree.specs.Tables.{HasTagRows, StoresProperties, marker_of, store_of};
+ghost use Rattle.yaml_tree.specs.Tables.{HasTagRows, StoresProperties, store_of};
 ghost use Rattle.yaml_tree.specs.declared.table.Entry.{Entry as Told};
 
 use crate::table::{Content, Entry, Mark, NodeTable, Properties, Row, TagRows, narrow};

@@ -12,6 +12,7 @@ ghost use Rattle.yaml_tree.specs.Tables.{Event as Given};
 use crate::builder::Builder;
 use crate::document::Document;
 use crate::fault::TreeFault;
+use crate::spans::{Keep, NoSpans};
 use crate::tally::{Limits, Tally};
 use saphyr_parser::law::hands_out_what_comes;
 use saphyr_parser::{Event, Input, Parser, Span};
@@ -33,7 +34,7 @@ pub fn load_documents<'input, T: Input>(
     if !is_at_start(parser) {
         return Err(TreeFault::NotFresh);
     }
-    let mut loader = Loader::new(alloc, limits);
+    let mut loader = Loader::new(alloc, limits, NoSpans);
     match loader.take_events(parser, true) {
         Ok(_) => loader.builder.finish(),
         Err(fault) => {
@@ -62,32 +63,35 @@ pub(crate) fn is_last(event: &Event, all: bool) -> bool
     !all && matches!(event, Event::DocumentEnd)
 }
 
-// Trees that grow within limits.
+// Trees that grow within limits, and the spans of their events where these are kept.
 #[derive(Drop)]
-pub(crate) struct Loader {
-    pub(crate) tally: Tally,
+pub(crate) struct Loader<K> {
+    tally: Tally,
     pub(crate) builder: Builder,
+    pub(crate) keeper: K,
 }
 
-impl Loader {
+impl<K: Keep> Loader<K> {
     ghost use Rattle.yaml_tree.specs.LoaderSeen.{HasTaken, LoaderTakes, TakesLast};
 
-    pub(crate) fn new(alloc: Global, limits: Limits) -> Loader
-        ensures { HasTaken limits [] [] result }
+    pub(crate) fn new(alloc: Global, limits: Limits, keeper: K) -> Loader<K>
+        ensures { K.HasKept [] keeper → HasTaken K.HasKept limits [] [] result }
     {
         Loader {
             tally: Tally::new(limits),
             builder: Builder::new(alloc),
+            keeper,
         }
     }
 
-    // A loader that has taken the stream's start.
-    pub(crate) fn in_stream(alloc: Global, limits: Limits) -> Loader
-        ensures { HasTaken limits (StreamStart ∷ []) [] result }
+    // A loader that has taken the stream's start, of which no span is kept.
+    pub(crate) fn in_stream(alloc: Global, limits: Limits, keeper: K) -> Loader<K>
+        ensures { K.HasKept [] keeper → HasTaken K.HasKept limits (StreamStart ∷ []) [] result }
     {
         Loader {
             tally: Tally::new(limits),
             builder: Builder::in_stream(alloc),
+            keeper,
         }
     }
 
@@ -98,10 +102,10 @@ impl Loader {
         all: bool,
     ) -> Result<bool, TreeFault>
         ensures takes { (limits : Limits) (before : List Happening)
-            → HasTaken limits before [] self.old → LoaderTakes all limits before result
-            (to_come parser.old) (to_come parser.new) self.new }
+            → HasTaken K.HasKept limits before [] self.old → LoaderTakes K.HasKept all limits before
+            result (to_come parser.old) (to_come parser.new) self.new }
         ensures leaves { (limits : Limits) (before : List Happening)
-            → HasTaken limits before [] self.old → LeavesPart result parser.old parser.new }
+            → HasTaken K.HasKept limits before [] self.old → LeavesPart result parser.old parser.new }
     {
         hands_out_what_comes();
         while let Some(read) = parser.next_event() {
@@ -122,11 +126,17 @@ impl Loader {
     // Takes an event with its span. Checks the limits first.
     fn take(&mut self, event: Event, span: Span) -> Result<(), TreeFault>
         ensures { (limits : Limits) (before : List Happening) (es : List Given)
-            → HasTaken limits before es self.old → TakesLast result limits before
+            → HasTaken K.HasKept limits before es self.old → TakesLast K.HasKept result limits before
             (es ++ (happening event.entry, span) ∷ []) span.start self.new }
     {
         match self.tally.count(&event, span.start) {
-            Ok(()) => self.builder.take(event),
+            Ok(()) => match self.keeper.keep(&event, span) {
+                Ok(()) => self.builder.take(event),
+                Err(_) => {
+                    drop(event);
+                    Err(TreeFault::OutOfMemory)
+                }
+            },
             Err(fault) => {
                 drop(event);
                 Err(fault)

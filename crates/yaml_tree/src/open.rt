@@ -1,6 +1,6 @@
 //! A stream, a document or a collection that has begun and not ended. Where one is dropped, the code says so by a call:
 //! a drop at the end of a scope takes several times as long to prove.
-ghost use Rattle.std.specs.Prelude.{◌≡◌, [], ◌∷◌};
+ghost use Rattle.std.specs.Prelude.{[], ◌∷◌};
 ghost use Rattle.saphyr_parser.specs.Events.{StreamStart, StreamEnd, DocumentEnd, SequenceEnd, MappingEnd};
 ghost use Rattle.yaml_tree.specs.Unloading.{node_events, document_events};
 ghost use Rattle.saphyr_parser.specs.Nesting as nesting;
@@ -28,7 +28,7 @@ pub(crate) enum Open {
 }
 
 impl Open {
-    ghost use Rattle.yaml_tree.specs.OpenSeen.{place_of, GrowsBy, AddsTo, EndsWhole, Completes};
+    ghost use Rattle.yaml_tree.specs.OpenSeen.{place_of, GrowsBy, GrowsInPlace, EndsWhole, Completes};
     ghost use Rattle.yaml_tree.specs.DocumentSeen.{IsLastOf};
 
     // The stream that begins.
@@ -81,7 +81,7 @@ impl Open {
 
     // Adds a node that is complete. After an error no more may be added.
     pub(crate) fn add(&mut self, node: Node) -> Result<(), TreeFault>
-        ensures { AddsTo result (node_events node)
+        ensures { GrowsInPlace result (node_events node)
             (nesting.place_behind_node (place_of self.old)) self.old self.new }
     {
         match self {

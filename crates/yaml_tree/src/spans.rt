@@ -1,8 +1,9 @@
 //! The spans of documents: those of their events (YAML 1.2.2, 3.1).
-ghost use Rattle.std.specs.Prelude.{◌≡◌, OnOk};
+ghost use Rattle.std.specs.Prelude.{◌≡◌, List, [], ◌∷◌, ◌++◌, OnOk};
 ghost use Rattle.saphyr_parser.specs.Events.{DocumentEnd};
 ghost use Rattle.saphyr_parser.specs.Views.Events.{happening};
 ghost use Rattle.yaml_tree.specs.Spanning.{kept_behind, with_node_span};
+ghost use Rattle.yaml_tree.specs.Tables.{Event as Given};
 
 use crate::document::Document;
 use saphyr_parser::{Event, Marker, Span};
@@ -26,6 +27,31 @@ pub struct SpannedDocuments {
     pub spans: Vec<DocumentSpans>,
 }
 
+/// What keeps the spans of events, where they are wanted.
+pub(crate) trait Keep {
+    ghost HasKept: { List Given → Self → Type 0 };
+
+    // Keeps the span of an event. After an error no more may be kept.
+    fn keep(&mut self, event: &Event, span: Span) -> Result<(), AllocError>
+        ensures { (es : List Given) → HasKept es self.old
+            → OnOk result (HasKept (es ++ (happening event.now, span) ∷ []) self.new) };
+}
+
+/// No spans are wanted.
+#[derive(Drop)]
+pub(crate) struct NoSpans;
+
+impl Keep for NoSpans {
+    ghost use Rattle.yaml_tree.specs.KeeperSeen.{AreUnkept};
+
+    ghost HasKept = { AreUnkept };
+
+    #[inline(always)]
+    fn keep(&mut self, _event: &Event, _span: Span) -> Result<(), AllocError> {
+        Ok(())
+    }
+}
+
 /// The spans of the documents that ended, and those so far of the document that is open.
 #[derive(Drop)]
 pub(crate) struct SpanKeeper {
@@ -36,10 +62,10 @@ pub(crate) struct SpanKeeper {
 }
 
 impl SpanKeeper {
-    ghost use Rattle.yaml_tree.specs.KeeperSeen.{HasKeptNone, kept_spans};
+    ghost use Rattle.yaml_tree.specs.KeeperSeen.{AreKept, kept_spans};
 
     pub(crate) fn new(alloc: Global) -> SpanKeeper
-        ensures { HasKeptNone result }
+        ensures { AreKept [] result }
     {
         SpanKeeper {
             alloc,
@@ -49,8 +75,7 @@ impl SpanKeeper {
         }
     }
 
-    // Keeps the span of an event. After an error no more may be kept.
-    pub(crate) fn keep(&mut self, event: &Event, span: Span) -> Result<(), AllocError>
+    fn keep_event(&mut self, event: &Event, span: Span) -> Result<(), AllocError>
         ensures { OnOk result (kept_spans self.new
             ≡ kept_behind (happening event.now) span (kept_spans self.old)) }
     {
@@ -90,5 +115,15 @@ impl SpanKeeper {
         };
         self.ended.push(spans)?;
         Ok(())
+    }
+}
+
+impl Keep for SpanKeeper {
+    ghost use Rattle.yaml_tree.specs.KeeperSeen.{AreKept};
+
+    ghost HasKept = { AreKept };
+
+    fn keep(&mut self, event: &Event, span: Span) -> Result<(), AllocError> {
+        self.keep_event(event, span)
     }
 }

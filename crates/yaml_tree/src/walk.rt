@@ -1,5 +1,5 @@
 //! The nodes of a tree one after the other, each before its parts, with the spans of their events (YAML 1.2.2, 3.1).
-ghost use Rattle.std.specs.Prelude.{◌≡◌, ℕ, ◌-◌, ◌∷◌, ◌++◌, length, option_map, OnOk, IfOk};
+ghost use Rattle.std.specs.Prelude.{◌≡◌, ℕ, ◌-◌, length, option_map, OnOk, IfOk};
 ghost use Rattle.yaml_tree.specs.declared.node.Node.{Node};
 ghost use Rattle.yaml_tree.specs.declared.paths.Step.{Step as StepSeen};
 ghost use Rattle.std.specs.Option.{option_to_list};

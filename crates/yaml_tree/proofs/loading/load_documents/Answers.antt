@@ -1,5 +1,6 @@
 use Rattle.std.proofs.Common.{Bool, [], Err}
 use Rattle.saphyr_parser.specs.Cursor.{to_come}
+use Rattle.yaml_tree.specs.KeeperSeen.{AreUnkept}
 use Rattle.yaml_tree.proofs.Loads.{loads_all, loads_none, loads_behind, takes_all}
 use Rattle.yaml_tree.proofs.Leaving.{leaves_behind, leaves_looked}
 use Rattle.yaml_tree.proofs.loading.load_documents.Goals as goal
@@ -10,13 +11,13 @@ returns-in-Err-clause-loads g c =
     let left = to_come c.take_events.new.parser in
     let begins = c.if-not-is_at_start.ensures.begins in
     loads_behind c.args.limits (to_come c.args.parser.now) mid left (Err c.in-Err.fault) begins.0
-    (loads_none c.args.limits mid left c.take_events.new.self c.in-Err.fault begins.1
-    (c.in-Err.ensures.takes c.args.limits [] c.new-loader.ensures))
+    (loads_none c.args.limits mid left c.in-Err.fault begins.1
+    (c.in-Err.ensures.takes c.args.limits [] (c.new-loader.ensures tt)))
 
 pub returns-in-Err-clause-leaves : goal.returns-in-Err-clause-leaves
 returns-in-Err-clause-leaves g c = leaves_looked Bool _ c.in-Err.fault _ _ _
     c.if-not-is_at_start.ensures.looks c.if-not-is_at_start.ensures.begins.1
-    (c.in-Err.ensures.leaves c.args.limits [] c.new-loader.ensures)
+    (c.in-Err.ensures.leaves c.args.limits [] (c.new-loader.ensures tt))
 
 pub returns-in-Ok-clause-loads : goal.returns-in-Ok-clause-loads
 returns-in-Ok-clause-loads g c =
@@ -24,8 +25,8 @@ returns-in-Ok-clause-loads g c =
     let left = to_come c.take_events.new.parser in
     let l = c.take_events.new.self in
     let begins = c.if-not-is_at_start.ensures.begins in
-    let takes = c.in-Ok.ensures.takes c.args.limits [] c.new-loader.ensures in
-    let none = takes_all c.args.limits c.in-Ok.field-0 mid left l takes in
+    let takes = c.in-Ok.ensures.takes c.args.limits [] (c.new-loader.ensures tt) in
+    let none = takes_all AreUnkept c.args.limits c.in-Ok.field-0 mid left l takes in
     loads_behind c.args.limits (to_come c.args.parser.now) mid left c.finish.result begins.0
     (loads_all c.args.limits mid left l c.finish.result begins.1 (rw none at takes) c.finish.ensures)
 
@@ -33,7 +34,7 @@ pub returns-in-Ok-clause-leaves : goal.returns-in-Ok-clause-leaves
 returns-in-Ok-clause-leaves g c =
     let mid = to_come c.is_at_start.new.parser in
     let left = to_come c.take_events.new.parser in
-    let none = takes_all c.args.limits c.in-Ok.field-0 mid left c.take_events.new.self
-    (c.in-Ok.ensures.takes c.args.limits [] c.new-loader.ensures) in
+    let none = takes_all AreUnkept c.args.limits c.in-Ok.field-0 mid left c.take_events.new.self
+    (c.in-Ok.ensures.takes c.args.limits [] (c.new-loader.ensures tt)) in
     leaves_behind c.finish.result _ _ _ _ c.if-not-is_at_start.ensures.looks c.if-not-is_at_start.ensures.begins.1
-    (rw none at (c.in-Ok.ensures.leaves c.args.limits [] c.new-loader.ensures)) c.finish.ensures
+    (rw none at (c.in-Ok.ensures.leaves c.args.limits [] (c.new-loader.ensures tt))) c.finish.ensures

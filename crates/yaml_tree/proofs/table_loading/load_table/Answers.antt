@@ -10,7 +10,7 @@ returns-in-Err-clause-loads g c =
     let left = to_come c.take_events.new.parser in
     loads_behind c.args.limits (to_come c.args.parser.now) mid left (Err c.in-Err.fault)
     c.if-not-is_at_start.ensures.begins.0 (loads_none c.args.limits mid left c.take_events.new.self c.in-Err.fault
-    (c.in-Err.ensures.takes c.args.limits c.new-grower.ensures))
+    c.if-not-is_at_start.ensures.begins.1 (c.in-Err.ensures.takes c.args.limits c.new-grower.ensures))
 
 pub returns-in-Err-clause-leaves : goal.returns-in-Err-clause-leaves
 returns-in-Err-clause-leaves g c = leaves_looked Bool _ c.in-Err.fault _ _ _ c.if-not-is_at_start.ensures.looks

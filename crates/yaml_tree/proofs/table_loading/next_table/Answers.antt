@@ -7,7 +7,7 @@ use Rattle.yaml_tree.proofs.table_loading.next_table.Goals as goal
 pub returns-in-Err-clause-loads : goal.returns-in-Err-clause-loads
 returns-in-Err-clause-loads g c = λ between.
     fails_next c.args.limits (to_come c.args.parser.now) (to_come c.take_events.new.parser) c.take_events.new.self
-    c.in-Err.fault (c.in-Err.ensures.takes c.args.limits c.new-grower.ensures)
+    c.in-Err.fault between (c.in-Err.ensures.takes c.args.limits c.new-grower.ensures)
 
 pub returns-in-Err-clause-leaves : goal.returns-in-Err-clause-leaves
 returns-in-Err-clause-leaves g c = λ between.

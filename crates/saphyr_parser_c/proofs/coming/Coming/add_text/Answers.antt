@@ -1,10 +1,11 @@
 -- Where no bytes wait, the characters are taken as they are, and else with those.
 use Rattle.std.proofs.Common.{◌∙◌, [], arith, length, sym}
 use Rattle.std.proofs.lemmas.Bool.{eqb-false, eqb-true}
+use Rattle.std.proofs.lemmas.List.{nil_from_length}
 use denote.Enum.Bare.{same_false}
 use Rattle.saphyr_parser_c.specs.contracts.coming.Extent.{the_type}
 use Rattle.saphyr_parser_c.specs.declared.coming.Extent.TheVariants as extent
-use Rattle.saphyr_parser_c.proofs.Adding.{first_are_added, none_wait, text_taken}
+use Rattle.saphyr_parser_c.proofs.Adding.{first_are_added, text_taken}
 use Rattle.saphyr_parser_c.proofs.CutCharacters.{none_left}
 use Rattle.saphyr_parser_c.proofs.coming.Coming.add_text.Goals as goal
 
@@ -16,6 +17,6 @@ returns-then-is_empty-2 c =
     first_are_added text old c.take.new.self c.take.result
     (same_false the_type old.extent extent.All (sym c.eq.ensures ∙ c.if-eq.false))
     (omega (arith, eqb-false (length text) 0 (sym c.if-is_empty.ensures)))
-    (none_wait old.waiting.items (omega (arith, none)))
+    (nil_from_length old.waiting.items (omega (arith, none)))
     (text_taken text c.new.result old c.take.new.self c.take.result c.new.ensures.items c.requires (none_left [])
     c.take.ensures)

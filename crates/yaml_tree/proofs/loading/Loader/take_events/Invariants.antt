@@ -8,8 +8,10 @@ use Rattle.yaml_tree.proofs.DocumentRead.{ReadsOn}
 use Rattle.yaml_tree.proofs.loading.Loader.take_events.Given as goal
 
 abbrev pub invariant-loop-read : goal.invariant-loop-read
-invariant-loop-read g l = ((limits : Limits) (before : List Happening) → HasTaken limits before [] l.fn.self
-    → ReadsOn l.fn.all (λ es. HasTaken limits before es l.self) (to_come l.fn.parser) (to_come l.parser))
+invariant-loop-read g l = ((limits : Limits) (before : List Happening)
+    → HasTaken g.K.Keep.HasKept limits before [] l.fn.self
+    → ReadsOn l.fn.all (λ es. HasTaken g.K.Keep.HasKept limits before es l.self) (to_come l.fn.parser)
+    (to_come l.parser))
     × HasHandedOut l.fn.parser l.parser
 
 abbrev pub decreases-loop-read : goal.decreases-loop-read

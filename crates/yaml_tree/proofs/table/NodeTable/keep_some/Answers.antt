@@ -1,5 +1,5 @@
 use Rattle.std.proofs.Common.{◌≡◌, length, refl, rules}
-use Rattle.yaml_tree.proofs.Stores.{Keeping, keeps_ok, kept_ok}
+use Rattle.yaml_tree.proofs.Stores.{keeps_ok, kept_ok}
 use Rattle.yaml_tree.proofs.table.NodeTable.keep_some.Goals as goal
 
 pub returns-clause-stores : goal.returns-clause-stores

@@ -1,5 +1,4 @@
 use Rattle.std.proofs.Common.{arith, refl, ap, ◌≡◌, ◌∙◌, ◌+◌, ◌*◌, slice_get}
-use Rattle.yaml_tree.specs.declared.table.Content.TheVariants as content
 use Rattle.yaml_tree.specs.Tables.{store_of}
 use Rattle.yaml_tree.proofs.LookUps.{leads_to, no_item, no_part, of_entry}
 use Rattle.yaml_tree.proofs.table.NodeTable.part.Goals as goal

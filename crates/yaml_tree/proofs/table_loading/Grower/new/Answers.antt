@@ -1,4 +1,3 @@
-use Rattle.std.proofs.Common.{refl}
 use Rattle.yaml_tree.proofs.table_loading.Grower.new.Goals as goal
 
 pub returns : goal.returns
