@@ -57,6 +57,16 @@ wants_more p = wants_more_from p.source
 abbrev pub NeedsNoMore : Pieces → Pieces → Type 0
 NeedsNoMore old new = wants_more old ≡ false → wants_more new ≡ false
 
+-- ## More of the text
+
+abbrev pub AddsFrom : Bool → List ℕ → Pieces → Pieces → Type 0
+AddsFrom true more old new = (waiting new ≡ waiting old ++ more) × (wants_more new ≡ true)
+AddsFrom false more old new = new ≡ old
+
+-- These characters came, and wait behind those that wait. If no more of the text was wanted, nothing changes.
+abbrev pub AddsText : List ℕ → Pieces → Pieces → Type 0
+AddsText more old new = AddsFrom (wants_more old) more old new
+
 -- ## Out of memory
 
 -- Memory ran out while the text came. No more of it is wanted, and whatever comes, nothing is left but that fault.
@@ -64,10 +74,10 @@ abbrev pub IsLost : Pieces → Type 0
 IsLost p = (wants_more p ≡ false) × ((later : List ℕ) → to_come (at p later) ≡ fault_alone OutOfMemory)
 
 abbrev pub LosesFrom : Bool → Pieces → Pieces → Type 0
-LosesFrom true old new = IsLost new
+LosesFrom true old new = IsLost new × (waiting new ≡ waiting old)
 LosesFrom false old new = new ≡ old
 
--- The text is lost, if more of it was wanted. Otherwise nothing changes.
+-- The text is lost, if more of it was wanted, and nothing is added to what waits. Otherwise nothing changes.
 abbrev pub LosesText : Pieces → Pieces → Type 0
 LosesText old new = LosesFrom (wants_more old) old new
 

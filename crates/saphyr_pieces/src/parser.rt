@@ -5,7 +5,7 @@ ghost use Rattle.std.specs.Str.{chars, encode_utf8_all};
 ghost use Rattle.saphyr_scanner.specs.Limits.{most_characters};
 ghost use Rattle.saphyr_scanner.specs.Steps.Remaining.{scan};
 ghost use Rattle.saphyr_machine.specs.Cursor.{at_start, keeping_tags};
-ghost use Rattle.saphyr_pieces.specs.Pieces.{FaultIsLast, HandsOutOrWaits, LosesText, NeedsNoMore, at, waiting, wants_more};
+ghost use Rattle.saphyr_pieces.specs.Pieces.{AddsText, FaultIsLast, HandsOutOrWaits, LosesText, NeedsNoMore, at, waiting, wants_more};
 
 use crate::pieces::PieceReader;
 use saphyr_machine::{Event, Fault, Progress};
@@ -52,6 +52,7 @@ impl PieceParser {
         ensures decided { IfOk result (λ p. (text : List ℕ)
             → at p text ≡ at_start (scan most_characters text)) }
         ensures wants { IfOk result (λ p. wants_more p ≡ true) }
+        ensures waits { IfOk result (λ p. waiting p ≡ []) }
     {
         PieceParser::with_limit(alloc, MOST_CHARACTERS)
     }
@@ -63,6 +64,7 @@ impl PieceParser {
         ensures decided { IfOk result (λ p. (text : List ℕ)
             → at p text ≡ at_start (scan limit text)) }
         ensures wants { IfOk result (λ p. wants_more p ≡ true) }
+        ensures waits { IfOk result (λ p. waiting p ≡ []) }
     {
         Ok(PieceParser {
             reader: PieceReader::new(alloc, limit),
@@ -95,6 +97,7 @@ impl PieceParser {
     pub fn add(&mut self, more: &str) -> Result<(), AllocError>
         ensures at { IfOk result (λ _. (later : List ℕ)
             → at self.new later ≡ at self.old (chars more.now ++ later)) }
+        ensures waits { IfOk result (λ _. AddsText (chars more.now) self.old self.new) }
         ensures enough { NeedsNoMore self.old self.new }
         ensures lost { OnErr result (LosesText self.old self.new) }
     {
@@ -107,6 +110,7 @@ impl PieceParser {
     pub fn end(&mut self) -> Result<(), AllocError>
         ensures at { IfOk result (λ _. (later : List ℕ) → at self.new later ≡ at self.old []) }
         ensures all { wants_more self.new ≡ false }
+        ensures waits { waiting self.new ≡ waiting self.old }
         ensures lost { OnErr result (LosesText self.old self.new) }
     {
         self.reader.end()
@@ -147,6 +151,7 @@ impl PieceParser {
     pub fn keep_tags(&mut self, value: bool)
         ensures at { (later : List ℕ) → at self.new later ≡ keeping_tags value (at self.old later) }
         ensures wants { wants_more self.new ≡ wants_more self.old }
+        ensures waits { waiting self.new ≡ waiting self.old }
     {
         self.reader.keep_tags(value);
     }

@@ -12,8 +12,8 @@ ghost use Rattle.saphyr_scanner.specs.Steps.Remaining.{scan};
 ghost use Rattle.saphyr_scanner.specs.Views.Scanning.{text_in};
 ghost use Rattle.saphyr_machine.specs.Answer.{OutOfMemory};
 ghost use Rattle.saphyr_machine.specs.Cursor.{at_start, keeping_tags};
-ghost use Rattle.saphyr_machine.specs.Views.Readers.{cursor, cursor_in};
-ghost use Rattle.saphyr_pieces.specs.Pieces.{FaultIsLast, HandsOutOrWaits, IsLost, LosesText, NeedsNoMore, at, wants_more};
+ghost use Rattle.saphyr_machine.specs.Views.Readers.{cursor, cursor_in, scanning_of};
+ghost use Rattle.saphyr_pieces.specs.Pieces.{AddsText, FaultIsLast, HandsOutOrWaits, IsLost, LosesText, NeedsNoMore, at, waiting, wants_more};
 ghost use Rattle.saphyr_pieces.specs.Passed.{passed_tokens};
 ghost use Rattle.saphyr_pieces.specs.Views as spec;
 ghost use Rattle.saphyr_pieces.specs.declared.pieces.Source.TheVariants.{Given};
@@ -72,7 +72,8 @@ pub(crate) struct PieceReader {
 
 // A reader of an empty text, of which more may come.
 fn empty_reader(alloc: Global, limit: usize) -> EventReader<'static, OwnedText>
-    ensures { (text : List ℕ) → cursor_in text result ≡ at_start (scan limit text) }
+    ensures start { (text : List ℕ) → cursor_in text result ≡ at_start (scan limit text) }
+    ensures rest { (scanning_of result).state.core.cursor.rest ≡ [] }
 {
     let text = OwnedText::new(alloc, String::new(alloc));
     let mut scanner = Scanner::new(alloc, text, limit);
@@ -99,6 +100,7 @@ impl PieceReader {
         ensures start { (text : List ℕ) → at (spec.pieces_of result) text
             ≡ at_start (scan limit text) }
         ensures wants { wants_more (spec.pieces_of result) ≡ true }
+        ensures waits { waiting (spec.pieces_of result) ≡ [] }
         ensures sound { spec.IsSoundReader result }
     {
         PieceReader {
@@ -130,6 +132,7 @@ impl PieceReader {
             → spec.place_in later (passed_tokens self.new.passed) self.new.reader
             ≡ at (spec.pieces_of self.old) (text_in growth later [])) }
         ensures more { IfOk result (λ _. chars (string_bytes self.new.more) ≡ []) }
+        ensures waits { waiting (spec.pieces_of self.new) ≡ waiting (spec.pieces_of self.old) }
         ensures source { self.new.source ≡ self.old.source }
         ensures sound { spec.IsSoundReader self.new }
         ensures same { OnErr result (spec.pieces_of self.new ≡ spec.pieces_of self.old) }
@@ -275,6 +278,7 @@ impl PieceReader {
     fn lose(&mut self)
         requires { spec.IsSoundReader self.old }
         ensures lost { IsLost (spec.pieces_of self.new) }
+        ensures waits { waiting (spec.pieces_of self.new) ≡ waiting (spec.pieces_of self.old) }
         ensures sound { spec.IsSoundReader self.new }
     {
         self.source = Source::Lost;
@@ -299,6 +303,8 @@ impl PieceReader {
         ensures at { IfOk result (λ _. (later : List ℕ)
             → at (spec.pieces_of self.new) later
             ≡ at (spec.pieces_of self.old) (chars more.now ++ later)) }
+        ensures waits { IfOk result (λ _.
+            AddsText (chars more.now) (spec.pieces_of self.old) (spec.pieces_of self.new)) }
         ensures enough { NeedsNoMore (spec.pieces_of self.old) (spec.pieces_of self.new) }
         ensures lost { OnErr result
             (LosesText (spec.pieces_of self.old) (spec.pieces_of self.new)) }
@@ -324,6 +330,7 @@ impl PieceReader {
         ensures at { IfOk result (λ _. (later : List ℕ)
             → at (spec.pieces_of self.new) later ≡ at (spec.pieces_of self.old) []) }
         ensures all { wants_more (spec.pieces_of self.new) ≡ false }
+        ensures waits { waiting (spec.pieces_of self.new) ≡ waiting (spec.pieces_of self.old) }
         ensures lost { OnErr result
             (LosesText (spec.pieces_of self.old) (spec.pieces_of self.new)) }
         ensures sound { spec.IsSoundReader self.new }
@@ -354,6 +361,7 @@ impl PieceReader {
             ≡ keeping_tags value (at (spec.pieces_of self.old) later) }
         ensures wants { wants_more (spec.pieces_of self.new)
             ≡ wants_more (spec.pieces_of self.old) }
+        ensures waits { waiting (spec.pieces_of self.new) ≡ waiting (spec.pieces_of self.old) }
         ensures sound { spec.IsSoundReader self.new }
     {
         self.reader.keep_tags(value);

@@ -3,7 +3,7 @@
 ghost use Rattle.std.specs.Prelude.{◌≡◌, ◌++◌, List, ℕ, [], IfOk, OnErr, None};
 ghost use Rattle.std.specs.Str.{chars};
 ghost use Rattle.saphyr_scanner.specs.Views.Scanning.{text_in};
-ghost use Rattle.saphyr_machine.specs.Views.Readers.{cursor_in};
+ghost use Rattle.saphyr_machine.specs.Views.Readers.{cursor_in, scanning_of};
 ghost use Rattle.saphyr_pieces.specs.Passed.{passed_tokens};
 ghost use Rattle.saphyr_pieces.specs.Views as spec;
 
@@ -88,6 +88,8 @@ pub(super) fn grow(
 ) -> Result<(), AllocError>
     ensures cursor { IfOk result (λ _. (later : List ℕ) → cursor_in later reader.new
         ≡ cursor_in (chars more.now ++ text_in growth later []) reader.old) }
+    ensures rest { IfOk result (λ _. (scanning_of reader.new).state.core.cursor.rest
+        ≡ (scanning_of reader.old).state.core.cursor.rest ++ chars more.now) }
     ensures same { OnErr result (reader.new ≡ reader.old) }
 {
     let Growth::Growing = reader.growth() else {

@@ -7,8 +7,8 @@ use Rattle.saphyr_machine.specs.Cursor.{at_start}
 use Rattle.saphyr_pieces.proofs.Places.{begun}
 use Rattle.saphyr_pieces.proofs.pieces.empty_reader.Goals as goal
 
-pub returns : goal.returns
-returns c text =
+pub returns-clause-start : goal.returns-clause-start
+returns-clause-start c text =
     c.new-3.ensures.cursor text
     ∙ ap at_start
     (begun c.exchange.new.self _ text c.args.limit
@@ -16,3 +16,8 @@ returns c text =
     (ap (λ (s : Scanning). s.limit) c.exchange.ensures.scanner ∙ c.new-scanner.ensures.limit)
     (ap (λ (s : Scanning). s.growth) c.exchange.ensures.scanner)
     (c.new-text-2.ensures ∙ ap chars c.new-2.ensures.bytes ∙ chars-nil))
+
+pub returns-clause-rest : goal.returns-clause-rest
+returns-clause-rest c =
+    ap (λ (s : Scanning). s.state.core.cursor.rest) (c.new-3.ensures.scanner ∙ c.exchange.ensures.scanner)
+    ∙ c.new-text-2.ensures ∙ ap chars c.new-2.ensures.bytes ∙ chars-nil

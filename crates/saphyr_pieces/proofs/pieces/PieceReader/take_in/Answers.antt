@@ -2,11 +2,12 @@
 use Rattle.std.proofs.Common.{◌≡◌, ◌++◌, List, [], ℕ, Option, sym, ap, subst, ◌∙◌}
 use Rattle.std.specs.Prelude.{string_bytes}
 use Rattle.std.specs.Str.{chars}
+use Rattle.std.proofs.lemmas.List.{append-nil}
 use Rattle.std.proofs.lemmas.Str.{chars-nil}
 use Rattle.saphyr_scanner.specs.Views.Scanning.{text_in}
 use Rattle.saphyr_machine.specs.Cursor.{EventCursor}
 use Rattle.saphyr_machine.specs.declared.reader.EventReader.{EventReader}
-use Rattle.saphyr_machine.specs.Views.Readers.{cursor_in}
+use Rattle.saphyr_machine.specs.Views.Readers.{cursor_in, scanning_of}
 use Rattle.saphyr_pieces.specs.declared.owned.OwnedText.{OwnedText}
 use Rattle.saphyr_pieces.specs.declared.pieces.passed.Passed.{Passed}
 use Rattle.saphyr_pieces.specs.Passed.{passed_tokens}
@@ -34,6 +35,25 @@ returns-clause-at c later =
 
 pub returns-clause-more : goal.returns-clause-more
 returns-clause-more c = ap chars c.clear.ensures.bytes ∙ chars-nil
+
+-- what came is the reader's, and nothing waits behind that
+goes_over : (new middle old : EventReader OwnedText) (none came bytes : List ℕ) → new ≡ middle
+    → (scanning_of middle).state.core.cursor.rest ≡ (scanning_of old).state.core.cursor.rest ++ chars came
+    → came ≡ bytes → none ≡ []
+    → (scanning_of new).state.core.cursor.rest ++ none ≡ (scanning_of old).state.core.cursor.rest ++ chars bytes
+goes_over new middle old none came bytes same rest is nothing =
+    let before = (scanning_of old).state.core.cursor.rest in
+    ap (λ (r : EventReader OwnedText). (scanning_of r).state.core.cursor.rest ++ none) same
+    ∙ ap (λ (cs : List ℕ). cs ++ none) rest
+    ∙ ap (λ (cs : List ℕ). (before ++ chars came) ++ cs) nothing
+    ∙ append-nil (before ++ chars came)
+    ∙ ap (λ (bs : List ℕ). before ++ chars bs) is
+
+pub returns-clause-waits : goal.returns-clause-waits
+returns-clause-waits c =
+    goes_over c.extend_copy.new.self.reader _ c.args.self.now.reader (chars (string_bytes c.clear.new.self)) _
+    (string_bytes c.args.self.now.more) c.extend_copy.ensures.reader c.in_ok-grow.ensures.rest c.deref.ensures
+    (ap chars c.clear.ensures.bytes ∙ chars-nil)
 
 pub returns-clause-sound : goal.returns-clause-sound
 returns-clause-sound c =
