@@ -6,7 +6,7 @@ byte by byte: the rules of docs/FACES.md, "From a pipe".
    that has none, or begins with the next one, comes with that.
 3. A collection in brackets that may be a key counts as one event. It may be one if neither `---` nor a key's colon is
    before it on its line.
-4. Where 256 bytes or more wait by then, as many may have to come again first.
+4. Where 256 bytes or more wait by then, as many may have to come again first, but for a marker that a line has alone.
 
 Behind a NUL, which a text may not have, nothing has to be there.
 
@@ -43,6 +43,12 @@ def events_of(case):
 
 def is_marker(event, text):
     return event.name in ("+DOC ---", "-DOC") and text[event.start : event.end] in (b"---", b"...")
+
+
+def is_line(event, text):
+    """Whether a line has the characters of an event alone."""
+    line = text[: line_end(text, event.start)].rstrip(b"\r\n").replace(b"\r", b"\n").rpartition(b"\n")[2]
+    return line == text[event.start : event.end]
 
 
 def is_bracket(event, text):
@@ -101,9 +107,11 @@ def due(case):
         elif later:
             dues[at] = line_end(text, later.start)
         dues[at] = min(dues[at : at + 2])
+    markers = {line_end(text, it.start) for it in events if is_marker(it, text) and is_line(it, text)}
     for at, event in enumerate(events):
         waits = dues[at] - waits_from
-        yield len(text) + 1 if b"\0" in text[: dues[at]] else dues[at] + (waits if waits >= LITTLE else 0)
+        again = waits if waits >= LITTLE and dues[at] not in markers else 0
+        yield len(text) + 1 if b"\0" in text[: dues[at]] else dues[at] + again
         waits_from = max(waits_from, event.end)
 
 

@@ -65,7 +65,7 @@ pub(crate) struct PieceReader {
     // What ends what waits, and how many bytes of `more` were looked at for that.
     ending: Ending,
     seen: usize,
-    // How many bytes of `more` were looked at, where that is little, for what may decide an event.
+    // How many bytes of `more` were looked at for what may decide an event.
     looked: usize,
     alloc: Global,
 }

@@ -195,6 +195,23 @@ fn begins_marker(text: &str) -> bool {
     text.starts_with("---") || text.starts_with("...")
 }
 
+// Whether two parts of a text end with a line that has `---` or `...` alone, but for a CR.
+fn is_marker_last(front: &str, lines: &str) -> bool {
+    // Mostly the line has another last character.
+    if !lines.is_empty() && !lines.ends_with(['-', '.', '\r']) {
+        return false;
+    }
+    let mut bytes = lines.bytes().rev().chain(front.bytes().rev());
+    let mut last = bytes.next();
+    if last == Some(b'\r') {
+        last = bytes.next();
+    }
+    matches!(last, Some(b'-' | b'.'))
+        && bytes.next() == last
+        && bytes.next() == last
+        && matches!(bytes.next(), Some(b'\n' | b'\r'))
+}
+
 /// How many lines without a token a text begins with: empty ones, and those of blanks or a comment alone, if they end in
 /// LF or CR LF. In a comment, the first byte of a byte order mark ends the count.
 pub(super) fn idle_lines(text: &str) -> usize {
@@ -305,22 +322,36 @@ impl PieceReader {
         is_much || matches!(ending, Ending::Any)
     }
 
-    // Where the lines begin of which none was searched.
-    fn unsearched(&self) -> usize {
-        match self.more.get(..self.looked) {
-            Some(front) if front.ends_with('\n') => self.looked,
+    // Where the lines begin of which none was searched, if what came was looked at up to a place.
+    fn unsearched(&self, looked: usize) -> usize {
+        match self.more.get(..looked) {
+            Some(front) if front.ends_with('\n') => looked,
             _ => 0,
         }
     }
 
-    // Whether what came since the last look may decide an event.
-    fn has_new(&mut self) -> bool
-        requires sound { spec.IsSoundReader self.old }
-        ensures same { spec.pieces_of self.new ≡ spec.pieces_of self.old }
-        ensures sound { spec.IsSoundReader self.new }
-    {
-        let looked = replace(&mut self.looked, self.more.len());
+    // Whether what came behind a place may decide an event.
+    fn has_new(&self, looked: usize) -> bool {
         self.more.get(looked..).is_none_or(may_matter) || self.more.starts_with("---")
+    }
+
+    // Whether the last line that ends behind a place is a marker alone, which ends whatever waits.
+    fn ends_marker(&self, looked: usize) -> bool {
+        let text = self.reader.input().as_str();
+        match self.more.strip_suffix('\n') {
+            Some(lines) => is_marker_last(text, lines),
+            None
+                if self
+                    .more
+                    .get(looked..)
+                    .is_some_and(|came| came.contains('\n')) => {
+                match self.more.rsplit_once('\n') {
+                    Some((lines, _)) => is_marker_last(text, lines),
+                    None => false,
+                }
+            }
+            None => false,
+        }
     }
 
     // Whether what came from a place on may well decide an event.
@@ -352,13 +383,15 @@ impl PieceReader {
         if came == 0 {
             return false;
         }
+        let looked = replace(&mut self.looked, came);
         let left = self.reader.input().as_str().len();
         let waits = left.saturating_add(self.weight);
-        let from = self.unsearched();
-        let decides = if came < waits.max(LITTLE) {
-            waits < LITTLE && self.has_new() && self.may_decide_from(from)
+        let decides = if waits < LITTLE && came < LITTLE {
+            self.has_new(looked) && self.may_decide_from(self.unsearched(looked))
+        } else if came < waits || came.saturating_sub(self.seen) < PART {
+            self.ends_marker(looked)
         } else {
-            came.saturating_sub(self.seen) >= PART && self.may_end(waits)
+            self.may_end(waits)
         };
         if !decides && left <= self.look_past && self.look_past - left < came {
             // Not all that came was looked at for its end.
