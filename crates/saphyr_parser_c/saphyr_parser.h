@@ -36,6 +36,14 @@
  *     while ((status = saphyr_load_next(&parser, 100000, 100, &event)) == SAPHYR_LOADED)
  *         ... saphyr_root(&parser, 0) is the root ...
  *
+ * Of such a text in pieces, where SAPHYR_MORE asks for those of a document that isn't all there:
+ *
+ *     while (status >= 0 && (status = saphyr_load_next(&parser, 100000, 100, &event)) > 0)
+ *         if (status == SAPHYR_MORE)
+ *             status = saphyr_add(&parser, bytes, fread(bytes, 1, sizeof bytes, file));
+ *         else
+ *             ... saphyr_root(&parser, 0) is the root ...
+ *
  * Whether a text is YAML 1.2.2, which needs no parser:
  *
  *     saphyr_deviation deviation = {0};
@@ -108,7 +116,8 @@ enum saphyr_status {
     /* saphyr_next, saphyr_peek, saphyr_describe: the event is written. */
     SAPHYR_EVENT = 1,
     /* saphyr_next, saphyr_peek, of a text that comes in pieces: as far as the parser has looked, bytes that did not
-       come may change the next event. No event is written, but `start` says where the last one ends. */
+       come may change the next event. No event is written, but `start` says where the last one ends. saphyr_load_next:
+       the same, where the next document is not all there. */
     SAPHYR_MORE = 2,
     /* saphyr_load_next: the next document is loaded. */
     SAPHYR_LOADED = 3,
@@ -139,14 +148,14 @@ enum saphyr_status {
     /* saphyr_add: all of the text is there already, since saphyr_new or saphyr_new_utf8 was given it or its end was
        told; or saphyr_add ran out of memory before. Nothing is added. */
     SAPHYR_WHOLE = -6,
-    /* saphyr_next, saphyr_peek: as SAPHYR_MORE, but more bytes wait for the next event than saphyr_new_pieces was told
-       that may. What waits is behind `start`. The parser stays where it was, and gives the rest of the events if the
-       end of the text is told. Only tested: that it comes only where no event can be told. */
+    /* saphyr_next, saphyr_peek, saphyr_load_next: as SAPHYR_MORE, but more bytes wait for the next event than
+       saphyr_new_pieces was told that may. What waits is behind `start`. Nothing that came is lost: the rest is given
+       if the end of the text is told. Only tested: that it comes only where no event can be told. */
     SAPHYR_TOO_MUCH = -7,
     /* saphyr_load, saphyr_load_next: the trees would have more nodes than allowed, or be deeper. `start` says where. */
     SAPHYR_TOO_LARGE = -8,
-    /* saphyr_load: the parser has handed out events already. saphyr_load_next: it is inside a document. Both: its text
-       comes in pieces. */
+    /* saphyr_load: the parser has handed out events already, or its text comes in pieces. saphyr_load_next: the parser
+       is inside a document of which the call has not taken each event so far. */
     SAPHYR_LATE = -9,
     /* saphyr_next_finding, saphyr_next_note: the handle is empty, as no text was checked or it was freed. */
     SAPHYR_NOT_CHECKED = -10,
@@ -376,7 +385,8 @@ size_t saphyr_valid_up_to(const uint8_t *text, size_t len);
  *
  * Returns SAPHYR_EVENT, SAPHYR_END, SAPHYR_REFUSED, SAPHYR_NO_MEMORY or SAPHYR_NO_PARSER. If the text comes in pieces
  * and the next event waits for bytes that did not come, returns SAPHYR_MORE or, past the limit, SAPHYR_TOO_MUCH, and
- * the parser stays where it was.
+ * the parser stays where it was. If saphyr_load_next waits for the rest of a document, an event that is handed out
+ * here gives that document up.
  */
 int32_t saphyr_next(saphyr_parser *parser, saphyr_event *event);
 
@@ -416,7 +426,8 @@ typedef size_t saphyr_node;
  * Loads all documents of a parser as trees, which the parser keeps. It must have handed out no event; shown is allowed.
  * The trees may have `nodes` nodes in all, where an alias counts as one, and `depth` collections open at once. Trees
  * that were loaded before are freed, whatever it returns. Once the documents are loaded no event is left. A clone has
- * no trees.
+ * no trees. Of a text that comes in pieces saphyr_load_next loads one document after the other.
+ *
  * Returns SAPHYR_OK; or SAPHYR_REFUSED, SAPHYR_TOO_LARGE, SAPHYR_NO_MEMORY, SAPHYR_LATE or SAPHYR_NO_PARSER, and then
  * there are no trees. `event` says why and where, and its text may be read until the next call with the parser. After
  * SAPHYR_TOO_LARGE the parser is behind the event that was too many.
@@ -430,9 +441,18 @@ int32_t saphyr_load(saphyr_parser *parser, size_t nodes, size_t depth, saphyr_ev
  * saphyr_load, for this document alone. What was loaded before is freed, whatever it returns. The root is
  * saphyr_root(parser, 0).
  *
- * Returns SAPHYR_LOADED; or SAPHYR_END after the last document; or SAPHYR_REFUSED, SAPHYR_TOO_LARGE, SAPHYR_NO_MEMORY,
- * SAPHYR_LATE or SAPHYR_NO_PARSER, where `event` says why and where. If it is not SAPHYR_LOADED there are no trees.
- * After SAPHYR_TOO_LARGE the parser is behind the event that was too many, so inside the document.
+ * Of a text that comes in pieces it loads the document once saphyr_next could hand out its last event. Until then it
+ * takes the events that come, keeps what they tell of the document, and returns SAPHYR_MORE or, past the limit on what
+ * may wait, SAPHYR_TOO_MUCH. Only tested: that it waits only where saphyr_next would. `start` says where the last event
+ * that came ends. Once more was added, or the end told, call it again: it goes on with the document, within the limits
+ * of the call that took its first event, or the stream's start before that. In between, an event that saphyr_next hands
+ * out gives the document up. A saphyr_next that hands out none does not, and saphyr_peek does not. A clone has nothing
+ * of the tree.
+ *
+ * Returns SAPHYR_LOADED; or SAPHYR_END after the last document; or SAPHYR_MORE or SAPHYR_TOO_MUCH; or SAPHYR_REFUSED,
+ * SAPHYR_TOO_LARGE, SAPHYR_NO_MEMORY, SAPHYR_LATE or SAPHYR_NO_PARSER, where `event` says why and where. If it is not
+ * SAPHYR_LOADED there are no trees. After SAPHYR_TOO_LARGE the parser is behind the event that was too many, so inside
+ * the document.
  */
 int32_t saphyr_load_next(saphyr_parser *parser, size_t nodes, size_t depth, saphyr_event *event);
 

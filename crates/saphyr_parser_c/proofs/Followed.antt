@@ -12,10 +12,11 @@ use Rattle.yaml_tree.specs.declared.table.Entry.{Entry}
 use Rattle.yaml_tree.specs.declared.table.NodeTable.{NodeTable}
 use Rattle.yaml_tree.specs.Accessing.{is_this_text}
 use Rattle.yaml_tree.specs.Tables.{AreNodes, CountsParts, Event, FindsNumber, IsMadeOf, IsNodeAt, IsTable, HasNumber, OfNode, Store, TellsFirst, all_of, nodes_begun, count_of, none as no_parts, numbers, one_more, part_of_step, store_of}
-use Rattle.saphyr_parser_c.specs.Followed.{FollowsAlias, FollowsIn, GetsAt, HasKeyText, IsKey, IsPairOfParts, IsTextOfKey, IsThere, LeadsFrom, named_by, named_in, text_of_first, scalar_text}
+use Rattle.saphyr_parser_c.specs.Followed.{FollowsAlias, GetsAt, HasKeyText, IsKey, IsTextOfKey, IsThere, LeadsFrom, named_by, named_in, text_of_first, scalar_text}
 use Rattle.yaml_tree.proofs.Entries.{entry_there, entry_told}
 use Rattle.yaml_tree.proofs.LookUps.{length-numbers}
-use Rattle.yaml_tree.proofs.Places.{begun-append, made_once, place_once, start_begins, within}
+use Rattle.yaml_tree.proofs.Places.{begun-append, made_once, place_once, within}
+use Rattle.yaml_tree.proofs.Roots.{start_event}
 
 -- ## Places
 
@@ -60,7 +61,7 @@ part_there es number own step k at leads = elim leads.made [
       let get = get_of (numbers (suc number) leads.parts) k (part_of_step leads.first.0 step) leads.leads in
       let long = begun-append at.front (leads.first ∷ []) in
       let before = at.first in
-      let one = start_begins leads.first.0 m.0 in
+      let one = (start_event leads.first.0 m.0).0 in
       let there = part_placed es (at.front ++ leads.first ∷ []) (leads.last ∷ at.behind) (suc number) leads.parts get.0 k m.2
       (at.split ∙ ap (λ (l : List Event). at.front ++ (l ++ at.behind)) m.1
       ∙ ap (λ (l : List Event). at.front ++ (leads.first ∷ l)) (append_assoc (all_of leads.parts) (leads.last ∷ []) at.behind)

@@ -92,7 +92,7 @@ gives_same (Some (Err f)) y old new (g, is, same) gives =
     subst (λ (z : Item). GivesNext z old new) (sym is) (fails_same old.current old.kept f g old new same gives)
 
 -- it ends at the same place
-ends_same : (x y : Item) (last : Marker) → IsSameItem x y → end_of_last y last ≡ end_of_last x last
+pub ends_same : (x y : Item) (last : Marker) → IsSameItem x y → end_of_last y last ≡ end_of_last x last
 ends_same None y last same = ap (λ (z : Item). end_of_last z last) same
 ends_same (Some (Ok e)) y last (f, is, same) =
     ap (λ (z : Item). end_of_last z last) is ∙ ap (λ (h : Happening × Span). h.1.end) same
@@ -119,11 +119,11 @@ written_so Q end event refused long memory (Some (Err fault.InsideDocument)) s c
 
 -- ## A text that comes in pieces
 
-same_place : (old new : Coming) → KeepsRest old new → (later : List ℕ)
+pub same_place : (old new : Coming) → KeepsRest old new → (later : List ℕ)
     → at_bytes new later ≡ at new.parser (chars (old.waiting.items ++ later))
 same_place old new same later = ap (λ (n : Coming). at_bytes n later) same.0
 
-gives_place : (item : Item) (old new : Coming) → KeepsRest old new
+pub gives_place : (item : Item) (old new : Coming) → KeepsRest old new
     → ((later : List ℕ) → GivesNext item (at old.parser later) (at new.parser later))
     → (later : List ℕ) → GivesNext item (at_bytes old later) (at_bytes new later)
 gives_place item old new same gives later =
@@ -179,7 +179,8 @@ waits_to_show _ old new before after c written w = absurd written
 -- what was shown is handed out
 pub hands_shown : (before after : Inner) (s : Status) (c : CEvent) (box : Box Coming Global)
     → before.source ≡ source.Pieces box → before.shown ≡ true
-    → WritesKept (record before { source = source.Pieces box; shown = false }) s c after → HandsToC before s c after
+    → WritesKept (record before { source = source.Pieces box; shown = false; growing = None }) s c after
+    → HandsToC before s c after
 hands_shown before after s c box from shown written =
     let old = box.value in (
       subst (λ (x : Source). HandsFrom x before s c after) (sym from) (
@@ -189,14 +190,15 @@ hands_shown before after s c box from shown written =
         subst (λ (b : Bool). MovesLastEndFrom b old old after) (sym shown) refl,
         as_hands before after s c old old written.writes (record {
           gives = λ later here is. gives_same (handed before) (handed after) here (at_bytes old later) written.same
-              (subst (λ (b : Bool). IsAtFrom b old before later here) shown is);
+              (subst (λ (b : Bool). IsAtFrom b old (handed before) later here) shown is);
           again = λ was. (written.same, refl);
           ended = λ was. absurd (true≢false (sym shown ∙ was));
           shown = written.others.1;
+          given_up = written.others.2.1;
           writes = written.writes;
         }),
       ),
-      written.others.2,
+      written.others.2.0,
     )
 
 -- what was shown is shown again
@@ -211,10 +213,10 @@ shows_shown before after s c box from shown written =
         (refl, λ enough. enough),
         subst (λ (b : Bool). MovesLastEndFrom b old old after) (sym shown) refl,
         as_shows before after s c old old written.writes (record {
-          place = λ later here is. subst (λ (b : Bool). IsAtFrom b old after later here)
+          place = λ later here is. subst (λ (b : Bool). IsAtFrom b old (handed after) later here)
               (sym (written.others.1 ∙ shown))
               (gives_same (handed before) (handed after) here (at_bytes old later) written.same
-              (subst (λ (b : Bool). IsAtFrom b old before later here) shown is));
+              (subst (λ (b : Bool). IsAtFrom b old (handed before) later here) shown is));
           again = λ was. (written.same, refl);
           ended = λ was. absurd (true≢false (sym shown ∙ was));
           shown = written.others.1 ∙ shown;
@@ -236,41 +238,42 @@ module _ (before : Inner) (s : Status) (c : CEvent) (from_box to_box : Box Comin
   abbrev read : Progress → Bool → Inner
   read p b = record before { source = source.Pieces to_box; next = next; fault = f; progress = p; shown = b }
 
-  behind : (p : Progress) (b : Bool) (after : Inner) → HandsOutOrWaits (Some p) next f old.parser new.parser
-      → WritesKept (read p b) s c after → (later : List ℕ) (here : EventCursor) → IsAt old before later here
-      → GivesNext (handed after) here (at_bytes new later)
-  behind p b after hands written later here is =
-      gives_same (item_at next f p) (handed after) here (at_bytes new later) written.same
+  behind : (p : Progress) (after : Inner) → HandsOutOrWaits (Some p) next f old.parser new.parser
+      → IsSameItem (item_at next f p) (handed after) → (later : List ℕ) (here : EventCursor)
+      → IsAt old before later here → GivesNext (handed after) here (at_bytes new later)
+  behind p after hands written later here is =
+      gives_same (item_at next f p) (handed after) here (at_bytes new later) written
       (subst (λ (x : EventCursor). GivesNext (item_at next f p) x (at_bytes new later))
-      (subst (λ (b : Bool). IsAtFrom b old before later here) shown is)
+      (subst (λ (b : Bool). IsAtFrom b old (handed before) later here) shown is)
       (gives_place (item_at next f p) old new same hands later))
 
-  passed : (p : Progress) (b : Bool) (after : Inner) → GoesBehind (Some p) next f old new
-      → WritesKept (read p b) s c after → MovesLastEndFrom before.shown old new after
-  passed p b after goes written =
+  passed : (p : Progress) (after : Inner) → GoesBehind (Some p) next f old new
+      → IsSameItem (item_at next f p) (handed after) → MovesLastEndFrom before.shown old new after
+  passed p after goes written =
       subst (λ (x : Bool). MovesLastEndFrom x old new after) (sym shown)
-      (goes ∙ sym (ends_same (item_at next f p) (handed after) old.last_end written.same))
+      (goes ∙ sym (ends_same (item_at next f p) (handed after) old.last_end written))
 
   -- what is read is handed out
   pub hands_next : (p : Progress) (after : Inner) → HandsOutOrWaits (Some p) next f old.parser new.parser
       → FaultIsLast (Some p) new.parser → GoesBehind (Some p) next f old new
-      → WritesKept (read p before.shown) s c after → HandsToC before s c after
+      → WritesKept (record (read p before.shown) { growing = None }) s c after → HandsToC before s c after
   hands_next p after hands ended goes kept =
-      let written = subst (λ (b : Bool). WritesKept (read p b) s c after) shown kept in (
+      let written = subst (λ (b : Bool). WritesKept (record (read p b) { growing = None }) s c after) shown kept in (
         subst (λ (x : Source). HandsFrom x before s c after) (sym from) (
           to_box,
           written.others.0,
           same,
-          passed p false after goes written,
+          passed p after goes written.same,
           as_hands before after s c old new written.writes (record {
-            gives = behind p false after hands written;
+            gives = behind p after hands written.same;
             again = λ was. absurd (true≢false (sym was ∙ shown));
             ended = λ was. ends_at_fault p next f (handed after) new ended written.same;
             shown = written.others.1;
+            given_up = written.others.2.1;
             writes = written.writes;
           }),
         ),
-        written.others.2,
+        written.others.2.0,
       )
 
   -- what is read is shown
@@ -282,10 +285,10 @@ module _ (before : Inner) (s : Status) (c : CEvent) (from_box to_box : Box Comin
       to_box,
       written.others.0,
       same,
-      passed p true after goes written,
+      passed p after goes written.same,
       as_shows before after s c old new written.writes (record {
-        place = λ later here is. subst (λ (b : Bool). IsAtFrom b new after later here) (sym written.others.1)
-            (behind p true after hands written later here is);
+        place = λ later here is. subst (λ (b : Bool). IsAtFrom b new (handed after) later here) (sym written.others.1)
+            (behind p after hands written.same later here is);
         again = λ was. absurd (true≢false (sym was ∙ shown));
         ended = λ was. ends_at_fault p next f (handed after) new ended written.same;
         shown = written.others.1;
@@ -305,10 +308,11 @@ module _ (before : Inner) (s : Status) (c : CEvent) (from_box to_box : Box Comin
     blank = subst (λ (m : Marker). HasFields no_fields m m c) goes waits.1;
     event = (refl, shown);
     wants = hands.0;
+    growing = refl;
     place = λ later here is. subst
-        (λ (b : Bool). IsAtFrom b new (read progress.Over before.shown) later here) (sym shown)
+        (λ (b : Bool). IsAtFrom b new (handed (read progress.Over before.shown)) later here) (sym shown)
         (same_place old new same later ∙ hands.1 (chars (old.waiting.items ++ later))
-        ∙ subst (λ (b : Bool). IsAtFrom b old before later here) shown is);
+        ∙ subst (λ (b : Bool). IsAtFrom b old (handed before) later here) shown is);
   }
 
   -- it waits in place of handing out or showing
@@ -353,5 +357,5 @@ module _ (before : Inner) (s : Status) (c : CEvent) (from_box to_box : Box Comin
     subst (λ (x : Source). ShowsFrom x before s c after) (sym from)
         (none_comes ShowsOfComing why after written hands goes (waits_at why place after waits is)
         (waits_to_show why old new before _ c written)),
-    ap (λ (a : Inner). a.table) waits.2,
+    (ap (λ (a : Inner). a.table) waits.2, ap (λ (a : Inner). a.growing) waits.2),
   )

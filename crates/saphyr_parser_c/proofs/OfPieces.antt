@@ -12,7 +12,7 @@ use Rattle.saphyr_parser_c.specs.declared.source.Source.{Source}
 use Rattle.saphyr_parser_c.specs.declared.source.Source.TheVariants as source
 use Rattle.saphyr_parser_c.specs.Coming.{IsOfNothing, at_bytes}
 use Rattle.saphyr_parser_c.specs.Coming.{IsCopyOfPieces, KeepsRest}
-use Rattle.saphyr_parser_c.specs.Inner.{IsCopyOfParser, IsFresh, IsOfPieces, IsShownCopy, IsSourceCopy, IsSourceOf, KeepsFrom}
+use Rattle.saphyr_parser_c.specs.Inner.{IsCopyOfParser, IsFresh, IsOfPieces, IsShownCopy, IsSourceCopy, IsSourceOf, KeepsFrom, KeepsTrees}
 
 pub made_of_pieces : (keep : Bool) (characters bytes : ℕ) (coming : Coming) (s : Source) (inner : Inner)
     → IsOfNothing keep characters bytes coming → IsSourceOf coming s → inner.source ≡ s → IsFresh inner
@@ -46,10 +46,10 @@ source_copied s copy old new is same (box, boxed, holds) =
     (box, boxed, subst (IsCopyOfPieces old.value) (sym holds) same)
 
 pub copied : (inner before after : Inner) (s : Source) → before.source ≡ s → IsFresh before
-    → IsSourceCopy inner.source s → after.source ≡ before.source → after.table ≡ before.table
+    → IsSourceCopy inner.source s → after.source ≡ before.source → KeepsTrees before after
     → (IsFresh before → IsShownCopy inner.shown inner after) → IsCopyOfParser inner after
 copied inner before after s is (none, empty) same stays trees shown = (
   subst (IsSourceCopy inner.source) (sym (stays ∙ is)) same,
   shown (none, empty),
-  subst IsEmptyTable (sym trees) empty,
+  (subst IsEmptyTable (sym trees.0) empty.0, trees.1 ∙ empty.1),
 )

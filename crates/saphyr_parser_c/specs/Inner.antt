@@ -47,9 +47,17 @@ pub record Promises (text : List ℕ) (parser : EventCursor) : Type 0 where
 abbrev pub KeepsNone : Inner → Type 0
 KeepsNone inner = (handed inner ≡ None) × (inner.shown ≡ false)
 
+-- it has no trees, and no part of one
+abbrev pub HasNoTrees : Inner → Type 0
+HasNoTrees inner = IsEmptyTable inner.table × (inner.growing ≡ None)
+
+-- its trees stay, and what came of the next one
+abbrev pub KeepsTrees : Inner → Inner → Type 0
+KeepsTrees before after = (after.table ≡ before.table) × (after.growing ≡ before.growing)
+
 -- nothing was handed out, shown or loaded here
 abbrev pub IsFresh : Inner → Type 0
-IsFresh inner = KeepsNone inner × IsEmptyTable inner.table
+IsFresh inner = KeepsNone inner × HasNoTrees inner
 
 -- a parser at the start of a text in UTF-8, which keeps the prefixes of tags or not, and no event yet
 pub record IsOverText (text : List ℕ) (keep : Bool) (inner : Inner) : Type 0 where
@@ -96,12 +104,12 @@ pub record ShowsOfWhole (old new : EventCursor) (s : Status) (c : CEvent) : Type
 
 -- Where the parser of a text in pieces is in the events of the whole text, if these bytes come later: at this place, or
 -- behind what is there, which was only shown.
-abbrev pub IsAtFrom : Bool → Coming → Inner → List ℕ → EventCursor → Type 0
-IsAtFrom false coming inner later c = at_bytes coming later ≡ c
-IsAtFrom true coming inner later c = GivesNext (handed inner) c (at_bytes coming later)
+abbrev pub IsAtFrom : Bool → Coming → Option (Result (Event × Span) Fault) → List ℕ → EventCursor → Type 0
+IsAtFrom false coming shown later c = at_bytes coming later ≡ c
+IsAtFrom true coming shown later c = GivesNext shown c (at_bytes coming later)
 
 abbrev pub IsAt : Coming → Inner → List ℕ → EventCursor → Type 0
-IsAt coming inner later c = IsAtFrom inner.shown coming inner later c
+IsAt coming inner later c = IsAtFrom inner.shown coming (handed inner) later c
 
 -- It depends on bytes that did not come. No event is written, but where the last one ends, and the place stays.
 pub record WaitsForMore (old : Coming) (before : Inner) (s : Status) (c : CEvent) (new : Coming) (after : Inner)
@@ -111,6 +119,7 @@ pub record WaitsForMore (old : Coming) (before : Inner) (s : Status) (c : CEvent
   pub blank : HasFields no_fields old.last_end old.last_end c
   pub event : KeepsNone after
   pub wants : wants_more new.parser ≡ true
+  pub growing : after.growing ≡ before.growing
   pub place : (later : List ℕ) (at : EventCursor) → IsAt old before later at → IsAt new after later at
 
 -- The last event ends where that does which is read, if one is. What was shown was read before.
@@ -137,7 +146,8 @@ EndsAtFault (Some (Err f)) c = wants_more c.parser ≡ false
 EndsAtFault _ c = Unit {0}
 
 -- Whatever comes later, what is handed out comes next in the whole text, and is written; it is kept until the next
--- call. What was shown is handed out. Behind a fault no more is wanted, as it is where that was shown.
+-- call. What was shown is handed out. Behind a fault no more is wanted, as it is where that was shown. A tree that has
+-- begun would lack it, and is given up.
 pub record HandsOfPieces (old : Coming) (before : Inner) (s : Status) (c : CEvent) (new : Coming) (after : Inner)
     : Type 0 where
   pub gives : (later : List ℕ) (at : EventCursor) → IsAt old before later at
@@ -145,6 +155,7 @@ pub record HandsOfPieces (old : Coming) (before : Inner) (s : Status) (c : CEven
   pub again : ShowsAgain old before new after
   pub ended : before.shown ≡ false → EndsAtFault (handed after) new
   pub shown : after.shown ≡ false
+  pub given_up : after.growing ≡ None
   pub writes : WritesC (handed after) s c
 
 -- The same is shown, also where it was before, and stays to be handed out. Behind a fault no more is wanted.
@@ -190,7 +201,7 @@ ShowsFrom (source.Pieces old) before s c after =
 
 -- what comes next is shown, or it waits for more of the text; the trees stay
 abbrev pub ShowsToC : Inner → Status → CEvent → Inner → Type 0
-ShowsToC before s c after = ShowsFrom before.source before s c after × (after.table ≡ before.table)
+ShowsToC before s c after = ShowsFrom before.source before s c after × KeepsTrees before after
 
 abbrev pub AddsFrom : Source → List ℕ → Inner → Status → Inner → Type 0
 AddsFrom (source.Whole old) bytes before s after = (s ≡ status.Whole) × (after ≡ before)
@@ -214,7 +225,7 @@ IsShownCopy true inner copy = (copy.shown ≡ true) × IsSameItem (handed inner)
 -- a parser at the same place, which handed out nothing and has no trees
 abbrev pub IsCopyOfParser : Inner → Inner → Type 0
 IsCopyOfParser inner copy =
-    IsSourceCopy inner.source copy.source × IsShownCopy inner.shown inner copy × IsEmptyTable copy.table
+    IsSourceCopy inner.source copy.source × IsShownCopy inner.shown inner copy × HasNoTrees copy
 
 abbrev pub KeepsFrom : Source → Bool → Source → Type 0
 KeepsFrom (source.Whole old) keep new = new ≡ source.Whole (keeping_tags keep old)
@@ -230,6 +241,10 @@ SetsKeepTags keep before after =
 
 -- ## Inner steps
 
+-- a tree that has begun is given up
+abbrev pub GivesUp : Inner → Inner → Type 0
+GivesUp before after = after ≡ record before { growing = None }
+
 abbrev pub Waits : Inner → Status → Marker → Status → CEvent → Inner → Type 0
 Waits before why place s c after =
     (s ≡ why) × HasFields no_fields place place c × (after ≡ record before { progress = progress.Over })
@@ -237,11 +252,11 @@ Waits before why place s c after =
 -- what is kept is written; its texts may move
 pub record WritesKept (before : Inner) (s : Status) (c : CEvent) (after : Inner) : Type 0 where
   pub same : IsSameItem (handed before) (handed after)
-  pub others : (after.source ≡ before.source) × (after.shown ≡ before.shown) × (after.table ≡ before.table)
+  pub others : (after.source ≡ before.source) × (after.shown ≡ before.shown) × KeepsTrees before after
   pub writes : WritesC (handed after) s c
 
 abbrev pub CopiesShown : Inner → Inner → Result Unit AllocError → Inner → Type 0
 CopiesShown inner before (Ok done) after =
-    (after.source ≡ before.source) × (after.table ≡ before.table)
+    (after.source ≡ before.source) × KeepsTrees before after
     × (IsFresh before → IsShownCopy inner.shown inner after)
 CopiesShown inner before (Err e) after = Unit {0}

@@ -4,6 +4,7 @@ pub mod Encoding
 pub mod Exports
 pub mod Followed
 pub mod Found
+pub mod Growing
 pub mod Held
 pub mod Inner
 pub mod Same

@@ -11,9 +11,8 @@ use Rattle.yaml_tree.specs.declared.paths.Step.{Step}
 use Rattle.yaml_tree.specs.declared.tally.Limits.{Limits}
 use Rattle.yaml_tree.specs.declared.table.NodeTable.{NodeTable}
 use Rattle.yaml_tree.specs.declared.table.Root.{Root}
-use Rattle.yaml_tree.specs.DocumentLoading.{LeavesBehindDocument}
 use Rattle.yaml_tree.specs.Leaving.{LeavesParser}
-use Rattle.yaml_tree.specs.TableLoading.{LoadsNextTable, LoadsTable}
+use Rattle.yaml_tree.specs.TableLoading.{LoadsTable}
 use Rattle.yaml_tree.specs.Tables.{CountsParts, Event, FindsNumber, HasNoNode, IsEmptyTable, IsMadeOf, IsTable, HasNumber, OfNode}
 use Rattle.saphyr_parser_c.specs.declared.inner.Inner.{Inner}
 use Rattle.saphyr_parser_c.specs.declared.shown.CEvent.{CEvent}
@@ -22,6 +21,7 @@ use Rattle.saphyr_parser_c.specs.declared.source.Source.TheVariants as source
 use Rattle.saphyr_parser_c.specs.declared.status.Status.{Status}
 use Rattle.saphyr_parser_c.specs.declared.status.Status.TheVariants as status
 use Rattle.saphyr_parser_c.specs.Exports.{WritesNone}
+use Rattle.saphyr_parser_c.specs.Inner.{KeepsTrees}
 use Rattle.saphyr_parser_c.specs.Followed.{FollowsAlias, GetsFollowed}
 use Rattle.saphyr_parser_c.specs.Inner.{handed}
 use Rattle.saphyr_parser_c.specs.Same.{IsSameFault}
@@ -56,17 +56,22 @@ WritesUnloaded (tree.TooDeep place most) s c after = WritesPlace place s c
 WritesUnloaded tree.OutOfMemory s c after = (s ≡ status.NoMemory) × IsEmptyEvent c
 WritesUnloaded tree.NotFresh s c after = (s ≡ status.Late) × IsEmptyEvent c
 
--- all but what was handed out last stays
-abbrev pub KeepsButItem : Inner → Inner → Type 0
-KeepsButItem before after =
-    (after.source ≡ before.source) × (after.shown ≡ before.shown) × (after.table ≡ before.table)
+-- all stays, if it isn't a fault of the text
+abbrev pub KeepsElse : TreeFault → Inner → Inner → Type 0
+KeepsElse (tree.Parse f) before after = Unit {0}
+KeepsElse _ before after = after ≡ before
+
+-- all stays, but that a fault of the text is what was handed out last
+abbrev pub KeepsButFault : TreeFault → Inner → Inner → Type 0
+KeepsButFault f before after = (after.source ≡ before.source) × (after.shown ≡ before.shown)
+    × KeepsTrees before after × KeepsElse f before after
 
 -- the documents are those of `load_table`, or there are none
 abbrev pub WritesLoaded : Result NodeTable TreeFault → Status → CEvent → Inner → Type 0
 WritesLoaded (Ok table) s c after = (s ≡ status.Done) × IsEmptyEvent c × (after.table ≡ table)
 WritesLoaded (Err f) s c after = WritesUnloaded f s c after × IsEmptyTable after.table
 
--- Of a text in pieces no trees are loaded. What was shown stays to be handed out.
+-- Of a text in pieces not all trees are loaded at once. What was shown stays to be handed out.
 abbrev pub DropsTrees : Inner → Status → CEvent → Inner → Type 0
 DropsTrees before s c after =
     (s ≡ status.Late) × IsEmptyEvent c × IsEmptyTable after.table × (after ≡ record before { table = after.table })
@@ -84,27 +89,6 @@ abbrev pub LoadsTrees : Limits → Option Inner → ℤ → CEvent → Option In
 LoadsTrees limits none code c new = WritesNone code c new
 LoadsTrees limits (some old) code c new =
     (inner : Inner) × (s : Status) × (new ≡ some inner) × (code ≡ code_of s) × LoadsToC limits old s c inner
-
--- the table is that of the next document by `load_next_table`, or there is none
-abbrev pub WritesNext : Result (std.Option NodeTable) TreeFault → Status → CEvent → Inner → Type 0
-WritesNext (Ok (Some table)) s c after = (s ≡ status.Loaded) × IsEmptyEvent c × (after.table ≡ table)
-WritesNext (Ok None) s c after = (s ≡ status.End) × IsEmptyEvent c × IsEmptyTable after.table
-WritesNext (Err f) s c after = WritesUnloaded f s c after × IsEmptyTable after.table
-
-abbrev pub LoadsNextFrom : Limits → Source → Inner → Status → CEvent → Inner → Type 0
-LoadsNextFrom limits (source.Whole old) before s c after = (new : EventCursor)
-    × (result : Result (std.Option NodeTable) TreeFault) × (after.source ≡ source.Whole new)
-    × LoadsNextTable limits result (to_come old) (to_come new) × LeavesBehindDocument result old new
-    × WritesNext result s c after
-LoadsNextFrom limits (source.Pieces old) before s c after = DropsTrees before s c after
-
-abbrev pub LoadsNextToC : Limits → Inner → Status → CEvent → Inner → Type 0
-LoadsNextToC limits before s c after = LoadsNextFrom limits before.source before s c after
-
-abbrev pub LoadsNext : Limits → Option Inner → ℤ → CEvent → Option Inner → Type 0
-LoadsNext limits none code c new = WritesNone code c new
-LoadsNext limits (some old) code c new = (inner : Inner) × (s : Status) × (new ≡ some inner) × (code ≡ code_of s)
-    × LoadsNextToC limits old s c inner
 
 -- ## Questions
 

@@ -13,7 +13,7 @@ use crate::status::Status;
 use saphyr_parser::{Event, Fault, Marker, Parser, Progress, Span, no_event};
 use std::alloc::{AllocError, Global};
 use std::mem;
-use yaml_tree::NodeTable;
+use yaml_tree::{Grower, NodeTable};
 
 // Why a text that isn't UTF-8 is refused.
 pub(crate) fn unreadable(text: &[u8]) -> Status
@@ -39,6 +39,8 @@ pub struct Inner {
     pub(super) shown: bool,
     // The trees of its text, once they are loaded.
     pub(super) table: NodeTable,
+    // Of a text that comes in pieces: the tree of the next document, as far as that was taken.
+    pub(super) growing: Option<Box<Grower, Global>>,
     // What is found in a text. The parser then reads no text: one type of handle serves both.
     pub(super) found: Option<Box<Found, Global>>,
 }
@@ -59,6 +61,7 @@ impl Inner {
             progress: Progress::Over,
             shown: false,
             table: NodeTable::new(alloc),
+            growing: None,
             found: None,
         };
         match Box::new(alloc, inner) {
@@ -146,6 +149,7 @@ impl Inner {
             }
             Source::Pieces(_) if self.shown => {
                 self.shown = false;
+                self.give_up();
                 self.write(alloc, out)
             }
             Source::Pieces(coming) => {
@@ -155,9 +159,18 @@ impl Inner {
                     return self.wait(status, place, out);
                 };
                 self.progress = progress;
+                self.give_up();
                 self.write(alloc, out)
             }
         }
+    }
+
+    // Gives up the tree of a document that lacks an event.
+    #[inline(always)]
+    fn give_up(&mut self)
+        ensures { spec.GivesUp self.old self.new }
+    {
+        self.growing = None;
     }
 
     // Says that no event comes, why, and behind which place.

@@ -4,6 +4,7 @@ ghost use Rattle.std.specs.Prelude.{◌≡◌, ℕ, None};
 ghost use Rattle.saphyr_parser.specs.Events.{Happening as Told};
 ghost use Rattle.yaml_tree.specs.Tables.{HasProperties, MaybeTag, TellsFirst, marker_of, store_of};
 ghost use Rattle.saphyr_parser_c.specs.Shown.{HasFields, HasTag, fields_of_event};
+ghost use Rattle.saphyr_parser_c.specs.Growing.{LoadsNextToC};
 ghost use Rattle.saphyr_parser_c.specs.Trees as spec;
 
 use crate::answer::write_fault;
@@ -90,14 +91,13 @@ impl Inner {
         }
     }
 
-    /// Loads the next document of a whole text. What was loaded before is dropped.
+    /// Loads the next document. What was loaded before is dropped.
     pub fn load_next(&mut self, alloc: Global, limits: Limits, out: &mut CEvent) -> Status
-        ensures { spec.LoadsNextToC limits self.old result out.new self.new }
+        ensures { LoadsNextToC limits self.old result out.new self.new }
     {
         self.table = NodeTable::new(alloc);
         let Source::Whole(parser) = &mut self.source else {
-            *out = blank();
-            return Status::Late;
+            return self.load_coming(alloc, limits, out);
         };
         match load_next_table(alloc, parser, limits) {
             Ok(Some(table)) => {
@@ -113,9 +113,8 @@ impl Inner {
     }
 
     // What was loaded becomes the parser's.
-    fn put_table(&mut self, table: NodeTable, out: &mut CEvent)
-        ensures source { self.new.source ≡ self.old.source }
-        ensures table { self.new.table ≡ table }
+    pub(crate) fn put_table(&mut self, table: NodeTable, out: &mut CEvent)
+        ensures table { self.new ≡ record self.old { table = table } }
         ensures empty { spec.IsEmptyEvent out.new }
     {
         self.table = table;
@@ -123,8 +122,13 @@ impl Inner {
     }
 
     // Tells why nothing was loaded. A fault of the text is kept here until the next call.
-    fn write_unloaded(&mut self, alloc: Global, why: TreeFault, out: &mut CEvent) -> Status
-        ensures same { spec.KeepsButItem self.old self.new }
+    pub(crate) fn write_unloaded(
+        &mut self,
+        alloc: Global,
+        why: TreeFault,
+        out: &mut CEvent,
+    ) -> Status
+        ensures same { spec.KeepsButFault why self.old self.new }
         ensures writes { spec.WritesUnloaded why result out.new self.new }
     {
         match why {

@@ -3,6 +3,7 @@
 ghost use Rattle.std.specs.Prelude.{◌≡◌, IsUtf8};
 ghost use Rattle.yaml_tree.specs.declared.paths.Step.TheVariants as steps;
 ghost use Rattle.yaml_tree.specs.declared.tally.Limits.{Limits as Most};
+ghost use Rattle.saphyr_parser_c.specs.Growing.{LoadsNext};
 ghost use Rattle.saphyr_parser_c.specs.Trees as spec;
 
 use crate::following::{follow, get_by_bytes};
@@ -41,7 +42,8 @@ pub extern "C" fn saphyr_load(
 }
 
 /// Loads the next document of a parser that is before the stream or between documents, with so many nodes and so many
-/// collections open at once. What was loaded before is freed.
+/// collections open at once. What was loaded before is freed. Of a text that comes in pieces, the next call goes on
+/// where a document isn't all there yet.
 #[unsafe(no_mangle)]
 pub extern "C" fn saphyr_load_next(
     alloc: Global,
@@ -50,7 +52,7 @@ pub extern "C" fn saphyr_load_next(
     depth: usize,
     event: &mut CEvent,
 ) -> i32
-    ensures { spec.LoadsNext (record { nodes = nodes; depth = depth }) parser.old.value result
+    ensures { LoadsNext (record { nodes = nodes; depth = depth }) parser.old.value result
         event.new parser.new.value }
 {
     match take(alloc, parser) {

@@ -7,7 +7,8 @@ use Rattle.yaml_tree.specs.declared.node.Node.{Node, Alias, Scalar, out-Node, th
 use Rattle.yaml_tree.specs.declared.expanding.Counter.{Counter}
 use Rattle.yaml_tree.specs.Unloading.{node_events}
 use Rattle.yaml_tree.specs.Expanding.{Sizes, Expanded, most, no_sizes, followed_by, expanded}
-use Rattle.yaml_tree.specs.CounterSeen.{Count, with_nodes, begun, left_to, left, entered_layer, counted, counted_all, size_in, AreOpen, HoldsCount, IsCounting}
+use Rattle.yaml_tree.specs.CounterSeen.{Count, with_nodes, begun, left_to, left, entered_layer, counted, counted_all, AreOpen, HoldsCount, IsCounting}
+use Rattle.yaml_tree.specs.SizesSeen.{size_in}
 use Rattle.yaml_tree.proofs.EachNode.{of_node}
 use Rattle.yaml_tree.proofs.LastItems.{none_is_last, same_last}
 

@@ -17,7 +17,8 @@ use Rattle.yaml_tree.specs.declared.table.NodeTable.{NodeTable}
 use Rattle.yaml_tree.specs.declared.table.Root.{Root}
 use Rattle.yaml_tree.specs.declared.table.Row.{Row}
 use Rattle.yaml_tree.specs.Expanding.{most}
-use Rattle.yaml_tree.specs.CounterSeen.{Count, HoldsCount, begun as counts_begun, counted, counted_all, left, size_in, with_nodes}
+use Rattle.yaml_tree.specs.CounterSeen.{Count, HoldsCount, begun as counts_begun, counted, counted_all, left, with_nodes}
+use Rattle.yaml_tree.specs.SizesSeen.{size_in}
 use Rattle.yaml_tree.specs.Tables.{AreEntriesFrom, AreNodes, AreRootsFrom, Event, IsBeside, IsEnd, IsLeafEvent, IsNode, IsEmptyTable, IsRootAt, IsStart, IsTable, MaybeTag, StoresProperties, TellsFirst, all_of, id_of_anchor, beginning, nodes_begun, documents_ended_by, none, numbers, one_more, store_of}
 use Rattle.yaml_tree.specs.GrowerSeen.{AddsEvent, AddsLeaf, CountsExpanded, EndsDocument, EndsLevel, HasGrown, Holds, HasNoneOpen, IsMore, IsStack, OpensLevel, Stores, StoresText, closed, no_count}
 use Rattle.yaml_tree.proofs.Expands.{expands}

@@ -26,7 +26,7 @@ Splits = (es : List (Happening × Span)) (old new : EventCursor) → AdvancesOve
 abbrev pub HasNoMore : Type 0
 HasNoMore = (c : EventCursor) → IsOver c → to_come c ≡ empty_answer
 
-over_both : (es fs : List (Happening × Span)) (a b c : EventCursor) → AdvancesOver es a b → AdvancesOver fs b c
+pub over_both : (es fs : List (Happening × Span)) (a b c : EventCursor) → AdvancesOver es a b → AdvancesOver fs b c
     → AdvancesOver (es ++ fs) a c
 over_both [] fs a b c same others = subst (λ (x : EventCursor). AdvancesOver fs x c) same others
 over_both (e ∷ es) fs a b c (m, first, more) others = (m, first, over_both es fs m b c more others)

@@ -1,13 +1,11 @@
 -- A count of expanded nodes, event after event.
 use Rattle.std.specs.Prelude.{◌≡◌, ℕ, ◌+◌, min, List, [], ◌∷◌, ◌++◌}
-use Rattle.std.specs.Option.{unwrap_or}
-use Rattle.std.specs.Ordering.{nat_cmp}
-use Rattle.std.specs.BTreeMap.{BTreeMap, get}
 use Rattle.saphyr_parser.specs.Events.{Happening, Alias, Scalar, SequenceStart, SequenceEnd, MappingStart, MappingEnd}
 use Rattle.yaml_tree.specs.declared.node.Node.{Node}
 use Rattle.yaml_tree.specs.declared.node.Node.TheOpen.{Node-F}
 use Rattle.yaml_tree.specs.declared.expanding.Counter.{Counter}
 use Rattle.yaml_tree.specs.Expanding.{Sizes, most, no_sizes, with_size, expanded}
+use Rattle.yaml_tree.specs.SizesSeen.{size_in}
 
 -- The nodes so far of the innermost collection that is open, itself among them; and for each collection that is open,
 -- the innermost first, the id of its anchor and the nodes so far of what is around it.
@@ -54,9 +52,6 @@ counted_all [] c = c
 counted_all (h ∷ hs) c = counted_all hs (counted h c)
 
 -- ## What a counter holds
-
-abbrev pub size_in : BTreeMap ℕ ℕ → ℕ → ℕ
-size_in sizes id = unwrap_or (get nat_cmp sizes id) most
 
 -- collections that are open, the outermost first
 abbrev pub AreOpen : List (ℕ × ℕ) → List (ℕ × ℕ) → Type 0

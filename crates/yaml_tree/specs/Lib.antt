@@ -15,6 +15,7 @@ pub mod KeeperSeen
 pub mod Walking
 pub mod Anchoring
 pub mod Expanding
+pub mod SizesSeen
 pub mod CounterSeen
 pub mod Following
 pub mod NodeLayer

@@ -3,13 +3,14 @@ ghost use Rattle.std.specs.Prelude.{◌≡◌, ℕ, [], min, OnOk, IfOk};
 ghost use Rattle.yaml_tree.specs.declared.node.Node.{Node, out-Node};
 ghost use Rattle.yaml_tree.specs.Walking.{to_visit};
 ghost use Rattle.yaml_tree.specs.Expanding.{most, nodes_once_expanded, no_sizes, expanded};
-ghost use Rattle.yaml_tree.specs.CounterSeen.{Count, HoldsCount, IsCounting, size_in, with_nodes, begun, left, entered_layer};
+ghost use Rattle.yaml_tree.specs.SizesSeen.{size_in};
+ghost use Rattle.yaml_tree.specs.CounterSeen.{Count, HoldsCount, IsCounting, with_nodes, begun, left, entered_layer};
 
 use crate::document::Document;
 use crate::node::Node;
+use crate::sizes::SizeMap;
 use crate::walk::{Turn, Walk};
 use std::alloc::{AllocError, Global};
-use std::collections::BTreeMap;
 use std::mem;
 
 /// The nodes so far, at most `u64::MAX`.
@@ -18,7 +19,7 @@ pub(crate) struct Counter {
     /// Those of the innermost collection that is open, including itself.
     pub(crate) nodes: u64,
     /// How many the node of each anchor has, once it has ended.
-    sizes: BTreeMap<usize, u64>,
+    sizes: SizeMap,
     /// For each collection that is open, the id of its anchor and the nodes so far of what is around it.
     levels: Vec<(usize, u64)>,
 }
@@ -46,7 +47,7 @@ impl Counter {
     {
         Counter {
             nodes: 0,
-            sizes: BTreeMap::new(alloc),
+            sizes: SizeMap::new(alloc),
             levels: Vec::new(alloc),
         }
     }
@@ -105,9 +106,7 @@ impl Counter {
         ensures { OnOk result ((c : Count) (n : ℕ) → nodes ≡ min most n → HoldsCount self.old c
             → HoldsCount self.new (with_nodes id n c)) }
     {
-        if id > 0 {
-            self.sizes.insert(id, nodes)?;
-        }
+        self.sizes.put(id, nodes)?;
         self.nodes = self.nodes.saturating_add(nodes);
         Ok(())
     }
@@ -115,9 +114,6 @@ impl Counter {
     pub(crate) fn size_of(&self, id: usize) -> u64
         ensures { result ≡ size_in self.now.sizes id }
     {
-        match self.sizes.get(&id) {
-            Some(nodes) => *nodes,
-            None => u64::MAX,
-        }
+        self.sizes.of(id)
     }
 }

@@ -8,7 +8,7 @@ ghost use Rattle.yaml_tree.specs.DocumentLoading.{ComesBetweenDocuments, LeavesB
 ghost use Rattle.yaml_tree.specs.GrowerSeen.{HasNoneOpen};
 ghost use Rattle.yaml_tree.specs.Leaving.{LeavesParser};
 ghost use Rattle.yaml_tree.specs.TableLoading.{LoadsTable, LoadsNextTable};
-ghost use Rattle.yaml_tree.specs.Tables.{Event as Given};
+ghost use Rattle.yaml_tree.specs.Tables.{Event as Given, IsTable};
 
 use crate::document_loading::{Place, find_place};
 use crate::fault::TreeFault;
@@ -86,9 +86,11 @@ fn next_table<'input, T: Input>(
     }
 }
 
-// A table that grows within limits.
+/// A table that grows by one event after the other, within limits.
+///
+/// It is for a caller whose events don't come from a `Parser`, or not all at once.
 #[derive(Drop)]
-struct Grower {
+pub struct Grower {
     tally: Tally,
     growth: Growth,
 }
@@ -96,7 +98,8 @@ struct Grower {
 impl Grower {
     ghost use Rattle.yaml_tree.specs.TableSeen.{FinishesTable, HasGrownWithin, GrowsByEvents, GrowsByLast};
 
-    fn new(alloc: Global, limits: Limits) -> Grower
+    /// A table of no events.
+    pub fn new(alloc: Global, limits: Limits) -> Grower
         ensures { HasGrownWithin limits [] result }
     {
         let tally = Tally::new(limits);
@@ -132,9 +135,9 @@ impl Grower {
         }
     }
 
-    // Takes an event with its span. Checks the limits first.
+    /// Takes an event with its span. Checks the limits first. After a fault no more may be taken.
     #[inline(always)]
-    fn take(&mut self, event: &Event, span: Span) -> Result<(), TreeFault>
+    pub fn take(&mut self, event: &Event, span: Span) -> Result<(), TreeFault>
         ensures takes { (limits : Limits) (es : List Given) → HasGrownWithin limits es self.old
             → GrowsByLast result limits (es ++ (happening event.now, span) ∷ []) span.start self.new }
         ensures ends { happening event.now ≡ DocumentEnd
@@ -145,6 +148,14 @@ impl Grower {
             Ok(()) => Ok(()),
             Err(_) => Err(TreeFault::OutOfMemory),
         }
+    }
+
+    /// The table of the events, behind the end of a document.
+    pub fn into_table(self) -> NodeTable
+        ensures { (limits : Limits) (es : List Given) → HasGrownWithin limits es self
+            → HasNoneOpen self.growth → IsTable es result }
+    {
+        self.growth.table
     }
 
     // The table of all events, of which none is still to come. Those of a text leave no document open.

@@ -1,7 +1,7 @@
 use Rattle.std.proofs.Common.{subst}
 use Rattle.yaml_tree.specs.declared.tally.Limits.{Limits}
 use Rattle.saphyr_parser_c.specs.declared.inner.Inner.{Inner}
-use Rattle.saphyr_parser_c.specs.Trees.{LoadsNextToC}
+use Rattle.saphyr_parser_c.specs.Growing.{LoadsNextToC}
 use Rattle.saphyr_parser_c.proofs.Codes.{code_kept}
 use Rattle.saphyr_parser_c.proofs.trees.saphyr_load_next.Goals as goal
 

@@ -1,7 +1,9 @@
 -- What is read, or was shown, is handed out.
 use Rattle.std.proofs.Common.{◌∙◌, None, Some, ap, subst}
 use Rattle.saphyr_parser_c.specs.declared.coming.Coming.{Coming}
+use Rattle.saphyr_parser_c.specs.declared.inner.Inner.{Inner}
 use Rattle.saphyr_parser_c.specs.Coming.{WritesWaiting}
+use Rattle.saphyr_parser_c.specs.Inner.{WritesKept}
 use Rattle.saphyr_parser_c.proofs.Handing.{behind_lent, hands_lent, hands_next, hands_none, hands_shown, same_lent}
 use Rattle.saphyr_parser_c.proofs.inner.Inner.step.Goals as goal
 
@@ -22,7 +24,9 @@ returns-in_default c =
 pub returns-in-Pieces : goal.returns-in-Pieces
 returns-in-Pieces c =
     hands_shown c.args.self.now c.write-in-Pieces.new.self c.write-in-Pieces.result c.write-in-Pieces.new.out
-    c.in-Pieces.field-0 c.in-Pieces.is c.if-self.true c.write-in-Pieces.ensures
+    c.in-Pieces.field-0 c.in-Pieces.is c.if-self.true
+    (subst (λ (m : Inner). WritesKept m c.write-in-Pieces.result c.write-in-Pieces.new.out c.write-in-Pieces.new.self)
+    c.give_up.ensures c.write-in-Pieces.ensures)
 
 pub returns-in-Some : goal.returns-in-Some
 returns-in-Some c =
@@ -37,4 +41,5 @@ returns-in-Some c =
     (hands_lent (Some p) c.next_into.new.next c.next_into.new.fault lent old new is c.in-Some.ensures.next)
     c.in-Some.ensures.ended
     (behind_lent (Some p) c.next_into.new.next c.next_into.new.fault lent old new is c.in-Some.ensures.last)
-    c.write-in-Pieces-2.ensures
+    (subst (λ (m : Inner). WritesKept m c.write-in-Pieces-2.result c.write-in-Pieces-2.new.out
+    c.write-in-Pieces-2.new.self) c.give_up-in-Pieces-2.ensures c.write-in-Pieces-2.ensures)
