@@ -29,6 +29,14 @@ CRATE = f"{ROOT}/crates/saphyr_parser_c"
 PROGRAMS = ("cases", "dump_events", "faults", "findings", "misuse", "pieces", "refusals", "trees")
 PIECES = (1, 2, 3, 4096, "cuts")  # bytes, or two pieces, cut at each place
 CUTS = ("lines", "ends", "odd", "even", "bytes")  # the pieces with which an event has to be there in time
+LONG_NODES = (  # each of more bytes than are read again at once
+    "a: |\n" + "  x\n" * 300,
+    "a:\n" + "  x\n" * 300,
+    "'" + "a b\n" * 300 + "'\n",
+    "[" + "a,\n" * 300 + "]\n",
+    "%A b\n" * 300 + "--- a\n",
+    "# a\n" * 300 + "- a\n",
+)
 REFUSED_PIECES = (0, 2, 4096)  # 0: the whole text
 HOW = ["-std=c11", "-D_GNU_SOURCE", "-O2", "-Wall", "-Wextra", f"-I{CRATE}"]
 WRAP = [f"-Wl,--wrap={name}" for name in ("malloc", "realloc", "free")]
@@ -174,20 +182,32 @@ def check_table(made):
                 fail(f"the table of FACES.md by {how}: {line!r} brings {brought}")
 
 
+def check_in_time(made, how, text):
+    """Each event of a text comes in time. Returns what `pieces` printed."""
+    framed_text = b"0 %d\n" % len(text) + text.encode()
+    said = subprocess.run([made["pieces"], how], input=framed_text, capture_output=True).stdout.decode("latin-1")
+    found = prompt.late(types.SimpleNamespace(text=text, block=said), said.split("\n"))
+    if found:
+        fail(f"in C by {how}, of {text[:20]!r}: event {found[0]} is not there behind {found[1]} bytes")
+    return said
+
+
 def check_anchors(made):
     """Line by line each event of a document of many anchors comes in time, and each alias means the latest anchor."""
     names = [f"a{number % 1500}" for number in range(2000)]
     latest = {name: number for number, name in enumerate(names, 1)}
     text = "".join([*(f"- &{name} x\n" for name in names), *(f"- *{name}\n" for name in names)])
-    framed_text = b"0 %d\n" % len(text) + text.encode()
-    said = subprocess.run([made["pieces"], "lines"], input=framed_text, capture_output=True).stdout.decode("latin-1")
-    lines = said.split("\n")
-    case = types.SimpleNamespace(text=text, block=said)
+    said = check_in_time(made, "lines", text)
     if re.findall("^> =ALI (.*) @", said, re.M) != [f"*{latest[name]}" for name in names]:
         fail("in C line by line an alias means an anchor that is not the latest")
-    found = prompt.late(case, lines)
-    if found:
-        fail(f"in C line by line, of many anchors: event {found[0]} is not there behind {found[1]} bytes")
+
+
+def check_markers(made):
+    """The line of a marker alone brings all before it, also where much waits."""
+    for node in LONG_NODES:
+        for marker in ("...", "---", "...\r"):
+            for how in CUTS:
+                check_in_time(made, how, f"{node}{marker}\nb: c\n---\n")
 
 
 def late_kinds(made, texts):
@@ -320,6 +340,7 @@ def main():
         list(pool.map(lambda how: check_prompt(made, how, cases), CUTS))
         check_table(made)
         check_anchors(made)
+        check_markers(made)
         check_faults(made, cases, worked)
         list(pool.map(check_lines, (case for case in cases if not case.name.startswith("cut "))))
         cargo("test")

@@ -240,6 +240,15 @@ def check_c(release, tools):
             release.check(f"{name} in {standard}", [made, *arguments], wanted)
 
 
+def check_fault(release):
+    """The example `documents` of a file: a document, and behind it a fault with its place."""
+    write(f"{release.folder}/fault.yaml", "a\n--- [b\n")
+    ran = release.run([f"{release.folder}/documents_c99", f"{release.folder}/fault.yaml"])
+    wanted = (b"1:1 1\n", b"3:1: while parsing a flow sequence, expected ',' or ']'\n")
+    if isinstance(ran, bytes) or (ran.stdout, ran.stderr) != wanted:
+        fail(f"documents of a text with a fault: {ran}")
+
+
 def has_static(release, tools):
     """Whether the system has the C library as an archive."""
     write(f"{release.folder}/empty.c", "int main(void) { return 0; }\n")
@@ -626,6 +635,7 @@ def main():
         tools = {name: shutil.which(name, path=release.env["PATH"]) for name in ("pkg-config", "cmake", "cargo")}
         tools |= {"cc": compiler, "c++": shutil.which("c++") or shutil.which("clang++")}
         check_c(release, tools)
+        check_fault(release)
         check_shown(release, tools)
         check_installer(release, compiler)
         check_checker(release)

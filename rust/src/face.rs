@@ -34,6 +34,7 @@ const MORE: i32 = 2;
 const DEVIATES: i32 = 4;
 const REFUSED: i32 = -1;
 const NO_MEMORY: i32 = -2;
+const NOT_UTF8: i32 = -3;
 const UTF16: i32 = -5;
 const TOO_MUCH: i32 = -7;
 const TOO_LONG: i32 = -11;
@@ -96,6 +97,7 @@ extern "C" {
         most_waiting: usize,
         parser: *mut Handle,
     ) -> i32;
+    fn saphyr_add(parser: *mut Handle, bytes: *const u8, len: usize) -> i32;
     fn saphyr_add_utf8(parser: *mut Handle, bytes: *const u8, len: usize) -> i32;
     fn saphyr_valid_up_to(text: *const u8, len: usize) -> usize;
     fn saphyr_check_standard(text: *const u8, len: usize, deviation: *mut Departure) -> i32;
@@ -257,6 +259,18 @@ impl<'input> Face<'input> {
         // UTF-8.
         let status = unsafe { saphyr_add_utf8(self.handle.get_mut(), piece.as_ptr(), piece.len()) };
         expect(status, OK);
+    }
+
+    /// Adds the next bytes, which may be cut inside a character. No bytes say that no more come. An error says that these
+    /// are not UTF-8, behind those before, and whether the text begins as UTF-16. Then none is added.
+    pub fn add_bytes(&mut self, bytes: &[u8]) -> Result<(), bool> {
+        // SAFETY: the handle has a parser, which no other call uses. The bytes may be read for their length.
+        let status = unsafe { saphyr_add(self.handle.get_mut(), bytes.as_ptr(), bytes.len()) };
+        if status == NOT_UTF8 || status == UTF16 {
+            return Err(status == UTF16);
+        }
+        expect(status, OK);
+        Ok(())
     }
 
     /// Hands out the next item, and says where it leaves the parser.

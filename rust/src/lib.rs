@@ -28,6 +28,7 @@
 #![deny(unsafe_code)]
 
 mod char_traits;
+mod documents;
 mod encoding;
 mod event;
 #[allow(unsafe_code)]
@@ -40,6 +41,7 @@ mod progress;
 mod scanner;
 mod standard;
 
+pub use crate::documents::{DocumentReader, Pieces, ReadError};
 pub use crate::encoding::NotUtf8;
 pub use crate::event::{Event, EventReceiver, SpannedEventReceiver, Tag};
 pub use crate::face::trees::{Documents, Limits, LoadError, Merged, Node, NodeKind, Trees};

@@ -1,9 +1,13 @@
 //! Trees: what their nodes are, beside the events of the same text, and what is refused.
 
 use saphyr_parser::{
-    Documents, Event, Limits, LoadError, Marker, Node, NodeKind, Parser, Span, Tag, Trees,
+    DocumentReader, Documents, Event, Limits, LoadError, Marker, Node, NodeKind, Parser, ReadError,
+    Span, Tag, Trees,
 };
 use std::borrow::Cow;
+use std::cell::Cell;
+use std::io::{self, ErrorKind, Read, Write};
+use std::os::unix::net::UnixStream;
 use std::sync::{Mutex, OnceLock};
 use std::{fs, panic, ptr, thread};
 
@@ -92,6 +96,200 @@ fn gives_documents_one_by_one() {
     assert!(matches!(refused, LoadError::Refused(_)), "{refused}");
     assert!(documents.next().is_none());
     assert!(Documents::new("", Limits::default()).next().is_none());
+}
+
+/// Gives a few bytes at a time, now and then after it was interrupted, and counts them. Then it ends, or fails.
+struct Few<'a> {
+    left: &'a [u8],
+    most: usize,
+    read: &'a Cell<usize>,
+    fails: bool,
+}
+
+impl Read for Few<'_> {
+    fn read(&mut self, into: &mut [u8]) -> io::Result<usize> {
+        self.read.set(self.read.get() + 1);
+        if self.read.get() % 3 == 0 {
+            return Err(io::ErrorKind::Interrupted.into());
+        }
+        if self.left.is_empty() && self.fails {
+            return Err(io::Error::new(io::ErrorKind::Other, "gone"));
+        }
+        let most = self.most;
+        self.left.read(&mut into[..most])
+    }
+}
+
+fn few<'a>(text: &'a str, most: usize, read: &'a Cell<usize>, fails: bool) -> Few<'a> {
+    let left = text.as_bytes();
+    Few {
+        left,
+        most,
+        read,
+        fails,
+    }
+}
+
+#[test]
+fn reads_documents_in_pieces() {
+    let text = &format!("{TEXT}--- \u{e9}\u{1f600}\n...\n# e\n");
+    let all = load(text);
+    for most in [1, 2, 3, 7, 4096] {
+        let read = Cell::new(0);
+        let reader = DocumentReader::new(few(text, most, &read, false), Limits::default());
+        let each: Vec<_> = reader.map(Result::unwrap).collect();
+        assert_eq!(each.len(), 3);
+        for (index, one) in each.iter().enumerate() {
+            let (mut told, mut wanted) = (Vec::new(), Vec::new());
+            tell(&one[0], &mut told);
+            tell(&all[index], &mut wanted);
+            assert_eq!(told, wanted, "{most} bytes at a time");
+            assert_eq!(one.expanded_nodes(0), all.expanded_nodes(index));
+            assert!(one.get(1).is_none());
+        }
+    }
+    let read = Cell::new(0);
+    let mut documents = DocumentReader::new(few("a\n---\nb\n", 1, &read, false), Limits::default());
+    assert_eq!(documents.next().unwrap().unwrap()[0].as_str(), Some("a"));
+    assert!(read.get() < 10, "a document waits for the next one");
+    assert_eq!(documents.map(Result::unwrap).count(), 1);
+    let mut documents = DocumentReader::new(&b"- a\n---\n- b\n- c\n"[..], Limits::default());
+    let first = documents.next().unwrap().unwrap();
+    drop(documents);
+    assert_eq!(
+        first[0][0].as_str(),
+        Some("a"),
+        "a tree outlives its reader"
+    );
+}
+
+/// What the documents of a text end with, behind the first, that are read three bytes at a time.
+fn ending(text: &[u8], limits: Limits, waiting: usize, fails: bool) -> String {
+    let read = Cell::new(0);
+    let reader = Few {
+        left: text,
+        most: 3,
+        read: &read,
+        fails,
+    };
+    let mut documents = DocumentReader::new(reader, limits).limits(usize::MAX, waiting);
+    assert_eq!(documents.next().unwrap().unwrap()[0].as_str(), Some("a"));
+    let ending = documents.next().unwrap().err().unwrap();
+    assert!(documents.next().is_none() && documents.next().is_none());
+    assert_eq!(
+        std::error::Error::source(&ending).is_none(),
+        matches!(ending, ReadError::TooMuch(_))
+    );
+    ending.to_string()
+}
+
+#[test]
+fn says_why_no_document_is_read() {
+    let any = Limits::default();
+    let refused = ending(b"a\n--- [b\n", any, 99, false);
+    assert!(
+        refused.starts_with("while parsing a flow sequence"),
+        "{refused}"
+    );
+    let large = ending(b"a\n--- [b, c]\n", Limits { nodes: 2, depth: 1 }, 99, false);
+    assert_eq!(large, "the trees are larger than allowed at 2:9");
+    assert_eq!(ending(b"a\n--- b\n", any, 99, true), "gone");
+    let bad = ending(b"a\n---\n\xc3\xa9\xf0\x9f\xff", any, 99, false);
+    assert_eq!(bad, "the text is not UTF-8 from byte 8 on");
+    let cut = ending(b"a\n---\n\xc3\xa9\xf0\x9f\x98", any, 99, false);
+    assert_eq!(cut, "the text is not UTF-8 from byte 8 on");
+    let endless = [&b"a\n--- '"[..], &[b'b'; 99]].concat();
+    let waits = ending(&endless, any, 40, false);
+    assert_eq!(
+        waits,
+        "more bytes wait for the next event than may, behind 2:4"
+    );
+    let long = DocumentReader::new(&b"a\n--- [b, c]\n"[..], any).limits(6, 99);
+    let fault = long.filter_map(Result::err).next().unwrap().to_string();
+    assert!(
+        fault.contains("4294967295") && fault.ends_with("line 2 column 6"),
+        "{fault}"
+    );
+    let utf16 = DocumentReader::new(&b"\xff\xfea\0"[..], any)
+        .next()
+        .unwrap();
+    assert!(matches!(utf16, Err(ReadError::NotUtf8(it)) if it.is_utf16() && it.index() == 0));
+    assert!(DocumentReader::new(&b""[..], any).next().is_none());
+}
+
+/// Documents whose end is in front of a byte that is not UTF-8 come first, wherever the text is cut.
+#[test]
+fn gives_what_is_in_front_of_wrong_bytes() {
+    let texts = [
+        (&b"\xc3\xa9\n---\nb\n...\nc\xf0\x9f\xff"[..], 14),
+        (b"\xc3\xa9\n---\nb\n...\nc\xf0\x9f\x98", 14),
+        (b"\xc3\xa9\n---\nb\n...\n\xffc", 13),
+    ];
+    for (text, index) in texts {
+        for most in 1..=text.len() {
+            let mut documents = DocumentReader::from_pieces(text.chunks(most), Limits::default());
+            for wanted in ["\u{e9}", "b"] {
+                let document = documents.next().unwrap().unwrap();
+                assert_eq!(document[0].as_str(), Some(wanted), "{most} bytes at a time");
+            }
+            let fault = documents.next().unwrap();
+            assert!(
+                matches!(&fault, Err(ReadError::NotUtf8(it)) if it.index() == index),
+                "{fault:?}"
+            );
+            assert!(documents.next().is_none());
+        }
+    }
+}
+
+#[test]
+fn takes_pieces_of_an_iterator() {
+    let each = |pieces: &[&str]| {
+        let documents = DocumentReader::from_pieces(pieces, Limits::default());
+        let texts = documents.map(|it| it.unwrap()[0].as_str().map(str::to_owned).unwrap());
+        texts.collect::<Vec<_>>()
+    };
+    assert_eq!(each(&["", "a\n-", "", "--\nb", ""]), ["a", "b"]);
+    assert!(each(&[]).is_empty() && each(&["", ""]).is_empty());
+    let long = "a".repeat(10_000);
+    assert_eq!(each(&[&long, "b\n--- c"]), [long + "b", "c".to_owned()]);
+    let owned = vec![b"\xc3".to_vec(), b"\xa9".to_vec()];
+    let mut documents = DocumentReader::from_pieces(owned, Limits::default());
+    assert_eq!(
+        documents.next().unwrap().unwrap()[0].as_str(),
+        Some("\u{e9}")
+    );
+}
+
+/// Of a socket a document comes before anything of the next one, and where nothing came the reader goes on.
+#[test]
+fn reads_a_socket() {
+    let (mut out, socket) = UnixStream::pair().unwrap();
+    socket.set_nonblocking(true).unwrap();
+    let mut documents = DocumentReader::new(socket, Limits::default());
+    let mut next = || {
+        documents
+            .next()
+            .map(|it| it.map(|trees| format!("{trees:?}")))
+    };
+    let waits = |it: Option<Result<String, ReadError>>| matches!(it, Some(Err(ReadError::Read(it))) if it.kind() == ErrorKind::WouldBlock);
+    assert!(waits(next()));
+    for (piece, wanted) in [
+        ("- a\n- \u{e9}", None),
+        ("\n---\n", Some(r#"[["a", "é"]]"#)),
+        ("b: c\n", None),
+        ("...\n", Some(r#"[{"b": "c"}]"#)),
+        ("d\n", None),
+    ] {
+        out.write_all(piece.as_bytes()).unwrap();
+        if let Some(wanted) = wanted {
+            assert_eq!(next().unwrap().unwrap(), wanted);
+        }
+        assert!(waits(next()) && waits(next()), "{piece:?}");
+    }
+    drop(out);
+    assert_eq!(next().unwrap().unwrap(), r#"["d"]"#);
+    assert!(next().is_none() && next().is_none());
 }
 
 #[test]
@@ -263,21 +461,27 @@ fn has_the_events_of_each_case() {
     );
     let cases = fs::read_to_string(data).unwrap();
     let texts = cases.lines().filter_map(|line| line.strip_prefix("< "));
+    let limits = Limits {
+        nodes: 10_000,
+        depth: 300,
+    };
     for text in texts.map(|it| it.replace("\\n", "\n")).chain([TEXT.into()]) {
         let read: Result<Vec<_>, _> = Parser::new_from_str(&text).collect();
-        let trees = Trees::load(
-            &text,
-            Limits {
-                nodes: 10_000,
-                depth: 300,
-            },
-        );
+        let trees = Trees::load(&text, limits);
         let (Ok(read), Ok(trees)) = (&read, &trees) else {
-            assert_eq!(LoadError::Refused(read.unwrap_err()), trees.unwrap_err());
+            let refused = LoadError::Refused(read.unwrap_err());
+            let pieces = DocumentReader::from_pieces(text.as_bytes().chunks(1), limits).last();
+            assert!(matches!(pieces, Some(Err(ReadError::Load(it))) if it == refused));
+            assert_eq!(refused, trees.unwrap_err());
             continue;
         };
         let mut told = Vec::new();
         trees.iter().for_each(|root| tell(root, &mut told));
+        let pieces = DocumentReader::from_pieces(text.as_bytes().chunks(1), limits);
+        let each: Vec<_> = pieces.map(Result::unwrap).collect();
+        let mut told_in_pieces = Vec::new();
+        each.iter().for_each(|it| tell(&it[0], &mut told_in_pieces));
+        assert_eq!(told_in_pieces, told, "{text:?}");
         let wanted = read
             .iter()
             .filter_map(|(event, span)| Some((event.clone(), place(event, *span)?)));

@@ -6,7 +6,7 @@
 //! node is: each call takes a lock, since the library allows one call at a time.
 
 use super::{copy_of_tag, expect, marker, style};
-use super::{Face, Handle, Record, END, EVENT, OK, REFUSED, TOO_LONG};
+use super::{Face, Handle, Record, END, EVENT, MORE, OK, REFUSED, TOO_LONG, TOO_MUCH};
 use crate::event::Tag;
 use crate::scanner::{Marker, ScalarStyle, ScanError, Span};
 use std::collections::HashSet;
@@ -92,7 +92,7 @@ struct Kept<'input> {
 }
 
 /// A text on the heap, which stays where it is until it is dropped.
-struct Text(NonNull<str>);
+pub(crate) struct Text(NonNull<str>);
 
 impl Text {
     fn new(text: String) -> Text {
@@ -172,7 +172,7 @@ impl<'input> Trees<'input> {
     }
 
     /// With the nodes of a parser that has loaded its trees, and its text, if that is to be kept.
-    fn of(face: Face<'input>, text: Option<Text>) -> Trees<'input> {
+    pub(crate) fn of(face: Face<'input>, text: Option<Text>) -> Trees<'input> {
         let numbers = (0..).take_while(|it| face.told(*it).is_some());
         let count = numbers.count();
         let kept = NonNull::from(Box::leak(Box::new(Kept {
@@ -269,16 +269,14 @@ impl<'input> Iterator for Documents<'input> {
 
     fn next(&mut self) -> Option<Self::Item> {
         let mut face = self.face.take()?;
-        match face.load(saphyr_load_next, self.limits) {
-            Ok(LOADED) => {
+        match face.load_next(self.limits) {
+            Ok(Next::Document) => {
                 // The tree stays with its parser. A clone has none, and goes on behind the document.
                 self.face = Some(face.clone());
                 Some(Ok(Trees::of(face, None)))
             }
-            Ok(status) => {
-                expect(status, END);
-                None
-            }
+            Ok(Next::End) => None,
+            Ok(Next::More | Next::TooMuch(_)) => unreachable!("a text in memory is all there"),
             Err(error) => Some(Err(error)),
         }
     }
@@ -307,7 +305,32 @@ impl Kept<'_> {
     }
 }
 
+/// What a call for the next document found.
+pub enum Next {
+    /// The face has its tree.
+    Document,
+    /// There is none.
+    End,
+    /// It is not all there yet. The next call goes on with it.
+    More,
+    /// The same, and more waits than may, behind this place.
+    TooMuch(Marker),
+}
+
 impl Face<'_> {
+    /// Loads the next document, as far as it is there.
+    pub fn load_next(&mut self, limits: Limits) -> Result<Next, LoadError> {
+        match self.load(saphyr_load_next, limits)? {
+            LOADED => Ok(Next::Document),
+            MORE => Ok(Next::More),
+            TOO_MUCH => Ok(Next::TooMuch(marker(&self.record.start))),
+            status => {
+                expect(status, END);
+                Ok(Next::End)
+            }
+        }
+    }
+
     /// Loads trees by this call. Returns its status, if that is not why they aren't loaded.
     fn load(&mut self, call: Load, limits: Limits) -> Result<i32, LoadError> {
         let Limits { nodes, depth } = limits;
@@ -488,9 +511,8 @@ impl Node {
     #[must_use]
     pub fn get(&self, key: &str) -> Option<&Node> {
         // SAFETY: the handle has a parser, which no other call uses, and the key's bytes may be read.
-        self.kept().node(|handle| unsafe {
-            saphyr_get(handle, self.number, key.as_ptr(), key.len())
-        })
+        self.kept()
+            .node(|handle| unsafe { saphyr_get(handle, self.number, key.as_ptr(), key.len()) })
     }
 
     /// The keys and values of a mapping, with those of the mappings that its keys `<<` name, as YAML 1.1 has them: its
