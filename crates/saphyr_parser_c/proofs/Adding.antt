@@ -16,7 +16,7 @@ use Rattle.saphyr_parser_c.specs.declared.status.Status.{Status}
 use Rattle.saphyr_parser_c.specs.declared.status.Status.TheVariants as status
 use Rattle.saphyr_parser_c.specs.Coming.{Adds, AddsBytes, AddsSome, TakesWhole, TakesIn}
 use Rattle.saphyr_parser_c.specs.Encoding.{IsCutCharacter, IsUtf8SoFar}
-use Rattle.saphyr_parser_c.specs.Inner.{AddsFrom, AddsToC}
+use Rattle.saphyr_parser_c.specs.Inner.{AddsBytesFrom, AddsToC}
 use Rattle.saphyr_parser_c.proofs.Bytes.{rest_waits, text_is_utf8_so_far}
 
 -- the text that comes in pieces has the bytes
@@ -24,7 +24,7 @@ pub adds_to_pieces : (bytes : List ℕ) (before after : Inner) (old new : Box Co
     → before.source ≡ source.Pieces old → after.source ≡ source.Pieces new → Adds bytes old.value s new.value
     → after ≡ record before { source = after.source } → AddsToC bytes before s after
 adds_to_pieces bytes before after old new s is_old is_new adds stays =
-    subst (λ (from : Source). AddsFrom from bytes before s after) (sym is_old) (new, is_new, adds, stays)
+    subst (λ (from : Source). AddsBytesFrom from bytes before s after) (sym is_old) (new, is_new, adds, stays)
 
 -- characters that are added are taken in with the bytes that wait behind them
 pub front_taken : (front bytes : List ℕ) (waiting : Vec ℕ Global) (old new : Coming) (s : Status)

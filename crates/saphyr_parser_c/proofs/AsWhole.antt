@@ -25,8 +25,8 @@ use Rattle.saphyr_parser_c.specs.declared.source.Source.TheVariants as source
 use Rattle.saphyr_parser_c.specs.declared.status.Status.{Status}
 use Rattle.saphyr_parser_c.specs.declared.status.Status.TheVariants as status
 use Rattle.saphyr_parser_c.specs.Coming.{AddsBytes, AddsSome, EndsPieces, at_bytes, end_of_last}
-use Rattle.saphyr_parser_c.specs.Growing.{BeginBetween, EndsDocument, EndsFrom, EndsNoDocument, Item, LoadsAsWhole, Passes, Place, end_behind, once_came, place_in, place_of}
-use Rattle.saphyr_parser_c.specs.Inner.{AddsFrom, AddsToC, EndsAtFault, IsAtFrom, IsSameItem, MovesLastEnd, MovesLastEndFrom, ShowsAgain, ShowsFrom, ShowsOfComing, ShowsOfPieces, ShowsToC, WaitsForMore, handed}
+use Rattle.saphyr_parser_c.specs.Growing.{BeginBetween, ClosesDocument, EndsFrom, EndsNoDocument, Item, LoadsAsWhole, PassesThese, Spot, end_behind, once_came, spot_in, spot_of}
+use Rattle.saphyr_parser_c.specs.Inner.{AddsBytesFrom, AddsToC, EndsAtFault, IsAtFrom, IsSameItem, MovesLastEnd, MovesLastEndFrom, ShowsAgain, ShowsFrom, ShowsOfComing, ShowsOfPieces, ShowsToC, WaitsForMore, handed}
 use Rattle.saphyr_parser_c.proofs.Handing.{ends_same}
 use Rattle.saphyr_parser_c.proofs.NextDocument.{all_both, passes_both}
 
@@ -37,12 +37,12 @@ begins_between : (none : Type 0) (es rest : List Event) → (none → GoOnBetwee
 begins_between none [] rest of_none begins = of_none begins
 begins_between none (e ∷ es) rest of_none begins = begins
 
-pub as_whole : (limits : Limits) (es : List Event) (table : NodeTable) (start before after : Place) → Splits
-    → Passes es start before → EndsDocument limits es table before after
+pub as_whole : (limits : Limits) (es : List Event) (table : NodeTable) (start before after : Spot) → Splits
+    → PassesThese es start before → ClosesDocument limits es table before after
     → LoadsAsWhole limits (Some table) start after
 as_whole limits es table start before after splits passed ends later c last here =
     let all : List Event = (es ++ ends.took) ++ ends.last ∷ [] in
-    let p = subst (λ (l : List Event). Passes l start after) (sym (append_assoc es ends.took (ends.last ∷ [])))
+    let p = subst (λ (l : List Event). PassesThese l start after) (sym (append_assoc es ends.took (ends.last ∷ [])))
     (passes_both es (ends.took ++ ends.last ∷ []) start before after passed ends.passes) later c last here in
     let split = splits all c p.0 p.1 in (
       p.0,
@@ -65,8 +65,8 @@ as_whole limits es table start before after splits passed ends later c last here
       p.2,
     )
 
-pub none_as_whole : (limits : Limits) (es : List Event) (start before after : Place) → Splits → HasNoMore
-    → Passes es start before → EndsNoDocument es before after → LoadsAsWhole limits None start after
+pub none_as_whole : (limits : Limits) (es : List Event) (start before after : Spot) → Splits → HasNoMore
+    → PassesThese es start before → EndsNoDocument es before after → LoadsAsWhole limits None start after
 none_as_whole limits es start before after splits no_more passed ends later c last here =
     let all : List Event = es ++ ends.took in
     let p = all_both es ends.took start before after passed ends.passes later c last here in
@@ -114,7 +114,7 @@ same_at : (old new : Coming) (b : Bool) (item : Item) (later came : List ℕ) (c
 same_at old new false item later came c same is = same ∙ is
 same_at old new true item later came c same is = subst (GivesNext item c) (sym same) is
 
-abbrev IsThere : Coming → Bool → Item → Place
+abbrev IsThere : Coming → Bool → Item → Spot
 IsThere coming b item later c last = IsAtFrom b coming item later c × EndsFrom b coming item last
 
 some_added : (old new : Coming) (bytes : List ℕ) (b : Bool) (item : Item) (later : List ℕ) (c : EventCursor)
@@ -154,40 +154,40 @@ end_added extent.Part old new b item later c last adds here = all_came old new b
 
 as_before : (before after : Inner) (new : Box Coming Global) → after.source ≡ source.Pieces new
     → after ≡ record before { source = after.source } → (later : List ℕ) (c : EventCursor) (last : Marker)
-    → IsThere new.value before.shown (handed before) later c last → place_of after later c last
+    → IsThere new.value before.shown (handed before) later c last → spot_of after later c last
 as_before before after new is same later c last here =
-    subst (λ (m : Inner). place_in m.source m.shown (handed m) later c last) (sym same)
-    (subst (λ (x : Source). place_in x before.shown (handed before) later c last) (sym is) here)
+    subst (λ (m : Inner). spot_in m.source m.shown (handed m) later c last) (sym same)
+    (subst (λ (x : Source). spot_in x before.shown (handed before) later c last) (sym is) here)
 
 adds_from : (s : Source) (bytes : List ℕ) (before after : Inner) → (bytes ≡ [] → ⊥)
-    → AddsFrom s bytes before status.Done after → (later : List ℕ) (c : EventCursor) (last : Marker)
-    → place_in s before.shown (handed before) (bytes ++ later) c last → place_of after later c last
+    → AddsBytesFrom s bytes before status.Done after → (later : List ℕ) (c : EventCursor) (last : Marker)
+    → spot_in s before.shown (handed before) (bytes ++ later) c last → spot_of after later c last
 adds_from (source.Whole x) bytes before after some adds later c last here = absurd here
 adds_from (source.Pieces old) bytes before after some (new, is, adds, same) later c last here =
     as_before before after new is same later c last
     (bytes_added old.value.extent old.value new.value bytes before.shown (handed before) later c last some adds here)
 
-ends_from : (s : Source) (before after : Inner) → AddsFrom s [] before status.Done after
-    → (later : List ℕ) (c : EventCursor) (last : Marker) → place_in s before.shown (handed before) [] c last
-    → place_of after later c last
+ends_from : (s : Source) (before after : Inner) → AddsBytesFrom s [] before status.Done after
+    → (later : List ℕ) (c : EventCursor) (last : Marker) → spot_in s before.shown (handed before) [] c last
+    → spot_of after later c last
 ends_from (source.Whole x) before after adds later c last here = absurd here
 ends_from (source.Pieces old) before after (new, is, adds, same) later c last here =
     as_before before after new is same later c last
     (end_added old.value.extent old.value new.value before.shown (handed before) later c last adds here)
 
 pub passes_added : (es : List Event) (came bytes : List ℕ) (start before after : Inner) → (bytes ≡ [] → ⊥)
-    → AddsToC bytes before status.Done after → Passes es (once_came came false (place_of start)) (place_of before)
-    → Passes es (once_came (came ++ bytes) false (place_of start)) (place_of after)
+    → AddsToC bytes before status.Done after → PassesThese es (once_came came false (spot_of start)) (spot_of before)
+    → PassesThese es (once_came (came ++ bytes) false (spot_of start)) (spot_of after)
 passes_added es came bytes start before after some adds passed later c last here =
     let p = passed (bytes ++ later) c last
-    (subst (λ (bs : List ℕ). place_of start bs c last) (append_assoc came bytes later) here) in
+    (subst (λ (bs : List ℕ). spot_of start bs c last) (append_assoc came bytes later) here) in
     (p.0, p.1, adds_from before.source bytes before after some adds later p.0 (end_behind es last) p.2)
 
 pub passes_ended : (es : List Event) (came : List ℕ) (start before after : Inner) → AddsToC [] before status.Done after
-    → Passes es (once_came came false (place_of start)) (place_of before)
-    → Passes es (once_came came true (place_of start)) (place_of after)
+    → PassesThese es (once_came came false (spot_of start)) (spot_of before)
+    → PassesThese es (once_came came true (spot_of start)) (spot_of after)
 passes_ended es came start before after ends passed later c last here =
-    let p = passed [] c last (subst (λ (bs : List ℕ). place_of start bs c last) (sym (append-nil came)) here) in
+    let p = passed [] c last (subst (λ (bs : List ℕ). spot_of start bs c last) (sym (append-nil came)) here) in
     (p.0, p.1, ends_from before.source before after ends later p.0 (end_behind es last) p.2)
 
 -- ## What is shown
@@ -242,14 +242,14 @@ comes_to_show _ old new before after c shows moves later k last here =
     shows_at old new before after _ c shows moves later k last here
 
 shows_from : (x : Source) (before after : Inner) (s : Status) (c : CEvent) → ShowsFrom x before s c after
-    → (later : List ℕ) (k : EventCursor) (last : Marker) → place_in x before.shown (handed before) later k last
-    → place_of after later k last
+    → (later : List ℕ) (k : EventCursor) (last : Marker) → spot_in x before.shown (handed before) later k last
+    → spot_of after later k last
 shows_from (source.Whole x) before after s c shows later k last here = absurd here
 shows_from (source.Pieces old) before after s c (new, is, kept, moves, shows) later k last here =
-    subst (λ (y : Source). place_in y after.shown (handed after) later k last) (sym is)
+    subst (λ (y : Source). spot_in y after.shown (handed after) later k last) (sym is)
     (comes_to_show s old.value new.value before after c shows moves later k last here)
 
 pub passes_shown : (before after : Inner) (s : Status) (c : CEvent) → ShowsToC before s c after
-    → Passes [] (place_of before) (place_of after)
+    → PassesThese [] (spot_of before) (spot_of after)
 passes_shown before after s c (shows, trees) later k last here =
     (k, refl, shows_from before.source before after s c shows later k last here)

@@ -10,7 +10,7 @@ use Rattle.yaml_check.specs.Statuses.{IsLetPass}
 use Rattle.saphyr_parser_c.specs.declared.found.COptions.{COptions}
 use Rattle.saphyr_parser_c.specs.declared.inner.Inner.{Inner}
 use Rattle.saphyr_parser_c.specs.declared.status.Status.{Status}
-use Rattle.saphyr_parser_c.specs.Check.{ChecksText, HoldsAtStart, IsChecked, KeepsFindings, TellsVerdict, status_of_check}
+use Rattle.saphyr_parser_c.specs.Check.{ChecksText, HoldsAtStart, KeepsFindings, TellsVerdict, status_of_check}
 use Rattle.saphyr_parser_c.specs.Found.{AreOptions}
 use Rattle.saphyr_parser_c.specs.Status.{code_of}
 

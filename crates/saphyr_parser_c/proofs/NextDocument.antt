@@ -1,5 +1,5 @@
 -- Of a text that comes in pieces the events are passed, one behind the other, and a document's tree takes them.
-use Rattle.std.proofs.Common.{true≢false, ◌≡◌, ◌∙◌, ◌<◌, ℕ, Bool, true, false, List, [], ◌∷◌, ◌++◌, Option, None, Some, Result, Ok, Err, inl, inr, refl, sym, ap, subst, append_assoc, append-nil, length-append, arith}
+use Rattle.std.proofs.Common.{true≢false, ◌≡◌, ◌∙◌, ◌<◌, ℕ, Bool, true, false, List, [], ◌∷◌, ◌++◌, Option, None, Some, Result, Ok, Err, inl, refl, sym, ap, subst, append_assoc, append-nil, length-append, arith}
 use Rattle.std.proofs.lemmas.List.{map-append}
 use Rattle.std.specs.Prelude.{string_bytes}
 use Rattle.std.specs.declared.boxed.Box.{Box}
@@ -14,9 +14,7 @@ use Rattle.saphyr_parser.specs.Types.Fault.TheVariants as fault
 use Rattle.saphyr_parser.specs.Answer.{Answer}
 use Rattle.saphyr_parser.specs.Calls.{Advances, GivesNext, item_at}
 use Rattle.saphyr_parser.specs.Cursor.{EventCursor, count, event_of, to_come}
-use Rattle.saphyr_parser.specs.Events.{Happening, StreamStart, StreamEnd, DocumentStart}
 use Rattle.saphyr_parser.specs.Nesting.{happenings}
-use Rattle.saphyr_parser.specs.Views.Events.{happening}
 use Rattle.yaml_tree.specs.declared.fault.TreeFault.{TreeFault}
 use Rattle.yaml_tree.specs.declared.fault.TreeFault.TheVariants as tree
 use Rattle.yaml_tree.specs.declared.table.NodeTable.{NodeTable}
@@ -38,54 +36,54 @@ use Rattle.saphyr_parser_c.specs.declared.source.Source.{Source}
 use Rattle.saphyr_parser_c.specs.declared.source.Source.TheVariants as source
 use Rattle.saphyr_parser_c.specs.declared.status.Status.{Status}
 use Rattle.saphyr_parser_c.specs.declared.status.Status.TheVariants as status
-use Rattle.saphyr_parser_c.specs.Coming.{KeepsRest, WritesWaiting, at_bytes, end_of_last}
-use Rattle.saphyr_parser_c.specs.Growing.{AreBetween, BeginBetween, Begins, CannotTake, ComesInside, HasBegun, IsHandedOut, IsInPieces, IsShownFirst, Item, KeepsText, Loads, LoadsComing, LoadsFromPieces, LoadsRest, LoadsSo, MeetsFault, Passes, PassesAll, PassesOne, PassesToFault, Place, ShowsBetween, ShowsInside, StaysAbout, TakesEvents, TakesNext, WaitsForDocument, WaitsIn, WaitsSo, WantsNoMore, WritesNext, WritesWaited, end_behind, last_place_of, left_in, place_in, place_of}
+use Rattle.saphyr_parser_c.specs.Coming.{KeepsRest, at_bytes, end_of_last}
+use Rattle.saphyr_parser_c.specs.Growing.{AreBetween, BeginBetween, Begins, CannotTake, HasBegun, IsHandedOut, IsInPieces, IsShownFirst, Item, KeepsText, LoadsRestOf, LoadsComing, LoadsFromPieces, LoadsRest, LoadsSo, MeetsFault, PassesThese, PassesAll, PassesOne, PassesToFault, Spot, ShowsBetween, StaysAbout, TakesUpToEnd, TakesOne, WaitsSo, WantsNoMore, WritesNext, end_behind, last_spot_of, left_in, spot_in, spot_of}
 use Rattle.saphyr_parser_c.specs.Inner.{handed}
-use Rattle.saphyr_parser_c.specs.Shown.{HasFields, WritesFault, no_fields}
+use Rattle.saphyr_parser_c.specs.Shown.{WritesFault}
 use Rattle.saphyr_parser_c.specs.Status.{IsStatusOfRefusal}
 use Rattle.saphyr_parser_c.specs.Trees.{KeepsButFault, WritesUnloaded}
 
 -- ## Events that are passed
 
-pub stays_put : (p : Place) → Passes [] p p
+pub stays_put : (p : Spot) → PassesThese [] p p
 stays_put p later at last here = (at, refl, here)
 
 end_both : (xs ys : List Event) (last : Marker) → end_behind (xs ++ ys) last ≡ end_behind ys (end_behind xs last)
 end_both [] ys last = refl
 end_both (x ∷ xs) ys last = end_both xs ys x.1.end
 
-ends_both : (p : Place) (xs ys : List Event) (later : List ℕ) (at : EventCursor) (last : Marker)
+ends_both : (p : Spot) (xs ys : List Event) (later : List ℕ) (at : EventCursor) (last : Marker)
     → p later at (end_behind ys (end_behind xs last)) → p later at (end_behind (xs ++ ys) last)
 ends_both p xs ys later at last here = subst (λ (m : Marker). p later at m) (sym (end_both xs ys last)) here
 
-pub passes_both : (xs ys : List Event) (a b c : Place) → Passes xs a b → Passes ys b c → Passes (xs ++ ys) a c
+pub passes_both : (xs ys : List Event) (a b c : Spot) → PassesThese xs a b → PassesThese ys b c → PassesThese (xs ++ ys) a c
 passes_both xs ys a b c first then later at last here =
     let f = first later at last here in
     let g = then later f.0 (end_behind xs last) f.2 in
     (g.0, over_both xs ys at f.0 g.0 f.1 g.1, ends_both c xs ys later g.0 last g.2)
 
-pub passes_on : (xs : List Event) (a b c : Place) → Passes xs a b → Passes [] b c → Passes xs a c
+pub passes_on : (xs : List Event) (a b c : Spot) → PassesThese xs a b → PassesThese [] b c → PassesThese xs a c
 passes_on xs a b c first then =
-    subst (λ (es : List Event). Passes es a c) (append-nil xs) (passes_both xs [] a b c first then)
+    subst (λ (es : List Event). PassesThese es a c) (append-nil xs) (passes_both xs [] a b c first then)
 
-pub all_both : (xs ys : List Event) (a b c : Place) → Passes xs a b → PassesAll ys b c → PassesAll (xs ++ ys) a c
+pub all_both : (xs ys : List Event) (a b c : Spot) → PassesThese xs a b → PassesAll ys b c → PassesAll (xs ++ ys) a c
 all_both xs ys a b c first then later at last here =
     let f = first later at last here in
     let g = then later f.0 (end_behind xs last) f.2 in
     (g.0, over_both xs ys at f.0 g.0 f.1 g.1, g.2, ends_both c xs ys later g.0 last g.3)
 
-pub all_behind : (xs : List Event) (a b c : Place) → Passes xs a b → PassesAll [] b c → PassesAll xs a c
+pub all_behind : (xs : List Event) (a b c : Spot) → PassesThese xs a b → PassesAll [] b c → PassesAll xs a c
 all_behind xs a b c first then =
     subst (λ (es : List Event). PassesAll es a c) (append-nil xs) (all_both xs [] a b c first then)
 
-pub fault_both : (f : Fault) (xs ys : List Event) (a b c : Place) → Passes xs a b → PassesToFault f ys b c
+pub fault_both : (f : Fault) (xs ys : List Event) (a b c : Spot) → PassesThese xs a b → PassesToFault f ys b c
     → PassesToFault f (xs ++ ys) a c
 fault_both e xs ys a b c first then later at last here =
     let f = first later at last here in
     let g = then later f.0 (end_behind xs last) f.2 in
     (g.0, g.1, over_both xs ys at f.0 g.0 f.1 g.2, g.3, ends_both c xs ys later g.1 last g.4)
 
-pub fault_behind : (f : Fault) (xs : List Event) (a b c : Place) → Passes xs a b → PassesToFault f [] b c
+pub fault_behind : (f : Fault) (xs : List Event) (a b c : Spot) → PassesThese xs a b → PassesToFault f [] b c
     → PassesToFault f xs a c
 fault_behind f xs a b c first then =
     subst (λ (es : List Event). PassesToFault f es a c) (append-nil xs) (fault_both f xs [] a b c first then)
@@ -118,55 +116,36 @@ about_same m = record { text = text_stays m.source; trees = (refl, refl) }
 
 -- what is shown is what comes next, and behind it nothing is
 pub behind_shown : (s : Source) (x y : Item) (later : List ℕ) (at : EventCursor) (last : Marker)
-    → place_in s true x later at last
-    → (behind : EventCursor) × GivesNext x at behind × place_in s false y later behind (end_of_last x last)
+    → spot_in s true x later at last
+    → (behind : EventCursor) × GivesNext x at behind × spot_in s false y later behind (end_of_last x last)
 behind_shown (source.Whole c) x y later at last here = absurd here
 behind_shown (source.Pieces coming) x y later at last (here, (ends, enough)) =
     (at_bytes coming.value later, here, (refl, ends))
 
 -- where nothing is shown it's the same place, whatever was handed out
 pub same_unshown : (s : Source) (x y : Item) (later : List ℕ) (at : EventCursor) (last : Marker)
-    → place_in s false x later at last → place_in s false y later at last
+    → spot_in s false x later at last → spot_in s false y later at last
 same_unshown (source.Whole c) x y later at last here = here
 same_unshown (source.Pieces coming) x y later at last here = here
 
 pub passes_shown : (s : Source) (e : Given × Span) (y : Item)
-    → Passes (event_of e ∷ []) (place_in s true (Some (Ok e))) (place_in s false y)
+    → PassesThese (event_of e ∷ []) (spot_in s true (Some (Ok e))) (spot_in s false y)
 passes_shown s e y later at last here =
     let b = behind_shown s (Some (Ok e)) y later at last here in (b.0, (b.0, b.1, refl), b.2)
-
-pub ends_shown : (s : Source) (y : Item) → PassesAll [] (place_in s true None) (place_in s false y)
-ends_shown s y later at last here =
-    let b = behind_shown s None y later at last here in
-    (at, refl, b.1.0, subst (λ (c : EventCursor). place_in s false y later c last) b.1.1 b.2)
-
-no_more_shown : (s : Source) (f : Fault) (later : List ℕ) (at : EventCursor) (last : Marker)
-    → place_in s true (Some (Err f)) later at last → WantsNoMore s
-no_more_shown (source.Whole c) f later at last here = absurd here
-no_more_shown (source.Pieces coming) f later at last (here, (ends, enough)) = enough
-
-abbrev last_place_in : Source → Item → Place
-last_place_in s item later at last = place_in s false item later at last × WantsNoMore s
-
-pub fails_shown : (s : Source) (f : Fault) (y : Item)
-    → PassesToFault f [] (place_in s true (Some (Err f))) (last_place_in s y)
-fails_shown s f y later at last here =
-    let b = behind_shown s (Some (Err f)) y later at last here in
-    (at, b.0, refl, b.1, (b.2, no_more_shown s f later at last here))
 
 -- ## A document's events
 
 -- these events were taken behind others, and none of all ends a document
-abbrev pub TookSome : Limits → List Event → Place → Inner → Grower → Type 0
-TookSome limits es before now grower = (took : List Event) × Passes took before (place_of now)
+abbrev pub TookSome : Limits → List Event → Spot → Inner → Grower → Type 0
+TookSome limits es before now grower = (took : List Event) × PassesThese took before (spot_of now)
     × HasGrownWithin limits (es ++ took) grower × EndNoDocument (happenings (es ++ took)) × AreBetween (es ++ took) now
 
 pub took_none : (limits : Limits) (es : List Event) (m : Inner) (g : Grower) → HasGrownWithin limits es g
-    → EndNoDocument (happenings es) → AreBetween es m → TookSome limits es (place_of m) m g
+    → EndNoDocument (happenings es) → AreBetween es m → TookSome limits es (spot_of m) m g
 took_none limits es m g grown inside between =
     let same = sym (append-nil es) in (
       [],
-      stays_put (place_of m),
+      stays_put (spot_of m),
       subst (λ (l : List Event). HasGrownWithin limits l g) same grown,
       subst (λ (l : List Event). EndNoDocument (happenings l)) same inside,
       subst (λ (l : List Event). AreBetween l m) same between,
@@ -198,14 +177,14 @@ between_unshown es m off between = begun_of _ ⊥ es (λ x. true≢false (sym x.
 between_begun : (es : List Event) (m : Inner) → BeginBetween ⊥ es → AreBetween es m
 between_begun es m begins = begun_of ⊥ _ es (λ x. absurd x) begins
 
-pub took_more : (limits : Limits) (es : List Event) (before : Place) (a b : Inner) (old new : Grower)
-    (t : TookSome limits es before a old) → TakesNext limits (es ++ t.0) (Ok None) a b old new
+pub took_more : (limits : Limits) (es : List Event) (before : Spot) (a b : Inner) (old new : Grower)
+    (t : TookSome limits es before a old) → TakesOne limits (es ++ t.0) (Ok None) a b old new
     → TookSome limits es before b new
 took_more limits es before a b old new (took, passed, grown, inside, between) (one, grows, not_end) =
     let e = one.event in
     let same = append_assoc es took (e ∷ []) in (
       took ++ e ∷ [],
-      passes_both took (e ∷ []) before (place_of a) (place_of b) passed one.passes,
+      passes_both took (e ∷ []) before (spot_of a) (spot_of b) passed one.passes,
       subst (λ (l : List Event). HasGrownWithin limits l new) same grows,
       subst (λ (l : List Event). EndNoDocument (happenings l)) same
           (subst EndNoDocument (sym (map-append (λ (d : Event). d.0) (es ++ took) (e ∷ [])))
@@ -214,13 +193,13 @@ took_more limits es before a b old new (took, passed, grown, inside, between) (o
           (between_begun ((es ++ took) ++ e ∷ []) b (begins_with (es ++ took) e a between one.first)),
     )
 
-pub took_all : (limits : Limits) (es : List Event) (before : Place) (a b : Inner) (old new : Grower) (ended : Bool)
-    (t : TookSome limits es before a old) → TakesNext limits (es ++ t.0) (Ok (Some ended)) a b old new
-    → TakesEvents limits es (Ok ended) before b new
+pub took_all : (limits : Limits) (es : List Event) (before : Spot) (a b : Inner) (old new : Grower) (ended : Bool)
+    (t : TookSome limits es before a old) → TakesOne limits (es ++ t.0) (Ok (Some ended)) a b old new
+    → TakesUpToEnd limits es (Ok ended) before b new
 took_all limits es before a b old new true (took, passed, grown, inside, between) (one, grows, is_end, none_open) = (
   took,
   one.event,
-  passes_both took (one.event ∷ []) before (place_of a) (place_of b) passed one.passes,
+  passes_both took (one.event ∷ []) before (spot_of a) (spot_of b) passed one.passes,
   inside,
   grows,
   is_end,
@@ -229,32 +208,32 @@ took_all limits es before a b old new true (took, passed, grown, inside, between
 )
 took_all limits es before a b old new false (took, passed, grown, inside, between) rest = record {
   took = took;
-  passes = all_behind took before (place_of a) (place_of b) passed rest;
+  passes = all_behind took before (spot_of a) (spot_of b) passed rest;
   begins = between_some (es ++ took) a between;
   inside = inside;
 }
 
-not_taken : (f : TreeFault) (limits : Limits) (es : List Event) (before : Place) (a b : Inner) (old : Grower)
+not_taken : (f : TreeFault) (limits : Limits) (es : List Event) (before : Spot) (a b : Inner) (old : Grower)
     (t : TookSome limits es before a old) (one : PassesOne a b)
     → Forbids ⊥ f limits (happenings ((es ++ t.0) ++ one.event ∷ [])) one.event.1.start
-    → CannotTake f limits es before (place_of b)
+    → CannotTake f limits es before (spot_of b)
 not_taken f limits es before a b old (took, passed, grown, inside, between) one why = record {
   took = took;
   event = one.event;
-  passes = passes_both took (one.event ∷ []) before (place_of a) (place_of b) passed one.passes;
+  passes = passes_both took (one.event ∷ []) before (spot_of a) (spot_of b) passed one.passes;
   begins = begins_with (es ++ took) one.event a between one.first;
   inside = inside;
   within = grown.within;
   why = why;
 }
 
-pub took_until : (limits : Limits) (es : List Event) (before : Place) (a b : Inner) (old new : Grower) (why : Stop)
-    (t : TookSome limits es before a old) → TakesNext limits (es ++ t.0) (Err why) a b old new
-    → TakesEvents limits es (Err why) before b new
+pub took_until : (limits : Limits) (es : List Event) (before : Spot) (a b : Inner) (old new : Grower) (why : Stop)
+    (t : TookSome limits es before a old) → TakesOne limits (es ++ t.0) (Err why) a b old new
+    → TakesUpToEnd limits es (Err why) before b new
 took_until limits es before a b old new (stop.Wait s place) (took, passed, grown, inside, between)
     (stays, same, off) = (
       took,
-      passes_on took before (place_of a) (place_of b) passed stays,
+      passes_on took before (spot_of a) (spot_of b) passed stays,
       subst (λ (g : Grower). HasGrownWithin limits (es ++ took) g) (sym same) grown,
       inside,
       between_unshown (es ++ took) a off between,
@@ -263,7 +242,7 @@ took_until limits es before a b old new (stop.Fault (tree.Parse f)) (took, passe
     (fails, shown) = (
       record {
         took = took;
-        passes = fault_behind f took before (place_of a) (last_place_of b) passed fails;
+        passes = fault_behind f took before (spot_of a) (last_spot_of b) passed fails;
         begins = between_some (es ++ took) a between;
         inside = inside;
         within = grown.within;
@@ -285,12 +264,12 @@ pub kept_text : (s : Source) (from to : Box Coming Global) → s ≡ source.Piec
 kept_text s from to is same = subst (λ (x : Source). KeepsText x (source.Pieces to)) (sym is) (to, refl, same)
 
 pub hands_event : (m : Inner) (y : Item) → m.shown ≡ true → m.progress ≡ progress.Event
-    → Passes (event_of m.next ∷ []) (place_of m) (place_in m.source false y)
+    → PassesThese (event_of m.next ∷ []) (spot_of m) (spot_in m.source false y)
 hands_event m y on is =
-    subst (λ (b : Bool). Passes (event_of m.next ∷ []) (place_in m.source b (handed m)) (place_in m.source false y))
+    subst (λ (b : Bool). PassesThese (event_of m.next ∷ []) (spot_in m.source b (handed m)) (spot_in m.source false y))
     (sym on)
-    (subst (λ (p : Progress). Passes (event_of m.next ∷ []) (place_in m.source true (item_at m.next m.fault p))
-    (place_in m.source false y)) (sym is) (passes_shown m.source m.next y))
+    (subst (λ (p : Progress). PassesThese (event_of m.next ∷ []) (spot_in m.source true (item_at m.next m.fault p))
+    (spot_in m.source false y)) (sym is) (passes_shown m.source m.next y))
 
 -- what is shown is the event that was read
 pub shown_first : (m n : Inner) → (m.shown ≡ true → n ≡ m) → n.progress ≡ progress.Event
@@ -302,49 +281,21 @@ shown_first m n again is on = (
 )
 
 unfoldable pub takes_event : (m n after : Inner) → after.source ≡ n.source → after.shown ≡ false
-    → Passes [] (place_of m) (place_of n) → (m.shown ≡ true → n ≡ m) → n.shown ≡ true
+    → PassesThese [] (spot_of m) (spot_of n) → (m.shown ≡ true → n ≡ m) → n.shown ≡ true
     → n.progress ≡ progress.Event → PassesOne m after
 takes_event m n after same off place again on is = record {
   event = event_of n.next;
-  passes = passes_both [] (event_of n.next ∷ []) (place_of m) (place_of n) (place_of after) place
-      (subst (λ (b : Bool). Passes (event_of n.next ∷ []) (place_of n) (place_in after.source b (handed after)))
+  passes = passes_both [] (event_of n.next ∷ []) (spot_of m) (spot_of n) (spot_of after) place
+      (subst (λ (b : Bool). PassesThese (event_of n.next ∷ []) (spot_of n) (spot_in after.source b (handed after)))
       (sym off)
-      (subst (λ (x : Source). Passes (event_of n.next ∷ []) (place_of n) (place_in x false (handed after))) (sym same)
+      (subst (λ (x : Source). PassesThese (event_of n.next ∷ []) (spot_of n) (spot_in x false (handed after))) (sym same)
       (hands_event n (handed after) on is)));
   first = shown_first m n again is;
 }
 
--- nothing is left
-pub takes_none : (m n after : Inner) → after.source ≡ n.source → after.shown ≡ false
-    → Passes [] (place_of m) (place_of n) → n.shown ≡ true → n.progress ≡ progress.Over
-    → PassesAll [] (place_of m) (place_of after)
-takes_none m n after same off place on is =
-    all_both [] [] (place_of m) (place_of n) (place_of after) place
-    (subst (λ (b : Bool). PassesAll [] (place_of n) (place_in after.source b (handed after))) (sym off)
-    (subst (λ (x : Source). PassesAll [] (place_of n) (place_in x false (handed after))) (sym same)
-    (subst (λ (b : Bool). PassesAll [] (place_in n.source b (handed n)) (place_in n.source false (handed after)))
-    (sym on)
-    (subst (λ (p : Progress). PassesAll [] (place_in n.source true (item_at n.next n.fault p))
-    (place_in n.source false (handed after))) (sym is) (ends_shown n.source (handed after))))))
-
--- the fault is told
-pub takes_fault : (m n after : Inner) (f : Fault) → after.source ≡ n.source → after.shown ≡ false
-    → Passes [] (place_of m) (place_of n) → n.shown ≡ true → n.progress ≡ progress.Fault → f ≡ n.fault
-    → PassesToFault f [] (place_of m) (last_place_of after)
-takes_fault m n after f same off place on is told =
-    subst (λ (g : Fault). PassesToFault g [] (place_of m) (last_place_of after)) (sym told)
-    (fault_both n.fault [] [] (place_of m) (place_of n) (last_place_of after) place
-    (subst (λ (b : Bool). PassesToFault n.fault [] (place_of n)
-    (λ later at last. place_in after.source b (handed after) later at last × WantsNoMore after.source)) (sym off)
-    (subst (λ (x : Source). PassesToFault n.fault [] (place_of n) (last_place_in x (handed after))) (sym same)
-    (subst (λ (b : Bool). PassesToFault n.fault [] (place_in n.source b (handed n))
-    (last_place_in n.source (handed after))) (sym on)
-    (subst (λ (p : Progress). PassesToFault n.fault [] (place_in n.source true (item_at n.next n.fault p))
-    (last_place_in n.source (handed after))) (sym is) (fails_shown n.source n.fault (handed after)))))))
-
 pub forbids : (f : TreeFault) (limits : Limits) (es : List Event) (before after : Inner) (old new : Grower)
     (one : PassesOne before after) → Forbids ⊥ f limits (happenings (es ++ one.event ∷ [])) one.event.1.start
-    → TakesNext limits es (Err (stop.Fault f)) before after old new
+    → TakesOne limits es (Err (stop.Fault f)) before after old new
 forbids (tree.Parse f) limits es before after old new one why = absurd why
 forbids tree.NotFresh limits es before after old new one why = (one, why)
 forbids tree.OutOfMemory limits es before after old new one why = (one, why)
@@ -370,12 +321,12 @@ less_shown (source.Whole c) = omega arith
 less_shown (source.Pieces coming) = omega arith
 
 less_unshown : (s t : Source) (x : Item) (e : Given × Span) (y : Item) → Splits → IsInPieces s → KeepsText s t
-    → y ≡ Some (Ok e) → Passes [] (place_in s false x) (place_in t true y) → left_in t false < left_in s false
+    → y ≡ Some (Ok e) → PassesThese [] (spot_in s false x) (spot_in t true y) → left_in t false < left_in s false
 less_unshown (source.Whole c) t x e y splits there text is passes = absurd there
 less_unshown (source.Pieces from) t x e y splits there (to, same, kept) is passes =
     let stays = passes [] (at_bytes from.value []) from.value.last_end (refl, refl) in
-    let shown = subst (λ (z : Item). place_in (source.Pieces to) true z [] stays.0 from.value.last_end) is
-    (subst (λ (u : Source). place_in u true y [] stays.0 from.value.last_end) same stays.2) in
+    let shown = subst (λ (z : Item). spot_in (source.Pieces to) true z [] stays.0 from.value.last_end) is
+    (subst (λ (u : Source). spot_in u true y [] stays.0 from.value.last_end) same stays.2) in
     let gives : GivesNext (Some (Ok e)) (at_bytes from.value []) (at_bytes to.value []) =
     subst (λ (c : EventCursor). GivesNext (Some (Ok e)) c (at_bytes to.value [])) stays.1 shown.0 in
     subst (λ (u : Source). left_in u false < left_in (source.Pieces from) false) (sym same)
@@ -383,90 +334,34 @@ less_unshown (source.Pieces from) t x e y splits there (to, same, kept) is passe
 
 less_either : (m n : Inner) (e : Given × Span) → Splits → (m.shown ≡ false → IsInPieces m.source)
     → KeepsText m.source n.source → (m.shown ≡ true → n ≡ m) → n.shown ≡ true → handed n ≡ Some (Ok e)
-    → Passes [] (place_of m) (place_of n) → (b : Bool) → m.shown ≡ b → left_in n.source false < left_in m.source b
+    → PassesThese [] (spot_of m) (spot_of n) → (b : Bool) → m.shown ≡ b → left_in n.source false < left_in m.source b
 less_either m n e splits there text again on is passes true was =
     subst (λ (k : Inner). left_in k.source false < left_in m.source true) (sym (again was)) (less_shown m.source)
 less_either m n e splits there text again on is passes false was =
     less_unshown m.source n.source (handed m) e (handed n) splits (there was) text is
-    (subst (λ (b : Bool). Passes [] (place_in m.source false (handed m)) (place_in n.source b (handed n))) on
-    (subst (λ (b : Bool). Passes [] (place_in m.source b (handed m)) (place_of n)) was passes))
+    (subst (λ (b : Bool). PassesThese [] (spot_in m.source false (handed m)) (spot_in n.source b (handed n))) on
+    (subst (λ (b : Bool). PassesThese [] (spot_in m.source b (handed m)) (spot_of n)) was passes))
 
 -- the event that is shown is handed out
 pub less_behind_shown : (m n : Inner) (e : Given × Span) → Splits → (m.shown ≡ false → IsInPieces m.source)
     → KeepsText m.source n.source → (m.shown ≡ true → n ≡ m) → n.shown ≡ true → handed n ≡ Some (Ok e)
-    → Passes [] (place_of m) (place_of n) → left_in n.source false < left_in m.source m.shown
+    → PassesThese [] (spot_of m) (spot_of n) → left_in n.source false < left_in m.source m.shown
 less_behind_shown m n e splits there text again on is passes = less_either m n e splits there text again on is passes
     m.shown refl
 
 -- ## A document
-
--- what is no event inside a document is one around documents, or none
-around_else : (h : Happening) → ((IsAroundDocuments h → ⊥) → ⊥) → IsAroundDocuments h
-around_else StreamStart not = tt
-around_else (DocumentStart explicit) not = tt
-around_else StreamEnd not = tt
-around_else _ not = absurd (not (λ x. x))
-
-shows_between : (item : Item) → (ShowsInside item → ⊥) → ShowsBetween item
-shows_between (Some (Ok e)) not = around_else (happening e.0) not
-shows_between (Some (Err f)) not = tt
-shows_between None not = tt
-
--- a document begins, or goes on
-pub begins_here : (given limits : Limits) (es : List Event) (grower : Grower) (m : Inner)
-    → HasGrownWithin given [] grower → m.shown ≡ true → (ShowsInside (handed m) → ⊥) → limits ≡ given → es ≡ []
-    → HasGrownWithin limits es grower × EndNoDocument (happenings es) × AreBetween es m
-begins_here given limits es grower m grown on not same none =
-    subst (λ (most : Limits). HasGrownWithin most es grower × EndNoDocument (happenings es) × AreBetween es m)
-    (sym same)
-    (subst (λ (l : List Event). HasGrownWithin given l grower × EndNoDocument (happenings l) × AreBetween l m)
-    (sym none)
-    (grown, tt, (on, shows_between (handed m) not)))
 
 pub goes_on : (limits : Limits) (es : List Event) (grower : Grower) (m : Inner) → HasGrownWithin limits es grower
     → EndNoDocument (happenings es) → BeginBetween ⊥ es
     → HasGrownWithin limits es grower × EndNoDocument (happenings es) × AreBetween es m
 goes_on limits es grower m grown inside begins = (grown, inside, between_begun es m begins)
 
-comes_inside : (es : List Event) (before after : Inner) → es ≡ [] → after.shown ≡ true → (item : Item)
-    → handed after ≡ item → ShowsInside item → Passes [] (place_of before) (place_of after)
-    → ComesInside es (place_of before) after.shown (handed after) (place_of after)
-comes_inside es before after none on (Some (Ok e)) is inside stays =
-    record { none_before = none; event = e; shown = on; next = is; inside = inside; stays = stays }
-comes_inside es before after none on (Some (Err f)) is inside stays = absurd inside
-comes_inside es before after none on None is inside stays = absurd inside
-
-pub begun_shown : (given : Limits) (before after : Inner) (why : Stop) → Begins given (Err why) before after
-    → Passes [] (place_of before) (place_of after) → after.growing ≡ None → LoadsSo given (Err why) before after
-begun_shown given before after (stop.Wait s place) (none, waits) stays empty = (
-  waits,
-  λ limits es has.
-      let first = subst (HasBegun given limits es) none has in (
-        [],
-        stays,
-        subst (HasBegun limits limits (es ++ [])) (sym empty) (refl, append-nil es ∙ first.1),
-      ),
-)
-begun_shown given before after (stop.Fault tree.OutOfMemory) none stays empty =
-    (empty, λ limits es has. (inr ((subst (HasBegun given limits es) none has).1, stays), tt))
-begun_shown given before after (stop.Fault tree.NotFresh) (none, on, inside) stays empty = (
-  empty,
-  λ limits es has. (
-    comes_inside es before after (subst (HasBegun given limits es) none has).1 on (handed after) refl
-        inside stays,
-    tt,
-  ),
-)
-begun_shown given before after (stop.Fault (tree.Parse f)) b stays empty = absurd b
-begun_shown given before after (stop.Fault (tree.TooManyNodes at most)) b stays empty = absurd b
-begun_shown given before after (stop.Fault (tree.TooDeep at most)) b stays empty = absurd b
-
 -- the document that began goes on
 module _ (given : Limits) (before mid after : Inner) (old : Box Grower Global) (new : Grower)
-    (begins : Begins given (Ok old) before mid) (stays : Passes [] (place_of before) (place_of mid)) where
+    (begins : Begins given (Ok old) before mid) (stays : PassesThese [] (spot_of before) (spot_of mid)) where
   abbrev Taken : Result Bool Stop → Type 0
   Taken r = (most : Limits) (es : List Event) → HasGrownWithin most es old.value → EndNoDocument (happenings es)
-      → AreBetween es mid → TakesEvents most es r (place_of mid) after new
+      → AreBetween es mid → TakesUpToEnd most es r (spot_of mid) after new
 
   pub loads_table : (t : NodeTable) → Taken (Ok true) → after.growing ≡ None
       → ((limits : Limits) (es : List Event) → HasGrownWithin limits es new → HasNoneOpen new.growth → IsTable es t)
@@ -479,7 +374,7 @@ module _ (given : Limits) (before mid after : Inner) (old : Box Grower Global) (
         record {
           took = r.0;
           last = r.1;
-          passes = passes_both [] (r.0 ++ r.1 ∷ []) (place_of before) (place_of mid) (place_of after) stays r.2;
+          passes = passes_both [] (r.0 ++ r.1 ∷ []) (spot_of before) (spot_of mid) (spot_of after) stays r.2;
           begins = r.7;
           inside = r.3;
           ends = r.5;
@@ -496,14 +391,14 @@ module _ (given : Limits) (before mid after : Inner) (old : Box Grower Global) (
         let r = taken limits es b.0 b.1 b.2 in
         record {
           took = r.took;
-          passes = all_both [] r.took (place_of before) (place_of mid) (place_of after) stays r.passes;
+          passes = all_both [] r.took (spot_of before) (spot_of mid) (spot_of after) stays r.passes;
           begins = r.begins;
           inside = r.inside;
         },
   )
 
   pub loads_later : (s : Status) (place : Marker) (kept : Inner) → Taken (Err (stop.Wait s place))
-      → WaitsSo s place kept → Passes [] (place_of after) (place_of kept) → (box : Box Grower Global)
+      → WaitsSo s place kept → PassesThese [] (spot_of after) (spot_of kept) → (box : Box Grower Global)
       → box.value ≡ new → kept.growing ≡ Some box → LoadsSo given (Err (stop.Wait s place)) before kept
   loads_later s place kept taken waits same box holds is = (
     waits,
@@ -511,20 +406,20 @@ module _ (given : Limits) (before mid after : Inner) (old : Box Grower Global) (
         let b = begins limits es has in
         let r = taken limits es b.0 b.1 b.2 in (
           r.0,
-          passes_on r.0 (place_of before) (place_of after) (place_of kept)
-              (passes_both [] r.0 (place_of before) (place_of mid) (place_of after) stays r.1) same,
+          passes_on r.0 (spot_of before) (spot_of after) (spot_of kept)
+              (passes_both [] r.0 (spot_of before) (spot_of mid) (spot_of after) stays r.1) same,
           subst (HasBegun limits limits (es ++ r.0)) (sym is)
               (subst (λ (g : Grower). HasGrownWithin limits (es ++ r.0) g) (sym holds) r.2, r.3, r.4),
         ),
   )
 
   cannot_take : (f : TreeFault) (limits : Limits) (es : List Event)
-      → CannotTake f limits es (place_of mid) (place_of after)
-      → CannotTake f limits es (place_of before) (place_of after)
+      → CannotTake f limits es (spot_of mid) (spot_of after)
+      → CannotTake f limits es (spot_of before) (spot_of after)
   cannot_take f limits es r = record {
     took = r.took;
     event = r.event;
-    passes = passes_both [] (r.took ++ r.event ∷ []) (place_of before) (place_of mid) (place_of after) stays r.passes;
+    passes = passes_both [] (r.took ++ r.event ∷ []) (spot_of before) (spot_of mid) (spot_of after) stays r.passes;
     begins = r.begins;
     inside = r.inside;
     within = r.within;
@@ -532,12 +427,12 @@ module _ (given : Limits) (before mid after : Inner) (old : Box Grower Global) (
   }
 
   fails : (f : TreeFault) (limits : Limits) (es : List Event)
-      → TakesEvents limits es (Err (stop.Fault f)) (place_of mid) after new
-      → LoadsRest limits es (Err f) (place_of before) after × IsHandedOut f after
+      → TakesUpToEnd limits es (Err (stop.Fault f)) (spot_of mid) after new
+      → LoadsRest limits es (Err f) (spot_of before) after × IsHandedOut f after
   fails (tree.Parse f) limits es (r, off) = (
     record {
       took = r.took;
-      passes = fault_both f [] r.took (place_of before) (place_of mid) (last_place_of after) stays r.passes;
+      passes = fault_both f [] r.took (spot_of before) (spot_of mid) (last_spot_of after) stays r.passes;
       begins = r.begins;
       inside = r.inside;
       within = r.within;
@@ -558,26 +453,6 @@ module _ (given : Limits) (before mid after : Inner) (old : Box Grower Global) (
   )
 
 -- ## What is told
-
--- where it waits more is needed, or too much waits
-told_so : (given : Limits) (before after : Inner) (c : CEvent) (s : Status) (box : Box Coming Global)
-    → WritesWaiting s box.value → WritesWaited given before s c after → LoadsComing given before s c after
-told_so given before after c status.More box why waited = waited
-told_so given before after c status.TooMuch box why waited = waited
-told_so given before after c _ box why waited = absurd why
-
-text_of : (a b : Source) → IsInPieces a → KeepsText a b → (box : Box Coming Global) × (b ≡ source.Pieces box)
-text_of (source.Whole c) b there text = absurd there
-text_of (source.Pieces old) b there (box, is, kept) = (box, is)
-
-pub tells_waiting : (given : Limits) (before after : Inner) (c : CEvent) (s : Status) (place : Marker)
-    → IsInPieces before.source → KeepsText before.source after.source
-    → WaitsForDocument given s place before.growing (place_of before) after → HasFields no_fields place place c
-    → IsEmptyTable after.table → LoadsComing given before s c after
-tells_waiting given before after c s place there text waits fields empty =
-    let kept = text_of before.source after.source there text in
-    told_so given before after c s kept.0
-    (subst (λ (x : Source). WaitsIn x after.shown s place) kept.1 waits.0).1 (place, waits, fields, empty)
 
 -- what became of a document is no want of more
 abbrev IsAnswer : Status → Type 0
@@ -610,32 +485,32 @@ answers (Ok None) s c after told = subst IsAnswer (sym told.0) tt
 answers (Err f) s c after told = unloaded_answers f s c after told.0
 
 told_loaded : (given : Limits) (before after : Inner) (c : CEvent) (s : Status) → IsAnswer s
-    → (r : Result (Option NodeTable) TreeFault) × Loads given r before.growing (place_of before) after
+    → (r : Result (Option NodeTable) TreeFault) × LoadsRestOf given r before.growing (spot_of before) after
     × WritesNext r s c after → LoadsComing given before s c after
 told_loaded given before after c status.More answer told = absurd answer
 told_loaded given before after c status.TooMuch answer told = absurd answer
 told_loaded given before after c _ answer told = told
 
 pub tells : (given : Limits) (before after : Inner) (c : CEvent) (s : Status)
-    (r : Result (Option NodeTable) TreeFault) → Loads given r before.growing (place_of before) after
+    (r : Result (Option NodeTable) TreeFault) → LoadsRestOf given r before.growing (spot_of before) after
     → WritesNext r s c after → LoadsComing given before s c after
 tells given before after c s r loads told =
     told_loaded given before after c s (answers r s c after told) (r, loads, told)
 
 -- a fault is told, whose text may move
 still_last : (mid after : Inner) (later : List ℕ) (at : EventCursor) (last : Marker) → after.source ≡ mid.source
-    → after.shown ≡ mid.shown → mid.shown ≡ false → last_place_of mid later at last → last_place_of after later at last
+    → after.shown ≡ mid.shown → mid.shown ≡ false → last_spot_of mid later at last → last_spot_of after later at last
 still_last mid after later at last same on off (here, enough) = (
-  subst (λ (b : Bool). place_in after.source b (handed after) later at last) (sym (on ∙ off))
-      (subst (λ (x : Source). place_in x false (handed after) later at last) (sym same)
+  subst (λ (b : Bool). spot_in after.source b (handed after) later at last) (sym (on ∙ off))
+      (subst (λ (x : Source). spot_in x false (handed after) later at last) (sym same)
       (same_unshown mid.source (handed mid) (handed after) later at last
-      (subst (λ (b : Bool). place_in mid.source b (handed mid) later at last) off here))),
+      (subst (λ (b : Bool). spot_in mid.source b (handed mid) later at last) off here))),
   subst WantsNoMore (sym same) enough,
 )
 
-still_meets : (f : Fault) (limits : Limits) (es : List Event) (p : Place) (mid after : Inner)
+still_meets : (f : Fault) (limits : Limits) (es : List Event) (p : Spot) (mid after : Inner)
     → after.source ≡ mid.source → after.shown ≡ mid.shown → mid.shown ≡ false
-    → MeetsFault f limits es p (last_place_of mid) → MeetsFault f limits es p (last_place_of after)
+    → MeetsFault f limits es p (last_spot_of mid) → MeetsFault f limits es p (last_spot_of after)
 still_meets f limits es p mid after same on off r = record {
   took = r.took;
   passes = λ later at last here.
@@ -652,24 +527,24 @@ still_meets f limits es p mid after same on off r = record {
 }
 
 unloaded : (f : TreeFault) (given : Limits) (before mid after : Inner) → KeepsButFault f mid after
-    → LoadsSo given (Err (stop.Fault f)) before mid → Loads given (Err f) before.growing (place_of before) after
+    → LoadsSo given (Err (stop.Fault f)) before mid → LoadsRestOf given (Err f) before.growing (spot_of before) after
 unloaded (tree.Parse f) given before mid after kept (none, loads) = (
   kept.2.1 ∙ none,
   λ limits es has.
       let r = loads limits es has in
-      still_meets f limits es (place_of before) mid after kept.0 kept.1 r.1 r.0,
+      still_meets f limits es (spot_of before) mid after kept.0 kept.1 r.1 r.0,
 )
 unloaded tree.NotFresh given before mid after kept (none, loads) =
-    subst (λ (m : Inner). Loads given (Err tree.NotFresh) before.growing (place_of before) m) (sym kept.3)
+    subst (λ (m : Inner). LoadsRestOf given (Err tree.NotFresh) before.growing (spot_of before) m) (sym kept.3)
     (none, λ limits es has. (loads limits es has).0)
 unloaded tree.OutOfMemory given before mid after kept (none, loads) =
-    subst (λ (m : Inner). Loads given (Err tree.OutOfMemory) before.growing (place_of before) m) (sym kept.3)
+    subst (λ (m : Inner). LoadsRestOf given (Err tree.OutOfMemory) before.growing (spot_of before) m) (sym kept.3)
     (none, λ limits es has. (loads limits es has).0)
 unloaded (tree.TooManyNodes at most) given before mid after kept (none, loads) =
-    subst (λ (m : Inner). Loads given (Err (tree.TooManyNodes at most)) before.growing (place_of before) m) (sym kept.3)
+    subst (λ (m : Inner). LoadsRestOf given (Err (tree.TooManyNodes at most)) before.growing (spot_of before) m) (sym kept.3)
     (none, λ limits es has. (loads limits es has).0)
 unloaded (tree.TooDeep at most) given before mid after kept (none, loads) =
-    subst (λ (m : Inner). Loads given (Err (tree.TooDeep at most)) before.growing (place_of before) m) (sym kept.3)
+    subst (λ (m : Inner). LoadsRestOf given (Err (tree.TooDeep at most)) before.growing (spot_of before) m) (sym kept.3)
     (none, λ limits es has. (loads limits es has).0)
 
 pub tells_fault : (f : TreeFault) (given : Limits) (before mid after : Inner) (c : CEvent) (s : Status)

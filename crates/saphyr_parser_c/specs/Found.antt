@@ -1,5 +1,5 @@
 -- What is found in a text, as it is handed out to C: what is left of it, and what is written of a finding.
-use Rattle.std.specs.Prelude.{◌≡◌, ℕ, ℤ, pos, ◌-◌, ◌^◌, not, List, [], ◌∷◌, ◌++◌, drop, Option, Some, None, Result, Ok, Err, string_bytes}
+use Rattle.std.specs.Prelude.{◌≡◌, ℕ, ℤ, pos, ◌-◌, ◌^◌, not, List, [], ◌∷◌, drop, Option, Some, None, Result, Ok, Err, string_bytes}
 use Rattle.std.specs.String.{string_vec}
 use Rattle.std.specs.declared.alloc.AllocError.{AllocError}
 use Rattle.yaml_check.specs.declared.arguments.Options.{Options}

@@ -63,24 +63,24 @@ EndsFrom true coming shown last = (coming.last_end ≡ end_of_last shown last) �
 
 -- Where a parser may be in the events of the whole text, if these bytes come later, and where the last event before
 -- that ends.
-abbrev pub Place : Type 1
-Place = List ℕ → EventCursor → Marker → Type 0
+abbrev pub Spot : Type 1
+Spot = List ℕ → EventCursor → Marker → Type 0
 
-abbrev pub place_in : Source → Bool → Item → Place
-place_in (source.Whole c) is_shown item later at last = ⊥
-place_in (source.Pieces coming) is_shown item later at last =
+abbrev pub spot_in : Source → Bool → Item → Spot
+spot_in (source.Whole c) is_shown item later at last = ⊥
+spot_in (source.Pieces coming) is_shown item later at last =
     IsAtFrom is_shown coming.value item later at × EndsFrom is_shown coming.value item last
 
-abbrev pub place_of : Inner → Place
-place_of inner later at last = place_in inner.source inner.shown (handed inner) later at last
+abbrev pub spot_of : Inner → Spot
+spot_of inner later at last = spot_in inner.source inner.shown (handed inner) later at last
 
 abbrev pub WantsNoMore : Source → Type 0
 WantsNoMore (source.Whole c) = Unit {0}
 WantsNoMore (source.Pieces coming) = wants_more coming.value.parser ≡ false
 
 -- the same, and no more of the text is wanted
-abbrev pub last_place_of : Inner → Place
-last_place_of inner later at last = place_of inner later at last × WantsNoMore inner.source
+abbrev pub last_spot_of : Inner → Spot
+last_spot_of inner later at last = spot_of inner later at last × WantsNoMore inner.source
 
 -- where the last of these events ends, or the one before them
 abbrev pub end_behind : List Event → Marker → Marker
@@ -88,17 +88,17 @@ end_behind [] last = last
 end_behind (e ∷ es) last = end_behind es e.1.end
 
 -- Whatever comes later, these events come next in the whole text, and the parser is behind them.
-abbrev pub Passes : List Event → Place → Place → Type 0
-Passes es before after = (later : List ℕ) (at : EventCursor) (last : Marker) → before later at last
+abbrev pub PassesThese : List Event → Spot → Spot → Type 0
+PassesThese es before after = (later : List ℕ) (at : EventCursor) (last : Marker) → before later at last
     → (behind : EventCursor) × AdvancesOver es at behind × after later behind (end_behind es last)
 
 -- the same, and nothing is left behind them
-abbrev pub PassesAll : List Event → Place → Place → Type 0
+abbrev pub PassesAll : List Event → Spot → Spot → Type 0
 PassesAll es before after = (later : List ℕ) (at : EventCursor) (last : Marker) → before later at last
     → (behind : EventCursor) × AdvancesOver es at behind × IsOver behind × after later behind (end_behind es last)
 
 -- the same, and behind them comes this fault
-abbrev pub PassesToFault : Fault → List Event → Place → Place → Type 0
+abbrev pub PassesToFault : Fault → List Event → Spot → Spot → Type 0
 PassesToFault f es before after = (later : List ℕ) (at : EventCursor) (last : Marker) → before later at last
     → (behind : EventCursor) × (end : EventCursor) × AdvancesOver es at behind × FailsWith f behind end
     × after later end (end_behind es last)
@@ -120,8 +120,8 @@ WaitsSo s place inner = WaitsIn inner.source inner.shown s place
 
 -- ## The next document of such a text
 
-abbrev pub Begun : Type 0
-Begun = std.Option (Box Grower Global)
+abbrev pub BegunTree : Type 0
+BegunTree = std.Option (Box Grower Global)
 
 -- the first of these events begins a document, or is around documents; of no events this holds
 abbrev pub BeginBetween : Type 0 → List Event → Type 0
@@ -130,22 +130,22 @@ BeginBetween OfNone (e ∷ es) = IsAroundDocuments e.0
 
 -- Of the document so far exactly these events were taken, within these limits. One that has not begun has those of the
 -- call.
-abbrev pub HasBegun : Limits → Limits → List Event → Begun → Type 0
+abbrev pub HasBegun : Limits → Limits → List Event → BegunTree → Type 0
 HasBegun given limits es None = (limits ≡ given) × (es ≡ [])
 HasBegun given limits es (Some grower) =
     HasGrownWithin limits es grower.value × EndNoDocument (happenings es) × BeginBetween ⊥ es
 
 -- More events of the document were taken, behind those before. None is lost, and none will be taken again.
-abbrev pub TakesMore : Limits → Begun → Begun → Place → Place → Type 0
+abbrev pub TakesMore : Limits → BegunTree → BegunTree → Spot → Spot → Type 0
 TakesMore given old new before after = (limits : Limits) (es : List Event) → HasBegun given limits es old
-    → (took : List Event) × Passes took before after × HasBegun limits limits (es ++ took) new
+    → (took : List Event) × PassesThese took before after × HasBegun limits limits (es ++ took) new
 
 -- A document ended with the last event that was passed, and the table is of all its events: those that were taken
 -- before, and these.
-pub record EndsDocument (limits : Limits) (es : List Event) (t : NodeTable) (before after : Place) : Type 0 where
+pub record ClosesDocument (limits : Limits) (es : List Event) (t : NodeTable) (before after : Spot) : Type 0 where
   pub took : List Event
   pub last : Event
-  pub passes : Passes (took ++ last ∷ []) before after
+  pub passes : PassesThese (took ++ last ∷ []) before after
   pub begins : BeginBetween ⊥ ((es ++ took) ++ last ∷ [])
   pub inside : EndNoDocument (happenings (es ++ took))
   pub ends : last.0 ≡ DocumentEnd
@@ -153,14 +153,14 @@ pub record EndsDocument (limits : Limits) (es : List Event) (t : NodeTable) (bef
   pub table : IsTable ((es ++ took) ++ last ∷ []) t
 
 -- no document's end was to come
-pub record EndsNoDocument (es : List Event) (before after : Place) : Type 0 where
+pub record EndsNoDocument (es : List Event) (before after : Spot) : Type 0 where
   pub took : List Event
   pub passes : PassesAll took before after
   pub begins : BeginBetween (Unit {0}) (es ++ took)
   pub inside : EndNoDocument (happenings (es ++ took))
 
 -- the parser's own fault comes before the document's end; it is the last
-pub record MeetsFault (f : Fault) (limits : Limits) (es : List Event) (before after : Place) : Type 0 where
+pub record MeetsFault (f : Fault) (limits : Limits) (es : List Event) (before after : Spot) : Type 0 where
   pub took : List Event
   pub passes : PassesToFault f took before after
   pub begins : BeginBetween (Unit {0}) (es ++ took)
@@ -168,52 +168,52 @@ pub record MeetsFault (f : Fault) (limits : Limits) (es : List Event) (before af
   pub within : StayWithin limits (happenings (es ++ took)) no_nodes
 
 -- the last event that was passed could not be taken
-pub record CannotTake (f : TreeFault) (limits : Limits) (es : List Event) (before after : Place) : Type 0 where
+pub record CannotTake (f : TreeFault) (limits : Limits) (es : List Event) (before after : Spot) : Type 0 where
   pub took : List Event
   pub event : Event
-  pub passes : Passes (took ++ event ∷ []) before after
+  pub passes : PassesThese (took ++ event ∷ []) before after
   pub begins : BeginBetween ⊥ ((es ++ took) ++ event ∷ [])
   pub inside : EndNoDocument (happenings (es ++ took))
   pub within : StayWithin limits (happenings (es ++ took)) no_nodes
   pub why : Forbids ⊥ f limits (happenings ((es ++ took) ++ event ∷ [])) event.1.start
 
 -- no document has begun, and what comes next is inside one: whatever comes later, the place stays
-pub record ComesInside (es : List Event) (before : Place) (is_shown : Bool) (item : Item) (after : Place) : Type 0 where
+pub record ComesInside (es : List Event) (before : Spot) (is_shown : Bool) (item : Item) (after : Spot) : Type 0 where
   pub none_before : es ≡ []
   pub event : Given × Span
   pub shown : is_shown ≡ true
   pub next : item ≡ Some (Ok event)
   pub inside : IsAroundDocuments (happening event.0) → ⊥
-  pub stays : Passes [] before after
+  pub stays : PassesThese [] before after
 
 -- an event could not be taken, or there was no memory for a document that begins
-abbrev pub LacksMemory : Limits → List Event → Place → Place → Type 0
+abbrev pub LacksMemory : Limits → List Event → Spot → Spot → Type 0
 LacksMemory limits es before after =
-    CannotTake tree.OutOfMemory limits es before after ⊎ ((es ≡ []) × Passes [] before after)
+    CannotTake tree.OutOfMemory limits es before after ⊎ ((es ≡ []) × PassesThese [] before after)
 
 -- what became of a document of which these events were taken before
-abbrev pub LoadsRest : Limits → List Event → Result (std.Option NodeTable) TreeFault → Place → Inner → Type 0
-LoadsRest limits es (Ok (Some t)) before after = EndsDocument limits es t before (place_of after)
-LoadsRest limits es (Ok None) before after = EndsNoDocument es before (place_of after)
-LoadsRest limits es (Err (tree.Parse f)) before after = MeetsFault f limits es before (last_place_of after)
-LoadsRest limits es (Err tree.OutOfMemory) before after = LacksMemory limits es before (place_of after)
+abbrev pub LoadsRest : Limits → List Event → Result (std.Option NodeTable) TreeFault → Spot → Inner → Type 0
+LoadsRest limits es (Ok (Some t)) before after = ClosesDocument limits es t before (spot_of after)
+LoadsRest limits es (Ok None) before after = EndsNoDocument es before (spot_of after)
+LoadsRest limits es (Err (tree.Parse f)) before after = MeetsFault f limits es before (last_spot_of after)
+LoadsRest limits es (Err tree.OutOfMemory) before after = LacksMemory limits es before (spot_of after)
 LoadsRest limits es (Err tree.NotFresh) before after =
-    ComesInside es before after.shown (handed after) (place_of after)
-LoadsRest limits es (Err f) before after = CannotTake f limits es before (place_of after)
+    ComesInside es before after.shown (handed after) (spot_of after)
+LoadsRest limits es (Err f) before after = CannotTake f limits es before (spot_of after)
 
 -- the same whichever these are, and nothing is kept of the document
-abbrev pub Loads : Limits → Result (std.Option NodeTable) TreeFault → Begun → Place → Inner → Type 0
-Loads given result old before after = (after.growing ≡ None)
+abbrev pub LoadsRestOf : Limits → Result (std.Option NodeTable) TreeFault → BegunTree → Spot → Inner → Type 0
+LoadsRestOf given result old before after = (after.growing ≡ None)
     × ((limits : Limits) (es : List Event) → HasBegun given limits es old → LoadsRest limits es result before after)
 
 -- The document isn't there yet, and what came of it is kept. Its last event ends here.
-abbrev pub WaitsForDocument : Limits → Status → Marker → Begun → Place → Inner → Type 0
+abbrev pub WaitsForDocument : Limits → Status → Marker → BegunTree → Spot → Inner → Type 0
 WaitsForDocument given s place old before after =
-    WaitsSo s place after × TakesMore given old after.growing before (place_of after)
+    WaitsSo s place after × TakesMore given old after.growing before (spot_of after)
 
 abbrev pub WritesWaited : Limits → Inner → Status → CEvent → Inner → Type 0
 WritesWaited given before s c after = (place : Marker)
-    × WaitsForDocument given s place before.growing (place_of before) after × HasFields no_fields place place c
+    × WaitsForDocument given s place before.growing (spot_of before) after × HasFields no_fields place place c
     × IsEmptyTable after.table
 
 -- the document isn't there yet, or what became of it is told
@@ -221,7 +221,7 @@ abbrev pub LoadsComing : Limits → Inner → Status → CEvent → Inner → Ty
 LoadsComing given before status.More c after = WritesWaited given before status.More c after
 LoadsComing given before status.TooMuch c after = WritesWaited given before status.TooMuch c after
 LoadsComing given before s c after = (result : Result (std.Option NodeTable) TreeFault)
-    × Loads given result before.growing (place_of before) after × WritesNext result s c after
+    × LoadsRestOf given result before.growing (spot_of before) after × WritesNext result s c after
 
 abbrev pub LoadsFromPieces : Limits → Inner → Status → CEvent → Inner → Type 0
 LoadsFromPieces limits before s c after = KeepsText before.source after.source × LoadsComing limits before s c after
@@ -229,13 +229,13 @@ LoadsFromPieces limits before s c after = KeepsText before.source after.source �
 -- ## Documents, however a text is cut
 
 -- where a parser is once these bytes came, and the end of the text or not
-abbrev pub once_came : List ℕ → Bool → Place → Place
+abbrev pub once_came : List ℕ → Bool → Spot → Spot
 once_came came false start later at last = start (came ++ later) at last
 once_came came true start later at last = start came at last
 
 -- The next document of the whole text, from where a parser was first, is this table, or none is left; and it is behind
 -- that.
-abbrev pub LoadsAsWhole : Limits → std.Option NodeTable → Place → Place → Type 0
+abbrev pub LoadsAsWhole : Limits → std.Option NodeTable → Spot → Spot → Type 0
 LoadsAsWhole limits found start after = (later : List ℕ) (at : EventCursor) (last : Marker) → start later at last
     → (behind : EventCursor) × (end : Marker) × LoadsNextTable limits (Ok found) (to_come at) (to_come behind)
     × after later behind end
@@ -269,11 +269,11 @@ IsInPieces (source.Whole c) = ⊥
 IsInPieces (source.Pieces coming) = Unit {0}
 
 -- what comes next is shown, or it waits
-abbrev pub ReadsAhead : Result (Unit {0}) Stop → Inner → Inner → Type 0
-ReadsAhead (Ok u) before after = (before.shown ≡ false → IsInPieces before.source) × (after.shown ≡ true)
+abbrev pub ShowsNext : Result (Unit {0}) Stop → Inner → Inner → Type 0
+ShowsNext (Ok u) before after = (before.shown ≡ false → IsInPieces before.source) × (after.shown ≡ true)
     × (before.shown ≡ true → after ≡ before)
-ReadsAhead (Err (stop.Wait s place)) before after = (before.shown ≡ false) × WaitsSo s place after
-ReadsAhead (Err (stop.Fault f)) before after = ⊥
+ShowsNext (Err (stop.Wait s place)) before after = (before.shown ≡ false) × WaitsSo s place after
+ShowsNext (Err (stop.Fault f)) before after = ⊥
 
 -- what is shown is an event inside a document
 abbrev pub ShowsInside : Item → Type 0
@@ -315,22 +315,22 @@ IsShownFirst e before =
 -- the next event was passed
 pub record PassesOne (before after : Inner) : Type 0 where
   pub event : Event
-  pub passes : Passes (event ∷ []) (place_of before) (place_of after)
+  pub passes : PassesThese (event ∷ []) (spot_of before) (spot_of after)
   pub first : IsShownFirst event before
 
 -- The next event was taken behind these: the last of a document or another one. Or nothing is left, it waits, or the
 -- event can't be taken.
-abbrev pub TakesNext : Limits → List Event → Result (std.Option Bool) Stop → Inner → Inner → Grower → Grower → Type 0
-TakesNext limits es (Ok None) before after old new = (one : PassesOne before after)
+abbrev pub TakesOne : Limits → List Event → Result (std.Option Bool) Stop → Inner → Inner → Grower → Grower → Type 0
+TakesOne limits es (Ok None) before after old new = (one : PassesOne before after)
     × HasGrownWithin limits (es ++ one.event ∷ []) new × (one.event.0 ≡ DocumentEnd → ⊥)
-TakesNext limits es (Ok (Some true)) before after old new = (one : PassesOne before after)
+TakesOne limits es (Ok (Some true)) before after old new = (one : PassesOne before after)
     × HasGrownWithin limits (es ++ one.event ∷ []) new × (one.event.0 ≡ DocumentEnd) × HasNoneOpen new.growth
-TakesNext limits es (Ok (Some false)) before after old new = PassesAll [] (place_of before) (place_of after)
-TakesNext limits es (Err (stop.Wait s place)) before after old new =
-    Passes [] (place_of before) (place_of after) × (new ≡ old) × (before.shown ≡ false)
-TakesNext limits es (Err (stop.Fault (tree.Parse f))) before after old new =
-    PassesToFault f [] (place_of before) (last_place_of after) × (after.shown ≡ false)
-TakesNext limits es (Err (stop.Fault f)) before after old new = (one : PassesOne before after)
+TakesOne limits es (Ok (Some false)) before after old new = PassesAll [] (spot_of before) (spot_of after)
+TakesOne limits es (Err (stop.Wait s place)) before after old new =
+    PassesThese [] (spot_of before) (spot_of after) × (new ≡ old) × (before.shown ≡ false)
+TakesOne limits es (Err (stop.Fault (tree.Parse f))) before after old new =
+    PassesToFault f [] (spot_of before) (last_spot_of after) × (after.shown ≡ false)
+TakesOne limits es (Err (stop.Fault f)) before after old new = (one : PassesOne before after)
     × Forbids ⊥ f limits (happenings (es ++ one.event ∷ [])) one.event.1.start
 
 -- where it waits, why
@@ -339,19 +339,19 @@ WaitsIf (Err (stop.Wait s place)) after = WaitsSo s place after
 WaitsIf _ after = Unit {0}
 
 -- events were taken up to the end of a document, or as many as came
-abbrev pub TakesEvents : Limits → List Event → Result Bool Stop → Place → Inner → Grower → Type 0
-TakesEvents limits es (Ok true) before after new = (took : List Event) × (last : Event)
-    × Passes (took ++ last ∷ []) before (place_of after) × EndNoDocument (happenings (es ++ took))
+abbrev pub TakesUpToEnd : Limits → List Event → Result Bool Stop → Spot → Inner → Grower → Type 0
+TakesUpToEnd limits es (Ok true) before after new = (took : List Event) × (last : Event)
+    × PassesThese (took ++ last ∷ []) before (spot_of after) × EndNoDocument (happenings (es ++ took))
     × HasGrownWithin limits ((es ++ took) ++ last ∷ []) new × (last.0 ≡ DocumentEnd) × HasNoneOpen new.growth
     × BeginBetween ⊥ ((es ++ took) ++ last ∷ [])
-TakesEvents limits es (Ok false) before after new = EndsNoDocument es before (place_of after)
-TakesEvents limits es (Err (stop.Wait s place)) before after new = (took : List Event)
-    × Passes took before (place_of after) × HasGrownWithin limits (es ++ took) new
+TakesUpToEnd limits es (Ok false) before after new = EndsNoDocument es before (spot_of after)
+TakesUpToEnd limits es (Err (stop.Wait s place)) before after new = (took : List Event)
+    × PassesThese took before (spot_of after) × HasGrownWithin limits (es ++ took) new
     × EndNoDocument (happenings (es ++ took)) × BeginBetween ⊥ (es ++ took)
-TakesEvents limits es (Err (stop.Fault (tree.Parse f))) before after new =
-    MeetsFault f limits es before (last_place_of after) × (after.shown ≡ false)
-TakesEvents limits es (Err (stop.Fault tree.NotFresh)) before after new = ⊥
-TakesEvents limits es (Err (stop.Fault f)) before after new = CannotTake f limits es before (place_of after)
+TakesUpToEnd limits es (Err (stop.Fault (tree.Parse f))) before after new =
+    MeetsFault f limits es before (last_spot_of after) × (after.shown ≡ false)
+TakesUpToEnd limits es (Err (stop.Fault tree.NotFresh)) before after new = ⊥
+TakesUpToEnd limits es (Err (stop.Fault f)) before after new = CannotTake f limits es before (spot_of after)
 
 -- behind a fault of the parser nothing is shown
 abbrev pub IsHandedOut : TreeFault → Inner → Type 0
@@ -360,9 +360,9 @@ IsHandedOut _ after = Unit {0}
 
 -- a document's table, or why there is none
 abbrev pub LoadsSo : Limits → Result (std.Option NodeTable) Stop → Inner → Inner → Type 0
-LoadsSo given (Ok found) before after = Loads given (Ok found) before.growing (place_of before) after
+LoadsSo given (Ok found) before after = LoadsRestOf given (Ok found) before.growing (spot_of before) after
 LoadsSo given (Err (stop.Fault f)) before after = (after.growing ≡ None)
     × ((limits : Limits) (es : List Event) → HasBegun given limits es before.growing
-    → LoadsRest limits es (Err f) (place_of before) after × IsHandedOut f after)
+    → LoadsRest limits es (Err f) (spot_of before) after × IsHandedOut f after)
 LoadsSo given (Err (stop.Wait s place)) before after =
-    WaitsForDocument given s place before.growing (place_of before) after
+    WaitsForDocument given s place before.growing (spot_of before) after

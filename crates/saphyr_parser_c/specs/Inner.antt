@@ -203,15 +203,15 @@ ShowsFrom (source.Pieces old) before s c after =
 abbrev pub ShowsToC : Inner → Status → CEvent → Inner → Type 0
 ShowsToC before s c after = ShowsFrom before.source before s c after × KeepsTrees before after
 
-abbrev pub AddsFrom : Source → List ℕ → Inner → Status → Inner → Type 0
-AddsFrom (source.Whole old) bytes before s after = (s ≡ status.Whole) × (after ≡ before)
-AddsFrom (source.Pieces old) bytes before s after =
+abbrev pub AddsBytesFrom : Source → List ℕ → Inner → Status → Inner → Type 0
+AddsBytesFrom (source.Whole old) bytes before s after = (s ≡ status.Whole) × (after ≡ before)
+AddsBytesFrom (source.Pieces old) bytes before s after =
     (new : Box Coming Global) × (after.source ≡ source.Pieces new) × Adds bytes old.value s new.value
     × (after ≡ record before { source = after.source })
 
 -- The next bytes of a text in pieces are added. What was shown stays to be handed out.
 abbrev pub AddsToC : List ℕ → Inner → Status → Inner → Type 0
-AddsToC bytes before s after = AddsFrom before.source bytes before s after
+AddsToC bytes before s after = AddsBytesFrom before.source bytes before s after
 
 abbrev pub IsSourceCopy : Source → Source → Type 0
 IsSourceCopy (source.Whole old) copy = copy ≡ source.Whole old

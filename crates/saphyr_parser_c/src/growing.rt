@@ -108,7 +108,7 @@ impl Inner {
     // The table that has begun, or a new one, where the parser is between documents.
     fn begin(&mut self, alloc: Global, limits: Limits) -> Result<Box<Grower, Global>, Stop>
         ensures begins { spec.Begins limits result self.old self.new }
-        ensures stays { spec.Passes [] (spec.place_of self.old) (spec.place_of self.new) }
+        ensures stays { spec.PassesThese [] (spec.spot_of self.old) (spec.spot_of self.new) }
         ensures text { spec.KeepsText self.old.source self.new.source }
         ensures table { self.new.table ≡ self.old.table }
         ensures taken { self.new.growing ≡ None }
@@ -137,7 +137,7 @@ impl Inner {
     fn take_events(&mut self, grower: &mut Grower) -> Result<bool, Stop>
         ensures takes { (most : Most) (es : List Taken) → HasGrownWithin most es grower.old
             → EndNoDocument (happenings es) → spec.AreBetween es self.old
-            → spec.TakesEvents most es result (spec.place_of self.old) self.new grower.new }
+            → spec.TakesUpToEnd most es result (spec.spot_of self.old) self.new grower.new }
         ensures waits { spec.WaitsIf result self.new }
         ensures stays { spec.StaysAbout self.old self.new }
     {
@@ -151,7 +151,7 @@ impl Inner {
     // Takes what comes next. Returns true at the end of a document, false if nothing is left, and else none.
     fn take_next(&mut self, grower: &mut Grower) -> Result<Option<bool>, Stop>
         ensures takes { (most : Most) (es : List Taken) → HasGrownWithin most es grower.old
-            → spec.TakesNext most es result self.old self.new grower.old grower.new }
+            → spec.TakesOne most es result self.old self.new grower.old grower.new }
         ensures waits { spec.WaitsIf result self.new }
         ensures stays { spec.StaysAbout self.old self.new }
         ensures less { result ≡ Ok None → spec.left_of self.new < spec.left_of self.old }
@@ -178,8 +178,8 @@ impl Inner {
 
     // Has what comes next shown, to be handed out. An error says that it waits, and why.
     fn read_ahead(&mut self) -> Result<(), Stop>
-        ensures reads { spec.ReadsAhead result self.old self.new }
-        ensures place { spec.Passes [] (spec.place_of self.old) (spec.place_of self.new) }
+        ensures reads { spec.ShowsNext result self.old self.new }
+        ensures place { spec.PassesThese [] (spec.spot_of self.old) (spec.spot_of self.new) }
         ensures stays { spec.StaysAbout self.old self.new }
     {
         if self.shown {

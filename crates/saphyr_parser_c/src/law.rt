@@ -21,32 +21,32 @@ use saphyr_parser::law::hands_out_what_comes;
 pub fn loads_pieces_as_the_whole()
     ensures loads { (limits : Limits) (es : List Event) (table : NodeTable) (came : List ℕ)
         (all : Bool) (start before after : Inner)
-        → spec.Passes es (spec.once_came came all (spec.place_of start)) (spec.place_of before)
-        → spec.EndsDocument limits es table (spec.place_of before) (spec.place_of after)
-        → spec.LoadsAsWhole limits (Some table) (spec.once_came came all (spec.place_of start))
-        (spec.place_of after) }
+        → spec.PassesThese es (spec.once_came came all (spec.spot_of start)) (spec.spot_of before)
+        → spec.ClosesDocument limits es table (spec.spot_of before) (spec.spot_of after)
+        → spec.LoadsAsWhole limits (Some table) (spec.once_came came all (spec.spot_of start))
+        (spec.spot_of after) }
     ensures none { (limits : Limits) (es : List Event) (came : List ℕ) (all : Bool)
         (start before after : Inner)
-        → spec.Passes es (spec.once_came came all (spec.place_of start)) (spec.place_of before)
-        → spec.EndsNoDocument es (spec.place_of before) (spec.place_of after)
-        → spec.LoadsAsWhole limits None (spec.once_came came all (spec.place_of start))
-        (spec.place_of after) }
+        → spec.PassesThese es (spec.once_came came all (spec.spot_of start)) (spec.spot_of before)
+        → spec.EndsNoDocument es (spec.spot_of before) (spec.spot_of after)
+        → spec.LoadsAsWhole limits None (spec.once_came came all (spec.spot_of start))
+        (spec.spot_of after) }
     ensures takes { (es took : List Event) (came : List ℕ) (all : Bool) (start before after : Inner)
-        → spec.Passes es (spec.once_came came all (spec.place_of start)) (spec.place_of before)
-        → spec.Passes took (spec.place_of before) (spec.place_of after)
-        → spec.Passes (es ++ took) (spec.once_came came all (spec.place_of start))
-        (spec.place_of after) }
+        → spec.PassesThese es (spec.once_came came all (spec.spot_of start)) (spec.spot_of before)
+        → spec.PassesThese took (spec.spot_of before) (spec.spot_of after)
+        → spec.PassesThese (es ++ took) (spec.once_came came all (spec.spot_of start))
+        (spec.spot_of after) }
     ensures peeks { (before after : Inner) (s : Status) (c : CEvent) → ShowsToC before s c after
-        → spec.Passes [] (spec.place_of before) (spec.place_of after) }
+        → spec.PassesThese [] (spec.spot_of before) (spec.spot_of after) }
     ensures adds { (es : List Event) (came bytes : List ℕ) (start before after : Inner)
         → (bytes ≡ [] → ⊥) → AddsToC bytes before Done after
-        → spec.Passes es (spec.once_came came false (spec.place_of start)) (spec.place_of before)
-        → spec.Passes es (spec.once_came (came ++ bytes) false (spec.place_of start))
-        (spec.place_of after) }
+        → spec.PassesThese es (spec.once_came came false (spec.spot_of start)) (spec.spot_of before)
+        → spec.PassesThese es (spec.once_came (came ++ bytes) false (spec.spot_of start))
+        (spec.spot_of after) }
     ensures ends { (es : List Event) (came : List ℕ) (start before after : Inner)
         → AddsToC [] before Done after
-        → spec.Passes es (spec.once_came came false (spec.place_of start)) (spec.place_of before)
-        → spec.Passes es (spec.once_came came true (spec.place_of start)) (spec.place_of after) }
+        → spec.PassesThese es (spec.once_came came false (spec.spot_of start)) (spec.spot_of before)
+        → spec.PassesThese es (spec.once_came came true (spec.spot_of start)) (spec.spot_of after) }
 {
     hands_out_what_comes();
 }

@@ -1,7 +1,7 @@
 use Rattle.std.proofs.Common.{◌≡◌, None, Ok, Some, refl, rules, subst, sym}
 use Rattle.yaml_tree.specs.Tables.{IsEmptyTable}
 use Rattle.saphyr_parser_c.specs.declared.inner.Inner.{Inner}
-use Rattle.saphyr_parser_c.specs.Growing.{KeepsText, Loads, place_of}
+use Rattle.saphyr_parser_c.specs.Growing.{KeepsText, LoadsRestOf, spot_of}
 use Rattle.saphyr_parser_c.proofs.NextDocument.{tells_fault}
 use Rattle.saphyr_parser_c.proofs.inner.Inner.load_coming.Goals as goal
 
@@ -12,8 +12,8 @@ returns-in-Ok-Some c = λ there empty.
           c.in-Ok-Some.ensures.text,
       (
         Ok (Some c.in-Ok-Some.table),
-        subst (λ (m : Inner). Loads c.args.limits (Ok (Some c.in-Ok-Some.table)) c.args.self.now.growing
-            (place_of c.args.self.now) m) (sym c.put_table.ensures.table)
+        subst (λ (m : Inner). LoadsRestOf c.args.limits (Ok (Some c.in-Ok-Some.table)) c.args.self.now.growing
+            (spot_of c.args.self.now) m) (sym c.put_table.ensures.table)
             (rw c.in-Ok-Some.field-0-is at c.in-Ok-Some.ensures.loads),
         (refl, c.put_table.ensures.empty, is),
       ),

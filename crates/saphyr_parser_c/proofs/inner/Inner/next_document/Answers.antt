@@ -5,7 +5,7 @@ use Rattle.yaml_tree.specs.declared.tally.Limits.{Limits}
 use Rattle.yaml_tree.specs.GrowerSeen.{HasNoneOpen}
 use Rattle.yaml_tree.specs.TableSeen.{HasGrownWithin}
 use Rattle.yaml_tree.specs.Tables.{Event, IsTable}
-use Rattle.saphyr_parser_c.specs.Growing.{place_of}
+use Rattle.saphyr_parser_c.specs.Growing.{spot_of}
 use Rattle.saphyr_parser_c.proofs.NextDocument.{loads_fault, loads_later, loads_none, loads_table, stays_put, text_both}
 use Rattle.saphyr_parser_c.proofs.inner.Inner.next_document.Goals as goal
 
@@ -49,7 +49,7 @@ returns-in-Err-Wait-clause-loads c =
     (λ most es h inside between.
     rw c.in-Err-Wait.field-0-is at (c.in-Err-Wait.ensures.takes most es
     (subst (HasGrownWithin most es) (sym c.deref_mut.ensures.value) h) inside between))
-    (rw c.in-Err-Wait.field-0-is at c.in-Err-Wait.ensures.waits) (stays_put (place_of c.take_events.new.self)) box refl
+    (rw c.in-Err-Wait.field-0-is at c.in-Err-Wait.ensures.waits) (stays_put (spot_of c.take_events.new.self)) box refl
     refl
 
 pub returns-in-Err-Wait-clause-text : goal.returns-in-Err-Wait-clause-text
